@@ -1,0 +1,24 @@
+// The numbers that document 01 gives a meaning, each under a name; the answer that every entry point gives; the record of a unit.
+pub mod direction;
+pub mod kind;
+pub mod limit;
+pub mod refusal;
+
+// An answer: the number of the refusal (0 for accepted), its place and its count.
+#[repr(C)]
+pub struct Answer {
+    pub place: usize,
+    pub count: usize,
+    pub number: u8,
+}
+
+// A unit: kind, set and code, 0 where they mean nothing; start and length name its octets in the string, and of an extended segment
+// its n octets.
+#[repr(C)]
+pub struct Unit {
+    pub kind: u8,
+    pub set: u8,
+    pub code: u16,
+    pub start: u32,
+    pub length: u32,
+}

@@ -1,0 +1,207 @@
+-- The laws of the table of sets. A row that the search finds has the designation's form, side and final octet (`set-named`); a set
+-- that may stand anywhere is one of the fifteen (`allowed-below`); and the code's comparisons say what the table says: where a test
+-- of a set's number is compared with the table, antt computes it for the fifteen rows (`by-rows`), and a final octet that is none of
+-- a form's finals finds no row (`ruleset finals`).
+use Prim.Native.Nat.{ℕ, zero, suc, _+_, _-_, _<_, _≤_}
+use native.Mathlib.Omega.{arith}
+use native.Mathlib.Nat.{eq-or-lt-of-le}
+use lib.Dec.{eqb, ltb}
+use borrow.Author.Tests.{eqb-true, ne-eqb, eq-eqb, le-ltb, ltb-true, ltb-false}
+use mathlib.Core.Path.{_≡_, refl, ap, _∙_, sym, subst}
+use mathlib.Core.Bool.{Bool, true, false, not, false≢true}
+use mathlib.Core.Logic.{⊎-elim}
+use mathlib.Core.List.{List, [], _∷_}
+use lib.ListN.{length, getD, List·getD-eq-default}
+use Rattle.charset.specs.Charsets.{Row}
+use Rattle.charset.specs.declared.Side.{Side}
+use Rattle.charset.specs.declared.Side.the-variants.{GL, GR}
+use Rattle.base.specs.Choice.{pick}
+use Rattle.charset.specs.Charsets.{row, rows, rowOf, mayUse, allowed, fitsOf, find, setOf, formOf}
+
+-- past the table there is no set
+row-past : (n : ℕ) → 15 ≤ n → rowOf n ≡ row 0 0 false false
+row-past n h = List·getD-eq-default rows (row 0 0 false false) h
+
+-- what a passed chain of tests says
+both-true : (a b : Bool) → pick a b false ≡ true → (a ≡ true) × (b ≡ true)
+unfolding pick
+both-true true b e = (refl, e)
+both-true false b e =
+    let z : _≡_ {A = ℕ} 0 1 = cc in
+    absurd (omega arith)
+
+-- a row that fits has the designation's form, side and final octet
+pub record Named (w : Row) (f : ℕ) (s : Side) (x : ℕ) : Type 0 where
+  pub form : w .form ≡ f
+  pub last : w .last ≡ x
+  pub side : mayUse s w ≡ true
+
+fits-all : (w : Row) (f : ℕ) (s : Side) (x : ℕ) → fitsOf w f s x ≡ true → Named w f s x
+unfolding fitsOf
+fits-all w f s x e =
+    let h = both-true (eqb (w .form) f) _ e in
+    let k = both-true (eqb (w .last) x) _ (h .1) in
+    record { form = eqb-true (w .form) f (h .0); last = eqb-true (w .last) x (k .0); side = k .1 }
+
+module _ (f : ℕ) (s : Side) (x : ℕ) (d : Row) where
+  step-from : (w : Row) (ws : List Row) (i : ℕ) (b : Bool) → fitsOf w f s x ≡ b → i ≤ find ws f s x (suc i) → i ≤ find (w ∷ ws) f s x i
+  unfolding find pick
+  step-from w ws i true e h = rw e (omega arith)
+  step-from w ws i false e h = rw e h
+
+  find-from : (ws : List Row) (i : ℕ) → i ≤ find ws f s x i
+  unfolding find
+  find-from [] i = omega arith
+  find-from (w ∷ ws) i =
+      let h = find-from ws (suc i) in
+      step-from w ws i (fitsOf w f s x) refl (omega arith)
+
+  step-fits : (w : Row) (ws : List Row) (i : ℕ) (b : Bool) → fitsOf w f s x ≡ b → (find ws f s x (suc i) < suc i + length ws → fitsOf (getD ws (find ws f s x (suc i) - suc i) d) f s x ≡ true) → find (w ∷ ws) f s x i < i + suc (length ws) → fitsOf (getD (w ∷ ws) (find (w ∷ ws) f s x i - i) d) f s x ≡ true
+  unfolding find pick
+  step-fits w ws i true e go h =
+      let z : i - i ≡ 0 = omega arith in
+      rw (e, z) e
+  step-fits w ws i false e go h =
+      let h′ : find ws f s x (suc i) < i + suc (length ws) = rw e at h in
+      let l = find-from ws (suc i) in
+      let z : find ws f s x (suc i) - i ≡ suc (find ws f s x (suc i) - suc i) = omega arith in
+      rw (e, z) (go (omega arith))
+
+  find-fits : (ws : List Row) (i : ℕ) → find ws f s x i < i + length ws → fitsOf (getD ws (find ws f s x i - i) d) f s x ≡ true
+  unfolding find
+  find-fits [] i h = absurd (omega arith)
+  find-fits (w ∷ ws) i h = step-fits w ws i (fitsOf w f s x) refl (find-fits ws (suc i)) h
+
+-- a set that a designation names
+pub set-named : (f : ℕ) (s : Side) (x : ℕ) → setOf f s x < 15 → Named (rowOf (setOf f s x)) f s x
+unfolding setOf
+set-named f s x h =
+    let z : find rows f s x 0 - 0 ≡ find rows f s x 0 = omega arith in
+    fits-all _ f s x (rw z at (find-fits f s x (row 0 0 false false) rows 0 (omega arith)))
+
+-- a set that may stand anywhere is one of the fifteen
+pub allowed-below : (d : Side) (c : ℕ) → allowed d c ≡ true → c < 15
+unfolding allowed mayUse
+allowed-below d c e = go (ltb c 15) refl
+  where
+    past : (d : Side) → mayUse d (row 0 0 false false) ≡ true → c < 15
+    past GL q = absurd (false≢true q)
+    past GR q = absurd (false≢true q)
+
+    go : (t : Bool) → ltb c 15 ≡ t → c < 15
+    go true q = ltb-true c 15 q
+    go false q = past d (subst (λ (r : Row). mayUse d r ≡ true) (List·getD-eq-default rows (row 0 0 false false) (ltb-false c 15 q)) e)
+
+-- ---- the code's comparisons
+
+-- a test of each number below m, which antt computes, holds of each
+unfoldable every : (ℕ → Bool) → ℕ → Bool
+every f zero = true
+every f (suc m) = pick (f m) (every f m) false
+
+below : (f : ℕ → Bool) (m : ℕ) → every f m ≡ true → (n : ℕ) → n < m → f n ≡ true
+unfolding every
+below f zero t n h = absurd (omega arith)
+below f (suc m) t n h =
+    let e = both-true (f m) (every f m) t in
+    let l : n ≤ m = omega arith in
+    ⊎-elim (λ (q : n ≡ m). rw q (e .0)) (λ (q : n < m). below f m (e .1) n q) (eq-or-lt-of-le l)
+
+-- a test that holds of the fifteen, and past them, holds of each number
+by-rows : (f : ℕ → Bool) → every f 15 ≡ true → ((n : ℕ) → 15 ≤ n → f n ≡ true) → (n : ℕ) → f n ≡ true
+by-rows f t past n = go (ltb n 15) refl
+  where
+    go : (b : Bool) → ltb n 15 ≡ b → f n ≡ true
+    go true e = below f 15 t n (ltb-true n 15 e)
+    go false e = past n (ltb-false n 15 e)
+
+-- the same test of two answers
+same : Bool → Bool → Bool
+same a b = pick a b (not b)
+
+same-is : (a b : Bool) → same a b ≡ true → a ≡ b
+unfolding same pick
+same-is true true e = refl
+same-is true false e = absurd (false≢true e)
+same-is false true e = absurd (false≢true e)
+same-is false false e = refl
+
+unfoldable pub formRule : ℕ → ℕ
+formRule n = pick (ltb n 3) 1 (pick (ltb n 12) 2 (pick (ltb n 15) 3 0))
+
+unfoldable pub leftRule : ℕ → Bool
+leftRule n = pick (eqb n 0) true (pick (eqb n 2) true (pick (ltb n 12) false (ltb n 15)))
+
+unfoldable pub rightRule : ℕ → Bool
+rightRule n = pick (eqb n 0) false (pick (eqb n 2) false (ltb n 15))
+
+form-test : ℕ → Bool
+form-test n = eqb (formRule n) (formOf n)
+
+form-past : (n : ℕ) → 15 ≤ n → form-test n ≡ true
+unfolding form-test formRule formOf pick
+form-past n h = rw (row-past n h, le-ltb n 3 (omega arith), le-ltb n 12 (omega arith), le-ltb n 15 h)
+
+pub form-rule : (n : ℕ) → formRule n ≡ formOf n
+unfolding every form-test formRule formOf pick
+form-rule n = eqb-true _ _ (by-rows form-test refl form-past n)
+
+side-test : Side → (ℕ → Bool) → ℕ → Bool
+side-test d f n = same (f n) (allowed d n)
+
+left-past : (n : ℕ) → 15 ≤ n → side-test GL leftRule n ≡ true
+unfolding side-test same leftRule allowed mayUse pick
+left-past n h = rw (row-past n h, ne-eqb n 0 (λ e. omega arith), ne-eqb n 2 (λ e. omega arith), le-ltb n 12 (omega arith), le-ltb n 15 h)
+
+right-past : (n : ℕ) → 15 ≤ n → side-test GR rightRule n ≡ true
+unfolding side-test same rightRule allowed mayUse pick
+right-past n h = rw (row-past n h, ne-eqb n 0 (λ e. omega arith), ne-eqb n 2 (λ e. omega arith), le-ltb n 15 h)
+
+pub left-rule : (n : ℕ) → leftRule n ≡ allowed GL n
+unfolding every side-test same leftRule allowed mayUse pick
+left-rule n = same-is _ _ (by-rows (side-test GL leftRule) refl left-past n)
+
+pub right-rule : (n : ℕ) → rightRule n ≡ allowed GR n
+unfolding every side-test same rightRule allowed mayUse pick
+right-rule n = same-is _ _ (by-rows (side-test GR rightRule) refl right-past n)
+
+-- a final octet that is known
+pub finds : (n f x f′ x′ : ℕ) (d : Side) → f ≡ f′ → x ≡ x′ → n ≡ setOf f′ d x′ → n ≡ setOf f d x
+finds n f x f′ x′ d a b h = rw (a, b) h
+
+-- a form's final octets, and none of them
+dead : (a : Bool) → pick a false false ≡ false
+unfolding pick
+dead true = refl
+dead false = refl
+
+other : (a x : ℕ) → (x ≡ a → ⊥) → eqb a x ≡ false
+other a x h = ne-eqb a x (λ e. h (sym e))
+
+module _ (f x : ℕ) where
+  pub none-left-94 : f ≡ 1 → (x ≡ 0x42 → ⊥) → (x ≡ 0x4A → ⊥) → 15 ≡ setOf f GL x
+  unfolding setOf find fitsOf mayUse pick
+  none-left-94 e a b = rw e (simp (other 0x42 x a, other 0x4A x b, dead))
+
+  pub none-right-94 : f ≡ 1 → (x ≡ 0x49 → ⊥) → 15 ≡ setOf f GR x
+  unfolding setOf find fitsOf mayUse pick
+  none-right-94 e a = rw e (simp (other 0x49 x a, dead))
+
+  pub none-right-96 : f ≡ 2 → (x ≡ 0x41 → ⊥) → (x ≡ 0x42 → ⊥) → (x ≡ 0x43 → ⊥) → (x ≡ 0x44 → ⊥) → (x ≡ 0x46 → ⊥) → (x ≡ 0x47 → ⊥) → (x ≡ 0x48 → ⊥) → (x ≡ 0x4C → ⊥) → (x ≡ 0x4D → ⊥) → 15 ≡ setOf f GR x
+  unfolding setOf find fitsOf mayUse pick
+  none-right-96 e a b c d g h i j k =
+      rw e (simp (other 0x41 x a, other 0x42 x b, other 0x43 x c, other 0x44 x d, other 0x46 x g, other 0x47 x h, other 0x48 x i, other 0x4C x j, other 0x4D x k))
+
+  pub none-94x94 : (d : Side) → f ≡ 3 → (x ≡ 0x41 → ⊥) → (x ≡ 0x42 → ⊥) → (x ≡ 0x43 → ⊥) → 15 ≡ setOf f d x
+  unfolding setOf find fitsOf pick
+  none-94x94 d e a b c = rw e (simp (other 0x41 x a, other 0x42 x b, other 0x43 x c))
+
+  pub none-left : (f ≡ 1 → ⊥) → (f ≡ 3 → ⊥) → 15 ≡ setOf f GL x
+  unfolding setOf find fitsOf mayUse pick
+  none-left a b = simp (other 1 f a, other 3 f b, dead)
+
+  pub none-right : (f ≡ 1 → ⊥) → (f ≡ 2 → ⊥) → (f ≡ 3 → ⊥) → 15 ≡ setOf f GR x
+  unfolding setOf find fitsOf mayUse pick
+  none-right a b c = simp (other 1 f a, other 2 f b, other 3 f c)
+
+pub ruleset finals = (none-left-94, none-right-94, none-right-96, none-94x94, none-left, none-right, finds)

@@ -1,0 +1,23 @@
+-- Direction marks: "`9B 31 5D` begins left-to-right, `9B 32 5D` right-to-left, `9B 5D` reverts."
+use Prim.Native.Nat.{ℕ}
+use mathlib.Core.List.{List}
+use lib.Dec.{eqb}
+use Rattle.base.specs.Choice.{pick}
+use Rattle.base.specs.Refusal as refusal
+use Rattle.base.specs.Kind as kind
+use Rattle.state.specs.Elements.{unit, refused, next}
+use Rattle.state.specs.declared.State.{State}
+use Rattle.state.specs.declared.element.Element.{Element}
+
+-- after 9B 31 and 9B 32
+unfoldable pub beginOf : ℕ → List ℕ → State → Element
+beginOf k t st = next t (λ b _. pick (eqb b 0x5D) (unit k 0 0 3 st) (refused refusal.unknown))
+
+-- after 9B: "Any other octet in an escape or CSI sequence: 4."
+unfoldable pub csiOf : List ℕ → State → Element
+csiOf t st =
+    next t
+    (λ b u.
+    pick (eqb b 0x5D) (unit kind.revert 0 0 2 st)
+    (pick (eqb b 0x31) (beginOf kind.left-to-right u st)
+    (pick (eqb b 0x32) (beginOf kind.right-to-left u st) (refused refusal.unknown))))

@@ -1,0 +1,207 @@
+-- An element has one octet at least, and no more than are there: shown for each definition from the leaves up, with `n` the octets
+-- that the element may have.
+use Prim.Native.Nat.{ℕ, suc, _+_, _*_, _-_, _%_, _<_, _≤_, zero-le}
+use native.Mathlib.Omega.{arith}
+use mathlib.Core.Path.{_≡_, refl, sym}
+use mathlib.Core.Bool.{Bool, true, false}
+use mathlib.Core.List.{List, [], _∷_}
+use lib.Dec.{eqb, leb}
+use lib.ListN.{length, take}
+use borrow.Author.Tests.{leb-true}
+use Rattle.base.specs.Choice.{pick}
+use Rattle.base.specs.Refusal as refusal
+use Rattle.charset.specs.Charsets.{setOf}
+use Rattle.charset.specs.declared.Side.{Side}
+use Rattle.charset.specs.declared.Side.the-variants.{GL, GR}
+use Rattle.state.specs.Directions.{stepOf}
+use Rattle.state.specs.declared.directions.Step.{Step}
+use Rattle.state.specs.declared.directions.Step.the-variants.{Goes, Stops}
+use Rattle.state.specs.Elements.{part, refused, next}
+use Rattle.text.specs.Text.{oneOctetOf, secondOctetOf, characterOf, textOf}
+use Rattle.control.specs.Escape.{intermediatesOf, designatesOf, designationOf, multiOctetOf, escapeOf}
+use Rattle.segment.specs.Segment.{segmentPart, nameOf, contentOf, bodyOf, lengthsOf, extendedOf}
+use Rattle.control.specs.Mark.{beginOf, csiOf}
+use Rattle.element.specs.Element.{shapeOf, steppedOf, directedOf, elementOf}
+use Rattle.state.specs.declared.State.{State}
+use Rattle.state.specs.declared.element.Part.{Part}
+use Rattle.state.specs.declared.element.Element.{Element}
+use Rattle.state.specs.declared.element.Element.the-variants.{End, Refused, Silent, Found}
+use Rattle.segment.specs.declared.Name.{Name}
+use Rattle.segment.specs.declared.Name.the-variants.{Ends, Bad}
+
+-- an element of n octets: of at least one and at most n of them, and the end only where n is 0
+pub data Sized (n : ℕ) : Element → Type 0 where
+  nothing : n ≡ 0 → Sized n End
+  short : {r o : ℕ} → o ≤ n → Sized n (Refused r o)
+  silent : {k : ℕ} {st : State} → 1 ≤ k → k ≤ n → Sized n (Silent k st)
+  found : {p : Part} {st : State} → 1 ≤ p .skip + p .octets → p .skip + p .octets ≤ n → Sized n (Found p st)
+
+pub of-end : {n : ℕ} → Sized n End → n ≡ 0
+of-end (nothing h) = h
+
+pub of-refused : {n r o : ℕ} → Sized n (Refused r o) → o ≤ n
+of-refused (short h) = h
+
+pub of-silent : {n k : ℕ} {st : State} → Sized n (Silent k st) → (1 ≤ k) × (k ≤ n)
+of-silent (silent h k) = (h, k)
+
+pub of-found : {n : ℕ} {p : Part} {st : State} → Sized n (Found p st) → (1 ≤ p .skip + p .octets) × (p .skip + p .octets ≤ n)
+of-found (found h k) = (h, k)
+
+module _ (n : ℕ) where
+  either : (t : Bool) (x y : Element) → Sized n x → Sized n y → Sized n (pick t x y)
+  unfolding pick
+  either true x y h k = h
+  either false x y h k = k
+
+  -- of the next octet
+  onward : (t : List ℕ) (f : ℕ → List ℕ → Element) → ((b : ℕ) (u : List ℕ) → length t ≡ suc (length u) → Sized n (f b u)) → Sized n (next t f)
+  unfolding next
+  onward [] f h = short zero-le
+  onward (b ∷ u) f h = h b u refl
+
+  no : {r : ℕ} → Sized n (refused r)
+  no = short zero-le
+
+  unit : (kind set code octets : ℕ) (x : Bool) (st : State) → 1 ≤ octets → octets ≤ n → Sized n (Found (part kind set code 0 octets x) st)
+  unit kind set code octets x st h k = found {p = part kind set code 0 octets x} (omega arith) (omega arith)
+
+  second : (set b : ℕ) (t : List ℕ) (st : State) → 1 + length t ≤ n → Sized n (secondOctetOf set b t st)
+  unfolding secondOctetOf
+  second set b t st h =
+      onward t _
+      (λ d u e. either _ _ _ (either _ _ _ (unit 0 set _ 2 _ st (omega arith) (omega arith)) no) no)
+
+  character : (set b : ℕ) (t : List ℕ) (st : State) → 1 + length t ≤ n → Sized n (characterOf set b t st)
+  unfolding characterOf
+  character set b t st h =
+      let o : Sized n (oneOctetOf set b st) = unit 0 set _ 1 _ st (omega arith) (omega arith) in
+      either _ _ _ o (either _ _ _ (either _ _ _ (second set b t st h) o) no)
+
+  text : (b : ℕ) (t : List ℕ) (st : State) → 1 + length t ≤ n → Sized n (textOf b t st)
+  unfolding textOf
+  text b t st h =
+      either _ _ _ (either _ _ _ no (unit 1 0 0 1 _ st (omega arith) (omega arith)))
+      (either _ _ _ (character (st .sets .gl) b t st h) (character (st .sets .gr) b t st h))
+
+  intermediates : (t : List ℕ) → Sized n (intermediatesOf t)
+  unfolding intermediatesOf
+  intermediates [] = short zero-le
+  intermediates (b ∷ t) = either _ _ _ no (either _ _ _ (intermediates t) (either _ _ _ no (either _ _ _ no no)))
+
+  placed-by : (e : Bool) (st : State) → pick e 4 3 ≤ n → Sized n (pick e (Silent 4 st) (Silent 3 st))
+  unfolding pick
+  placed-by true st h = silent {k = 4} (omega arith) h
+  placed-by false st h = silent {k = 3} (omega arith) h
+
+  placed : (form : ℕ) (side : Side) (set : ℕ) (st : State) → pick (eqb form 3) 4 3 ≤ n → Sized n (designatesOf form side set st)
+  unfolding designatesOf
+  placed form side set st h = either _ _ _ (placed-by (eqb form 3) _ h) no
+
+  four : 4 ≤ n → pick (eqb 3 3) 4 3 ≤ n
+  unfolding pick
+  four h = h
+
+  three : 3 ≤ n → (pick (eqb 1 3) 4 3 ≤ n) × (pick (eqb 2 3) 4 3 ≤ n)
+  unfolding pick
+  three h = (h, h)
+
+  designation : (form : ℕ) (side : Side) (t : List ℕ) (st : State) → (1 ≤ length t → pick (eqb form 3) 4 3 ≤ n) → Sized n (designationOf form side t st)
+  unfolding designationOf
+  designation form side t st h =
+      onward t _
+      (λ b u e.
+      either _ _ _ no
+      (either _ _ _ (intermediates u)
+      (either _ _ _ no (either _ _ _ (placed form side (setOf form side b) st (h (omega arith))) no))))
+
+  multi-octet : (t : List ℕ) (st : State) → 2 + length t ≤ n → Sized n (multiOctetOf t st)
+  unfolding multiOctetOf
+  multi-octet t st h =
+      onward t _
+      (λ b u e.
+      either _ _ _ (designation 3 GL u st (λ k. four (omega arith)))
+      (either _ _ _ (designation 3 GR u st (λ k. four (omega arith))) no))
+
+  content : (d m : ℕ) (k : Name) (st : State) → 6 + m ≤ n → Sized n (contentOf d m k st)
+  unfolding contentOf
+  content d m (Ends k) st h = either _ _ _ (either _ _ _ (found {p = segmentPart d m (m - k - 1)} (omega arith) h) no) no
+  content d m (Bad k) st h = no
+
+  body-by : (e : Bool) (x : Element) → (e ≡ true → Sized n x) → Sized n (pick e x (refused refusal.cut))
+  unfolding pick
+  body-by true x h = h refl
+  body-by false x h = no
+
+  body : (d m : ℕ) (t : List ℕ) (st : State) → 6 + length t ≤ n → Sized n (bodyOf d m t st)
+  unfolding bodyOf
+  body d m t st h =
+      body-by (leb m (length t)) _
+      (λ e. let k : m ≤ length t = leb-true m (length t) e in content d m (nameOf (take m t) 0) st (omega arith))
+
+  lengths : (d : ℕ) (t : List ℕ) (st : State) → 4 + length t ≤ n → Sized n (lengthsOf d t st)
+  unfolding lengthsOf
+  lengths d t st h =
+      onward t _
+      (λ m u e. either _ _ _ no (onward u _ (λ l v k. either _ _ _ no (body d _ v st (omega arith)))))
+
+  extended : (t : List ℕ) (st : State) → 2 + length t ≤ n → Sized n (extendedOf t st)
+  unfolding extendedOf
+  extended t st h =
+      onward t _
+      (λ b u e.
+      either _ _ _
+      (onward u _ (λ d v k. either _ _ _ no (either _ _ _ (lengths d v st (omega arith)) no)))
+      no)
+
+  escape : (t : List ℕ) (st : State) → 1 + length t ≤ n → Sized n (escapeOf t st)
+  unfolding escapeOf
+  escape t st h =
+      onward t _
+      (λ b u e.
+      either _ _ _ (designation 1 GL u st (λ k. three (omega arith) .0))
+      (either _ _ _ (designation 1 GR u st (λ k. three (omega arith) .0))
+      (either _ _ _ (designation 2 GR u st (λ k. three (omega arith) .1))
+      (either _ _ _ (multi-octet u st (omega arith))
+      (either _ _ _ (extended u st (omega arith)) (either _ _ _ no no))))))
+
+  begin : (kind : ℕ) (t : List ℕ) (st : State) → 2 + length t ≤ n → Sized n (beginOf kind t st)
+  unfolding beginOf
+  begin kind t st h =
+      onward t _ (λ b u e. either _ _ _ (unit kind 0 0 3 _ st (omega arith) (omega arith)) no)
+
+  csi : (t : List ℕ) (st : State) → 1 + length t ≤ n → Sized n (csiOf t st)
+  unfolding csiOf
+  csi t st h =
+      onward t _
+      (λ b u e.
+      either _ _ _ (unit 6 0 0 2 _ st (omega arith) (omega arith))
+      (either _ _ _ (begin 4 u st (omega arith)) (either _ _ _ (begin 5 u st (omega arith)) no)))
+
+  shape : (t : List ℕ) (st : State) → length t ≡ n → Sized n (shapeOf t st)
+  unfolding shapeOf
+  shape [] st h = nothing (sym h)
+  shape (b ∷ t) st h =
+      let g : 1 + length t ≤ n = omega arith in
+      either _ _ _ (escape t st g)
+      (either _ _ _ (csi t st g)
+      (either _ _ _ (unit 2 0 0 1 _ st (omega arith) (omega arith))
+      (either _ _ _ (unit 3 0 0 1 _ st (omega arith) (omega arith))
+      (either _ _ _ no
+      (either _ _ _ no (either _ _ _ (text b t st g) (either _ _ _ no (text b t st g))))))))
+
+  -- the direction rule changes the state alone
+  stepped : (p : Part) (st : State) (x : Step) → Sized n (Found p st) → Sized n (steppedOf p (st .sets) x)
+  unfolding steppedOf
+  stepped p st (Goes d) (found h k) = found h k
+  stepped p st (Stops r) h = no
+
+  directed : (e : Element) → Sized n e → Sized n (directedOf e)
+  unfolding directedOf
+  directed End h = h
+  directed (Refused r o) h = h
+  directed (Silent k st) h = h
+  directed (Found p st) h = stepped p st (stepOf (p .text) (p .kind) (st .directions)) h
+
+pub element-size : (t : List ℕ) (st : State) → Sized (length t) (elementOf t st)
+element-size t st = directed (length t) (shapeOf t st) (shape (length t) t st refl)

@@ -1,0 +1,293 @@
+-- Each element of the grammar is one that the reader's definition takes.
+use Prim.Native.Nat.{ℕ, zero, suc, _+_, _*_, _-_, _/_, _%_, _≤_, _<_}
+use native.Mathlib.Omega.{arith}
+use native.Mathlib.Nat.{not-suc-le-zero, le-of-suc-le-suc}
+use mathlib.Core.Path.{_≡_, refl, sym, ap, _∙_, subst}
+use mathlib.Core.Bool.{Bool, true, false, cond, _&&_, false≢true, true≢false}
+use mathlib.Core.List.{List, [], _∷_, _++_}
+use lib.Dec.{eqb, leb, ltb}
+use lib.ListN.{length, length-append}
+use lib.Seq.{take-append-seam}
+use borrow.Author.Tests.{eqb-true, leb-true, lt-ltb, le-ltb, le-leb, ne-eqb, eq-eqb}
+use Rattle.base.specs.Choice.{pick}
+use Rattle.charset.specs.declared.Side.{Side}
+use Rattle.charset.specs.declared.Side.the-variants.{GL, GR}
+use Rattle.charset.specs.Charsets.{mayUse, allowed, formOf, fitsOf, find, setOf}
+use Rattle.charset.proofs.Laws.{allowed-below}
+use Rattle.state.specs.State.{on, get, designatedOf}
+use Rattle.state.specs.Elements.{part, next}
+use Rattle.text.specs.Text.{graphicOf, secondOctetOf, characterOf, textOf}
+use Rattle.control.specs.Escape.{designatesOf, designationOf, multiOctetOf, escapeOf}
+use Rattle.segment.specs.Segment.{segmentPart, bodyOf, lengthsOf, extendedOf}
+use Rattle.control.specs.Mark.{beginOf, csiOf}
+use Rattle.element.specs.Element.{shapeOf}
+use Rattle.state.specs.declared.State.{State}
+use Rattle.state.specs.declared.element.Part.{Part}
+use Rattle.state.specs.declared.element.Element.the-variants.{Silent, Found}
+use Rattle.grammar.specs.Units.{TextUnit, char, space, tab, newline, ltr, rtl, revert, ext, kindOf, textOctets, counts, unitOf, wide, top, shown, octets, designation, codeUsed, segment, good}
+use Rattle.grammar.specs.Grammar.{Shows}
+use Rattle.grammar.specs.Reading.{unitAt}
+use Rattle.grammar.proofs.Segment.{content}
+use Rattle.grammar.proofs.Sound.{Legal, graphic-low}
+
+pub and-left : (a b : Bool) → (a && b) ≡ true → a ≡ true
+and-left true b e = refl
+and-left false b e = e
+
+pub and-right : (a b : Bool) → (a && b) ≡ true → b ≡ true
+and-right true b e = e
+and-right false b e = absurd (false≢true e)
+
+-- a rule of the first n numbers, one by one
+abbrev Each : ℕ → (ℕ → Type 0) → Type 0
+Each zero P = Unit {0}
+Each (suc n) P = P 0 × Each n (λ c. P (suc c))
+
+infixr 20 _&_
+_&_ : {A B : Type 0} → A → B → A × B
+_&_ a b = (a, b)
+
+off : {A : Type 0} → false ≡ true → A
+off e = absurd (false≢true e)
+
+each : (n : ℕ) (P : ℕ → Type 0) → Each n P → (c : ℕ) → c < n → P c
+each zero P a c h = absurd (not-suc-le-zero h)
+each (suc n) P a zero h = a .0
+each (suc n) P a (suc c) h = each n (λ m. P (suc m)) (a .1) c (le-of-suc-le-suc h)
+
+-- no set of 96 stands in GL
+left-form : (c : ℕ) → allowed GL c ≡ true → eqb (formOf c) 2 ≡ false
+unfolding allowed mayUse formOf
+left-form c a =
+    each 15 (λ m. allowed GL m ≡ true → eqb (formOf m) 2 ≡ false)
+    ((λ _. refl) & (λ _. refl) & (λ _. refl) & off & off & off & off & off & off & off & off & off & (λ _. refl) & (λ _. refl) & (λ _. refl) & tt) c
+    (allowed-below GL c a) a
+
+module _ (st : State) where
+  -- ---- designations
+
+  abbrev Starts : List ℕ → Side → ℕ → Type 0
+  Starts t d c = allowed d c ≡ true → shapeOf (designation (on d c) ++ t) st ≡ Silent (length (designation (on d c))) (designatedOf d c st)
+
+  starts-at : (t : List ℕ) (d : Side) → Each 15 (Starts t d)
+  unfolding allowed mayUse formOf fitsOf find setOf designation shapeOf escapeOf multiOctetOf designationOf designatesOf next pick
+  starts-at t GL = (λ _. refl) & off & (λ _. refl) & off & off & off & off & off & off & off & off & off & (λ _. refl) & (λ _. refl) & (λ _. refl) & tt
+  starts-at t GR =
+      off & (λ _. refl) & off & (λ _. refl) & (λ _. refl) & (λ _. refl) & (λ _. refl) & (λ _. refl) & (λ _. refl) & (λ _. refl) & (λ _. refl) & (λ _. refl)
+      & (λ _. refl) & (λ _. refl) & (λ _. refl) & tt
+
+  pub starts-designation : (d : Side) (c : ℕ) (t : List ℕ) → Starts t d c
+  starts-designation d c t a = each 15 (Starts t d) (starts-at t d) c (allowed-below d c a) a
+
+  -- ---- characters
+
+  shape-left : (b : ℕ) (t : List ℕ) → 0x21 ≤ b → b < 0x7F → shapeOf (b ∷ t) st ≡ characterOf (st .sets .gl) b t st
+  unfolding shapeOf textOf pick
+  shape-left b t h k =
+      rw (
+        ne-eqb b 0x1B (λ e. omega arith),
+        ne-eqb b 0x9B (λ e. omega arith),
+        ne-eqb b 0x09 (λ e. omega arith),
+        ne-eqb b 0x0A (λ e. omega arith),
+        le-ltb b 0x20 (omega arith),
+        ne-eqb b 0x7F (λ e. omega arith),
+        lt-ltb b 0x80 (omega arith),
+        ne-eqb b 0x20 (λ e. omega arith),
+      )
+
+  shape-right : (b : ℕ) (t : List ℕ) → 0xA0 ≤ b → shapeOf (b ∷ t) st ≡ characterOf (st .sets .gr) b t st
+  unfolding shapeOf textOf pick
+  shape-right b t h =
+      rw (
+        ne-eqb b 0x1B (λ e. omega arith),
+        ne-eqb b 0x9B (λ e. omega arith),
+        ne-eqb b 0x09 (λ e. omega arith),
+        ne-eqb b 0x0A (λ e. omega arith),
+        le-ltb b 0x20 (omega arith),
+        ne-eqb b 0x7F (λ e. omega arith),
+        le-ltb b 0x80 (omega arith),
+        le-ltb b 0xA0 h,
+        ne-eqb b 0x20 (λ e. omega arith),
+      )
+
+  -- the first octet on a side; a GL octet is no 20 or 7F
+  first-octet : (l : Legal (st .sets)) (d : Side) (c k : ℕ) (t : List ℕ) → get d (st .sets) ≡ c → 0x20 ≤ k → k ≤ 0x7F → (eqb (formOf c) 2 ≡ false → (0x21 ≤ k) × (k ≤ 0x7E))
+      → shapeOf ((top d + k) ∷ t) st ≡ characterOf c (top d + k) t st
+  first-octet l GL c k t e h j r =
+      let g = r (left-form c (subst (λ (m : ℕ). allowed GL m ≡ true) e (l .left))) in
+      shape-left (0 + k) t (omega arith) (omega arith) ∙ ap (λ (m : ℕ). characterOf m (0 + k) t st) e
+  first-octet l GR c k t e h j r = shape-right (128 + k) t (omega arith) ∙ ap (λ (m : ℕ). characterOf m (128 + k) t st) e
+
+  abbrev charPart : ℕ → ℕ → Part
+  charPart c k = part 0 c k 0 (cond (wide c) 2 1) true
+
+  top-mod : (d : Side) (k : ℕ) → k ≤ 0x7F → (top d + k) % 128 ≡ k
+  top-mod GL k h = omega arith
+  top-mod GR k h = omega arith
+
+  top-div : (d : Side) (j k : ℕ) → j ≤ 0x7F → k ≤ 0x7F → (top d + j) / 128 ≡ (top d + k) / 128
+  top-div GL j k h i = omega arith
+  top-div GR j k h i = omega arith
+
+  starts-char : (l : Legal (st .sets)) (d : Side) (c k : ℕ) (t : List ℕ) → codeUsed (formOf c) k ≡ true → get d (st .sets) ≡ c
+      → shapeOf (octets d (char c k) ++ t) st ≡ Found (charPart c k) st
+  unfolding octets wide codeUsed characterOf secondOctetOf next pick
+  starts-char l d c k t u e = go (eqb (formOf c) 3) (eqb (formOf c) 2) refl refl u
+    where
+      go : (x y : Bool) → eqb (formOf c) 3 ≡ x → eqb (formOf c) 2 ≡ y
+          → cond x (graphicOf (k / 256) && graphicOf (k % 256)) (cond y (leb 0x20 k && leb k 0x7F) (graphicOf k)) ≡ true
+          → shapeOf (shown x (top d) k ++ t) st ≡ Found (part 0 c k 0 (cond x 2 1) true) st
+      go true true p q u = absurd (let z = eqb-true (formOf c) 3 p in let w = eqb-true (formOf c) 2 q in omega arith)
+      go true false p q u =
+          let g = and-left (graphicOf (k / 256)) (graphicOf (k % 256)) u in
+          let h = and-right (graphicOf (k / 256)) (graphicOf (k % 256)) u in
+          let a = graphic-low (k / 256) g in
+          let b = graphic-low (k % 256) h in
+          let m : (top d + k / 256) % 128 ≡ k / 256 = top-mod d (k / 256) (omega arith) in
+          let n : (top d + k % 256) % 128 ≡ k % 256 = top-mod d (k % 256) (omega arith) in
+          let z : k / 256 * 256 + k % 256 ≡ k = omega arith in
+          first-octet l d c (k / 256) ((top d + k % 256) ∷ t) e (omega arith) (omega arith) (λ _. a)
+          ∙ rw (q, m, n, g, h, p, eq-eqb ((top d + k % 256) / 128) ((top d + k / 256) / 128) (top-div d (k % 256) (k / 256) (omega arith) (omega arith)))
+          (ap (λ (j : ℕ). Found (part 0 c j 0 2 true) st) z)
+      go false true p q u =
+          let a = leb-true 0x20 k (and-left (leb 0x20 k) (leb k 0x7F) u) in
+          let b = leb-true k 0x7F (and-right (leb 0x20 k) (leb k 0x7F) u) in
+          first-octet l d c k t e a b (λ r. absurd (true≢false (sym q ∙ r)))
+          ∙ rw (q, top-mod d k b)
+      go false false p q u =
+          let a = graphic-low k u in
+          first-octet l d c k t e (omega arith) (omega arith) (λ _. a)
+          ∙ rw (q, top-mod d k (omega arith), u, p)
+
+  -- ---- extended segments
+
+  starts-ext : (e : ℕ) (xs t : List ℕ) → good (ext e xs) ≡ true → shapeOf (octets GL (ext e xs) ++ t) st ≡ Found (segmentPart e (length xs) (textOctets xs)) st
+  unfolding octets good shapeOf escapeOf extendedOf lengthsOf bodyOf next pick
+  starts-ext e xs t g =
+      rw (
+        le-ltb e 0x30 g₁,
+        lt-ltb e 0x35 (omega (arith, g₂)),
+        le-ltb (128 + length xs / 128) 0x80 (omega arith),
+        le-ltb (128 + length xs % 128) 0x80 (omega arith),
+        n,
+        le-leb (length xs) (length (xs ++ t)) (omega (arith, length-append xs t)),
+        take-append-seam xs t,
+        content e (length xs) st xs 0 (let z : length xs ≡ 0 + length xs = omega arith in z),
+        g₄,
+      )
+    where
+      h₃ : (leb 0x30 e && leb e 0x34 && leb (length xs) 16383) ≡ true
+      h₃ = and-left (leb 0x30 e && leb e 0x34 && leb (length xs) 16383) (segment e 0 xs) g
+
+      h₂ : (leb 0x30 e && leb e 0x34) ≡ true
+      h₂ = and-left (leb 0x30 e && leb e 0x34) (leb (length xs) 16383) h₃
+
+      g₁ : 0x30 ≤ e
+      g₁ = leb-true 0x30 e (and-left (leb 0x30 e) (leb e 0x34) h₂)
+
+      g₂ : e ≤ 0x34
+      g₂ = leb-true e 0x34 (and-right (leb 0x30 e) (leb e 0x34) h₂)
+
+      g₄ : segment e 0 xs ≡ true
+      g₄ = and-right (leb 0x30 e && leb e 0x34 && leb (length xs) 16383) (segment e 0 xs) g
+
+      n : (128 + length xs / 128 - 128) * 128 + (128 + length xs % 128 - 128) ≡ length xs
+      n = omega arith
+
+-- ---- the part of a unit
+
+abbrev setIn : TextUnit → ℕ
+setIn (char c k) = c
+setIn space = 0
+setIn tab = 0
+setIn newline = 0
+setIn ltr = 0
+setIn rtl = 0
+setIn revert = 0
+setIn (ext e xs) = 0
+
+abbrev codeIn : TextUnit → ℕ
+codeIn (char c k) = k
+codeIn space = 0
+codeIn tab = 0
+codeIn newline = 0
+codeIn ltr = 0
+codeIn rtl = 0
+codeIn revert = 0
+codeIn (ext e xs) = e
+
+abbrev skipIn : TextUnit → ℕ
+skipIn (char c k) = 0
+skipIn space = 0
+skipIn tab = 0
+skipIn newline = 0
+skipIn ltr = 0
+skipIn rtl = 0
+skipIn revert = 0
+skipIn (ext e xs) = 6
+
+abbrev ownIn : TextUnit → ℕ
+ownIn (char c k) = cond (wide c) 2 1
+ownIn space = 1
+ownIn tab = 1
+ownIn newline = 1
+ownIn ltr = 3
+ownIn rtl = 3
+ownIn revert = 2
+ownIn (ext e xs) = length xs
+
+abbrev pub partOf : TextUnit → Part
+partOf u = part (kindOf u) (setIn u) (codeIn u) (skipIn u) (ownIn u) (counts u)
+
+pub starts-unit : (st : State) (l : Legal (st .sets)) (u : TextUnit) (d : Side) (t : List ℕ) → good u ≡ true → Shows u d (st .sets)
+    → shapeOf (octets d u ++ t) st ≡ Found (partOf u) st
+unfolding good octets wide shapeOf csiOf beginOf textOf next pick
+starts-unit st l (char c k) d t g h = starts-char st l d c k t (and-right (ltb c 15) (codeUsed (formOf c) k) g) h
+starts-unit st l space d t g h = rw h
+starts-unit st l tab d t g h = refl
+starts-unit st l newline d t g h = refl
+starts-unit st l ltr d t g h = refl
+starts-unit st l rtl d t g h = refl
+starts-unit st l revert d t g h = refl
+starts-unit st l (ext e xs) d t g h = starts-ext st e xs t g
+
+pub part-size : (u : TextUnit) (d : Side) → length (octets d u) ≡ partOf u .skip + partOf u .octets
+unfolding octets
+part-size (char c k) d = go (wide c)
+  where
+    go : (b : Bool) → length (shown b (top d) k) ≡ 0 + cond b 2 1
+    go true = refl
+    go false = refl
+part-size space d = refl
+part-size tab d = refl
+part-size newline d = refl
+part-size ltr d = refl
+part-size rtl d = refl
+part-size revert d = refl
+part-size (ext e xs) d = omega arith
+
+pub part-some : (u : TextUnit) → 1 ≤ partOf u .skip + partOf u .octets
+part-some (char c k) = go (wide c)
+  where
+    go : (b : Bool) → 1 ≤ 0 + cond b 2 1
+    go true = omega arith
+    go false = omega arith
+part-some space = omega arith
+part-some tab = omega arith
+part-some newline = omega arith
+part-some ltr = omega arith
+part-some rtl = omega arith
+part-some revert = omega arith
+part-some (ext e xs) = omega arith
+
+-- the part's unit is the unit
+pub part-unit : (u : TextUnit) (d : Side) (t : List ℕ) → unitAt (partOf u) (octets d u ++ t) ≡ u
+unfolding unitAt unitOf octets
+part-unit (char c k) d t = refl
+part-unit space d t = refl
+part-unit tab d t = refl
+part-unit newline d t = refl
+part-unit ltr d t = refl
+part-unit rtl d t = refl
+part-unit revert d t = refl
+part-unit (ext e xs) d t = ap (ext e) (take-append-seam xs t)

@@ -1,0 +1,6 @@
+pub mod Elements
+pub mod Rule
+pub mod Segment
+pub mod Sound
+pub mod Complete
+pub mod Agrees

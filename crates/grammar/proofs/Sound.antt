@@ -1,0 +1,295 @@
+-- What the reader's definition takes for an element is one of the grammar's: each definition of an element, from the leaves up, is a
+-- refusal with a number above 0, or starts with the octets of a designation or of a unit that may be shown.
+use Prim.Native.Nat.{ℕ, suc, _+_, _*_, _-_, _/_, _%_, _≤_, _<_}
+use native.Mathlib.Omega.{arith}
+use mathlib.Core.Path.{_≡_, refl, sym, ap, ap₂, _∙_, subst}
+use mathlib.Core.Bool.{Bool, true, false, cond, _&&_}
+use mathlib.Core.List.{List, [], _∷_, _++_}
+use lib.Dec.{eqb, leb, ltb}
+use lib.ListN.{length, take, drop, take-append-drop}
+use lib.Seq.{length-take-le}
+use borrow.Author.Tests.{eqb-true, ltb-true, ltb-false, leb-true, lt-ltb, le-leb}
+use Rattle.base.specs.Choice.{pick}
+use Rattle.charset.specs.declared.Side.{Side}
+use Rattle.charset.specs.declared.Side.the-variants.{GL, GR}
+use Rattle.charset.specs.Charsets.{rowOf, formOf, allowed, setOf}
+use Rattle.charset.proofs.Laws.{Named, set-named, allowed-below}
+use Rattle.state.specs.State.{Standing, on, get, designatedOf}
+use Rattle.state.specs.Directions.{countsAsText}
+use Rattle.state.specs.Elements.{part, next}
+use Rattle.text.specs.Text.{graphicOf, oneOctetOf, twoOctetsOf, secondOctetOf, characterOf, textOf}
+use Rattle.control.specs.Escape.{intermediatesOf, designatesOf, designationOf, multiOctetOf, escapeOf}
+use Rattle.segment.specs.Segment.{segmentPart, bodyOf, lengthsOf, extendedOf}
+use Rattle.control.specs.Mark.{beginOf, csiOf}
+use Rattle.element.specs.Element.{shapeOf}
+use Rattle.state.specs.declared.Sets.{Sets}
+use Rattle.state.specs.declared.State.{State}
+use Rattle.state.specs.declared.element.Part.{Part}
+use Rattle.state.specs.declared.element.Element.{Element}
+use Rattle.state.specs.declared.element.Element.the-variants.{Refused, Silent, Found}
+use Rattle.grammar.specs.Units.{TextUnit, char, space, tab, newline, ltr, rtl, revert, ext, kindOf, textOctets, counts, unitOf, wide, top, octets, lead, designation, codeUsed, segment, good}
+use Rattle.grammar.specs.Grammar.{Shows}
+use Rattle.grammar.specs.Reading.{Octets, unitAt}
+use Rattle.grammar.proofs.Segment.{content}
+
+-- each set stands on a side it may use
+pub record Legal (s : Sets) : Type 0 where
+  pub left : allowed GL (s .gl) ≡ true
+  pub right : allowed GR (s .gr) ≡ true
+
+-- octets w that start with a unit on a side, which is that of a part, and go on with t
+pub record Shown (s : Sets) (w : List ℕ) (p : Part) (u : TextUnit) (d : Side) (t : List ℕ) : Type 0 where
+  pub fit : good u ≡ true
+  pub shows : Shows u d s
+  pub are : w ≡ octets d u ++ t
+  pub size : length (octets d u) ≡ p .skip + p .octets
+  pub unit : unitAt p w ≡ u
+  pub kind : p .kind ≡ kindOf u
+  pub text : p .text ≡ counts u
+
+-- octets w that start with a designation of k octets, and go on with t
+pub record Changed (w : List ℕ) (k : ℕ) (p : Standing) (t : List ℕ) : Type 0 where
+  pub may : allowed (p .side) (p .set) ≡ true
+  pub are : w ≡ designation p ++ t
+  pub size : length (designation p) ≡ k
+
+pub data Sound (st : State) (w : List ℕ) : Element → Type 0 where
+  refuses : {n o : ℕ} → 1 ≤ n → Sound st w (Refused n o)
+  designates : {k : ℕ} (d : Side) (c : ℕ) (t : List ℕ) → Changed w k (on d c) t → Sound st w (Silent k (designatedOf d c st))
+  finds : {p : Part} (u : TextUnit) (d : Side) (t : List ℕ) → Shown (st .sets) w p u d t → Sound st w (Found p st)
+
+-- ---- octets before a final, and codes
+
+front : (form : ℕ) (d : Side) (x : ℕ) (t : List ℕ) → lead form d (x ∷ t) ≡ lead form d (x ∷ []) ++ t
+front form GL x t = go (eqb form 3)
+  where
+    go : (a : Bool) → cond a (0x1B ∷ 0x24 ∷ 0x28 ∷ x ∷ t) (0x1B ∷ 0x28 ∷ x ∷ t) ≡ cond a (0x1B ∷ 0x24 ∷ 0x28 ∷ x ∷ []) (0x1B ∷ 0x28 ∷ x ∷ []) ++ t
+    go true = refl
+    go false = refl
+front form GR x t = go (eqb form 3) (eqb form 2)
+  where
+    go : (a b : Bool) → cond a (0x1B ∷ 0x24 ∷ 0x29 ∷ x ∷ t) (cond b (0x1B ∷ 0x2D ∷ x ∷ t) (0x1B ∷ 0x29 ∷ x ∷ t))
+        ≡ cond a (0x1B ∷ 0x24 ∷ 0x29 ∷ x ∷ []) (cond b (0x1B ∷ 0x2D ∷ x ∷ []) (0x1B ∷ 0x29 ∷ x ∷ [])) ++ t
+    go true b = refl
+    go false true = refl
+    go false false = refl
+
+pub lead-size : (form : ℕ) (d : Side) (x : ℕ) (b : Bool) → eqb form 3 ≡ b → length (lead form d (x ∷ [])) ≡ cond b 4 3
+lead-size form GL x true e = rw e
+lead-size form GL x false e = rw e
+lead-size form GR x true e = rw e
+lead-size form GR x false e = rw e (go (eqb form 2))
+  where
+    go : (b : Bool) → length (cond b (0x1B ∷ 0x2D ∷ x ∷ []) (0x1B ∷ 0x29 ∷ x ∷ [])) ≡ 3
+    go true = refl
+    go false = refl
+
+change : (form : ℕ) (d : Side) (x : ℕ) (t : List ℕ) → Named (rowOf (setOf form d x)) form d x → (b : Bool) → eqb form 3 ≡ b
+    → Changed (lead form d (x ∷ t)) (cond b 4 3) (on d (setOf form d x)) t
+unfolding allowed designation formOf
+change form d x t n b k =
+    record {
+      may = n .side;
+      are = front form d x t ∙ ap (λ (q : List ℕ). q ++ t) (ap₂ (λ (f y : ℕ). lead f d (y ∷ [])) (sym (n .form)) (sym (n .last)));
+      size = ap₂ (λ (f y : ℕ). length (lead f d (y ∷ []))) (n .form) (n .last) ∙ lead-size form d x b k;
+    }
+
+pub graphic-low : (k : ℕ) → graphicOf k ≡ true → (0x21 ≤ k) × (k ≤ 0x7E)
+unfolding graphicOf pick
+graphic-low k e = go (ltb k 0x21) refl e
+  where
+    go : (b : Bool) → ltb k 0x21 ≡ b → pick b false (leb k 0x7E) ≡ true → (0x21 ≤ k) × (k ≤ 0x7E)
+    go true p q = absurd (mathlib.Core.Bool.false≢true q)
+    go false p q = (ltb-false k 0x21 p, leb-true k 0x7E q)
+
+module _ (st : State) where
+  no : {w : List ℕ} {n : ℕ} → Sound st w (Refused (suc n) 0)
+  no {n = n} = refuses {n = suc n} (omega arith)
+
+  test : {w : List ℕ} {x y : Element} (b : Bool) → (b ≡ true → Sound st w x) → (b ≡ false → Sound st w y) → Sound st w (pick b x y)
+  unfolding pick
+  test true f g = f refl
+  test false f g = g refl
+
+  -- a unit whose octets do not depend on the side
+  plain : {w : List ℕ} {p : Part} (u : TextUnit) (t : List ℕ) → w ≡ octets GL u ++ t → length (octets GL u) ≡ p .skip + p .octets → unitAt p w ≡ u
+      → good u ≡ true → Shows u GL (st .sets) → p .kind ≡ kindOf u → p .text ≡ counts u → Sound st w (Found p st)
+  plain u t e l r g h k x = finds u GL t (record { fit = g; shows = h; are = e; size = l; unit = r; kind = k; text = x })
+
+  -- ---- direction marks
+
+  sound-begin : (u : TextUnit) (kind y : ℕ) (t : List ℕ) → octets GL u ≡ 0x9B ∷ y ∷ 0x5D ∷ [] → ((xs : List ℕ) → unitOf kind 0 0 xs ≡ u) → good u ≡ true
+      → Shows u GL (st .sets) → kind ≡ kindOf u → countsAsText kind 0 ≡ counts u → Sound st (0x9B ∷ y ∷ t) (beginOf kind t st)
+  unfolding beginOf next unitAt
+  sound-begin u kind y [] o r g h k x = no
+  sound-begin u kind y (z ∷ t) o r g h k x =
+      test (eqb z 0x5D)
+      (λ e. plain {p = part kind 0 0 0 3 (countsAsText kind 0)} u t (ap (λ (a : ℕ). 0x9B ∷ y ∷ a ∷ t) (eqb-true z 0x5D e) ∙ ap (λ (q : List ℕ). q ++ t) (sym o)) (ap length o) (r _) g h k x)
+      (λ _. no)
+
+  sound-csi : (t : List ℕ) → Sound st (0x9B ∷ t) (csiOf t st)
+  unfolding csiOf next octets good unitOf unitAt
+  sound-csi [] = no
+  sound-csi (x ∷ t) =
+      test (eqb x 0x5D) (λ e. plain {p = part 6 0 0 0 2 false} revert t (ap (λ (y : ℕ). 0x9B ∷ y ∷ t) (eqb-true x 0x5D e)) refl refl refl tt refl refl)
+      (λ _. test (eqb x 0x31) (λ e. rw (eqb-true x 0x31 e) (sound-begin ltr 4 0x31 t refl (λ _. refl) refl tt refl refl))
+      (λ _. test (eqb x 0x32) (λ e. rw (eqb-true x 0x32 e) (sound-begin rtl 5 0x32 t refl (λ _. refl) refl tt refl refl)) (λ _. no)))
+
+  -- ---- designations
+
+  sound-intermediates : {w : List ℕ} (t : List ℕ) → Sound st w (intermediatesOf t)
+  unfolding intermediatesOf
+  sound-intermediates [] = no
+  sound-intermediates (b ∷ t) =
+      test _ (λ _. no) (λ _. test _ (λ _. sound-intermediates t) (λ _. test _ (λ _. no) (λ _. test _ (λ _. no) (λ _. no))))
+
+  sound-named : (form : ℕ) (d : Side) (x : ℕ) (t : List ℕ) → Sound st (lead form d (x ∷ t)) (designatesOf form d (setOf form d x) st)
+  unfolding designatesOf
+  sound-named form d x t =
+      test _
+      (λ e. let n = set-named form d x (ltb-true (setOf form d x) 15 e) in
+      test _ (λ k. designates d (setOf form d x) t (change form d x t n true k)) (λ k. designates d (setOf form d x) t (change form d x t n false k)))
+      (λ _. no)
+
+  sound-designation : (form : ℕ) (d : Side) (t : List ℕ) → Sound st (lead form d t) (designationOf form d t st)
+  unfolding designationOf next
+  sound-designation form d [] = no
+  sound-designation form d (x ∷ t) =
+      test _ (λ _. no)
+      (λ _. test _ (λ _. sound-intermediates t) (λ _. test _ (λ _. no) (λ _. test _ (λ _. sound-named form d x t) (λ _. no))))
+
+  sound-multi-octet : (t : List ℕ) → Sound st (0x1B ∷ 0x24 ∷ t) (multiOctetOf t st)
+  unfolding multiOctetOf next
+  sound-multi-octet [] = no
+  sound-multi-octet (x ∷ t) =
+      test (eqb x 0x28) (λ e. rw (eqb-true x 0x28 e) (sound-designation 3 GL t))
+      (λ _. test (eqb x 0x29) (λ e. rw (eqb-true x 0x29 e) (sound-designation 3 GR t)) (λ _. no))
+
+  -- ---- extended segments
+
+  held : (e m l n : ℕ) (t : List ℕ) → 0x30 ≤ e → e < 0x35 → 128 ≤ m → m < 256 → 128 ≤ l → l < 256 → n ≡ (m - 128) * 128 + (l - 128) → n ≤ length t
+      → segment e 0 (take n t) ≡ true → Sound st (0x1B ∷ 0x25 ∷ 0x2F ∷ e ∷ m ∷ l ∷ t) (Found (segmentPart e n (textOctets (take n t))) st)
+  unfolding octets good unitAt unitOf
+  held e m l n t le ge lm gm ll gl en h g =
+      plain {p = segmentPart e n (textOctets (take n t))} (ext e (take n t)) (drop n t)
+      (λ i. 0x1B ∷ 0x25 ∷ 0x2F ∷ e ∷ high i ∷ low i ∷ sym (take-append-drop n t) i)
+      (omega (arith, count)) refl
+      (rw (le-leb 0x30 e le, le-leb e 0x34 (omega arith), le-leb (length (take n t)) 16383 (omega (arith, count)), g)) tt refl refl
+    where
+      count : length (take n t) ≡ n
+      count = length-take-le n t h
+
+      high : m ≡ 128 + length (take n t) / 128
+      high = omega (arith, count)
+
+      low : l ≡ 128 + length (take n t) % 128
+      low = omega (arith, count)
+
+  sound-body : (e m l n : ℕ) (t : List ℕ) → 0x30 ≤ e → e < 0x35 → 128 ≤ m → m < 256 → 128 ≤ l → l < 256 → n ≡ (m - 128) * 128 + (l - 128)
+      → Sound st (0x1B ∷ 0x25 ∷ 0x2F ∷ e ∷ m ∷ l ∷ t) (bodyOf e n t st)
+  unfolding bodyOf
+  sound-body e m l n t le ge lm gm ll gl en =
+      test (leb n (length t))
+      (λ q. let h = leb-true n (length t) q in
+      subst (Sound st (0x1B ∷ 0x25 ∷ 0x2F ∷ e ∷ m ∷ l ∷ t)) (sym (content e n st (take n t) 0 (let z : n ≡ 0 + length (take n t) = omega (arith, length-take-le n t h) in z)))
+      (test (segment e 0 (take n t)) (λ g. held e m l n t le ge lm gm ll gl en h g) (λ _. no)))
+      (λ _. no)
+
+  sound-lengths : (e : ℕ) (t : List ℕ) → 0x30 ≤ e → e < 0x35 → Octets t → Sound st (0x1B ∷ 0x25 ∷ 0x2F ∷ e ∷ t) (lengthsOf e t st)
+  unfolding lengthsOf next
+  sound-lengths e [] le ge o = no
+  sound-lengths e (m ∷ []) le ge o = test _ (λ _. no) (λ _. no)
+  sound-lengths e (m ∷ l ∷ t) le ge o =
+      test (ltb m 0x80) (λ _. no)
+      (λ p. test (ltb l 0x80) (λ _. no) (λ q. sound-body e m l ((m - 128) * 128 + (l - 128)) t le ge (ltb-false m 0x80 p) (o 0) (ltb-false l 0x80 q) (o 1) refl))
+
+  sound-extended : (t : List ℕ) → Octets t → Sound st (0x1B ∷ 0x25 ∷ t) (extendedOf t st)
+  unfolding extendedOf next
+  sound-extended [] o = no
+  sound-extended (x ∷ []) o = test _ (λ _. no) (λ _. no)
+  sound-extended (x ∷ e ∷ t) o =
+      test (eqb x 0x2F)
+      (λ q. rw (eqb-true x 0x2F q)
+      (test (ltb e 0x30) (λ _. no) (λ p. test (ltb e 0x35) (λ r. sound-lengths e t (ltb-false e 0x30 p) (ltb-true e 0x35 r) (λ i. o (suc (suc i)))) (λ _. no))))
+      (λ _. no)
+
+  sound-escape : (t : List ℕ) → Octets t → Sound st (0x1B ∷ t) (escapeOf t st)
+  unfolding escapeOf next
+  sound-escape [] o = no
+  sound-escape (x ∷ t) o =
+      test (eqb x 0x28) (λ e. rw (eqb-true x 0x28 e) (sound-designation 1 GL t))
+      (λ _. test (eqb x 0x29) (λ e. rw (eqb-true x 0x29 e) (sound-designation 1 GR t))
+      (λ _. test (eqb x 0x2D) (λ e. rw (eqb-true x 0x2D e) (sound-designation 2 GR t))
+      (λ _. test (eqb x 0x24) (λ e. rw (eqb-true x 0x24 e) (sound-multi-octet t))
+      (λ _. test (eqb x 0x25) (λ e. rw (eqb-true x 0x25 e) (sound-extended t (λ i. o (suc i))))
+      (λ _. test (eqb x 0x23) (λ _. no) (λ _. no))))))
+
+  -- ---- characters and spaces
+
+  -- a character of the set c, which stands on the side of its first octet b
+  module _ (d : Side) (c b : ℕ) (here : get d (st .sets) ≡ c) (below : c < 15) (side : top d + b % 128 ≡ b) (low : 0x20 ≤ b % 128) (octet : b < 256) where
+    one : (t : List ℕ) → eqb (formOf c) 3 ≡ false → codeUsed (formOf c) (b % 128) ≡ true → Sound st (b ∷ t) (oneOctetOf c b st)
+    unfolding octets good wide unitAt unitOf
+    one t n u =
+        finds {p = part 0 c (b % 128) 0 1 true} (char c (b % 128)) d t
+        (record { fit = rw (lt-ltb c 15 below, u); shows = here; are = rw n (ap (λ (x : ℕ). x ∷ t) (sym side)); size = rw n; unit = refl; kind = refl; text = refl })
+
+    two : (y : ℕ) (t : List ℕ) → eqb (formOf c) 3 ≡ true → graphicOf (b % 128) ≡ true → y / 128 ≡ b / 128 → graphicOf (y % 128) ≡ true → Sound st (b ∷ y ∷ t) (twoOctetsOf c b y st)
+    unfolding octets good wide unitAt unitOf codeUsed
+    two y t n u e v =
+        let k : ℕ = b % 128 * 256 + y % 128 in
+        let q : (b % 128 * 256 + y % 128) / 256 ≡ b % 128 = omega arith in
+        let r : (b % 128 * 256 + y % 128) % 256 ≡ y % 128 = omega arith in
+        let z : top d + y % 128 ≡ y = omega arith in
+        finds {p = part 0 c (b % 128 * 256 + y % 128) 0 2 true} (char c (b % 128 * 256 + y % 128)) d t
+        (record {
+          fit = rw (lt-ltb c 15 below, n, q, r, u, v);
+          shows = here;
+          are = rw (n, q, r) (ap₂ (λ (x w : ℕ). x ∷ w ∷ t) (sym side) (sym z));
+          size = rw n;
+          unit = refl;
+          kind = refl;
+          text = refl;
+        })
+
+    sound-second : (t : List ℕ) → eqb (formOf c) 3 ≡ true → graphicOf (b % 128) ≡ true → Sound st (b ∷ t) (secondOctetOf c b t st)
+    unfolding secondOctetOf next
+    sound-second [] n u = no
+    sound-second (y ∷ t) n u =
+        test (eqb (y / 128) (b / 128)) (λ e. test (graphicOf (y % 128)) (λ v. two y t n u (eqb-true (y / 128) (b / 128) e) v) (λ _. no)) (λ _. no)
+
+    sound-character : (t : List ℕ) → Sound st (b ∷ t) (characterOf c b t st)
+    unfolding characterOf codeUsed
+    sound-character t =
+        test (eqb (formOf c) 2)
+        (λ e. one t (ap (λ (f : ℕ). eqb f 3) (eqb-true (formOf c) 2 e)) (rw (eqb-true (formOf c) 2 e, le-leb 0x20 (b % 128) low, le-leb (b % 128) 0x7F (omega arith))))
+        (λ m. test (graphicOf (b % 128))
+        (λ u. test (eqb (formOf c) 3) (λ n. sound-second t n u) (λ n. one t n (rw (n, m, u)))) (λ _. no))
+
+  module _ (l : Legal (st .sets)) where
+    sound-text : (b : ℕ) (t : List ℕ) → 0x20 ≤ b → b < 256 → (0x80 ≤ b → 0xA0 ≤ b) → Sound st (b ∷ t) (textOf b t st)
+    unfolding textOf octets good wide unitAt unitOf
+    sound-text b t h o r =
+        test (eqb b 0x20)
+        (λ e. test (eqb (formOf (st .sets .gl)) 3) (λ _. no)
+        (λ n. plain {p = part 1 0 0 0 1 true} space t (ap (λ (x : ℕ). x ∷ t) (eqb-true b 0x20 e)) refl refl refl n refl refl))
+        (λ _. test (ltb b 0x80)
+        (λ p. let q = ltb-true b 0x80 p in
+        sound-character GL (st .sets .gl) b refl (allowed-below GL (st .sets .gl) (l .left)) (omega arith) (omega arith) o t)
+        (λ p. let q = ltb-false b 0x80 p in
+        let z = r q in
+        sound-character GR (st .sets .gr) b refl (allowed-below GR (st .sets .gr) (l .right)) (omega arith) (omega arith) o t))
+
+    pub sound : (b : ℕ) (t : List ℕ) → Octets (b ∷ t) → Sound st (b ∷ t) (shapeOf (b ∷ t) st)
+    unfolding shapeOf octets good unitAt unitOf
+    sound b t o =
+        test (eqb b 0x1B) (λ e. rw (eqb-true b 0x1B e) (sound-escape t (λ i. o (suc i))))
+        (λ _. test (eqb b 0x9B) (λ e. rw (eqb-true b 0x9B e) (sound-csi t))
+        (λ _. test (eqb b 0x09) (λ e. plain {p = part 2 0 0 0 1 false} tab t (ap (λ (x : ℕ). x ∷ t) (eqb-true b 0x09 e)) refl refl refl tt refl refl)
+        (λ _. test (eqb b 0x0A) (λ e. plain {p = part 3 0 0 0 1 false} newline t (ap (λ (x : ℕ). x ∷ t) (eqb-true b 0x0A e)) refl refl refl tt refl refl)
+        (λ _. test (ltb b 0x20) (λ _. no)
+        (λ g. test (eqb b 0x7F) (λ _. no)
+        (λ _. test (ltb b 0x80)
+        (λ p. sound-text b t (ltb-false b 0x20 g) (o 0) (λ h. absurd (let q = ltb-true b 0x80 p in omega arith)))
+        (λ _. test (ltb b 0xA0) (λ _. no)
+        (λ p. sound-text b t (ltb-false b 0x20 g) (o 0) (λ _. ltb-false b 0xA0 p)))))))))

@@ -1,0 +1,62 @@
+-- `segment::body` meets its contract: where the n octets are there, the part that is lent to `name_end` is what `bodyOf` takes.
+use borrow.Author.Needs.{needs}
+use Rattle.segment.specs.Segment.{nameOf, contentOf}
+use Prim.Native.Nat.{ℕ}
+use lib.ListN.{take, drop}
+use native.Mathlib.Nat.{add-sub-cancel-left}
+use Rattle.segment.proofs.Steps.{on-body, on-body-short}
+use Rattle.base.proofs.Ladder.{after}
+use denote.Ref.{now}
+use Rattle.segment.specs.declared.Name.{Name}
+use Rattle.base.specs.Choice.{from}
+use mathlib.Core.Path.{_≡_, refl, _∙_, ap}
+use Rattle.segment.proofs.body.Statement.{statement}
+use Rattle.segment.proofs.body.Tie as tie
+
+sub-if1 : tie.Need-sub-if1
+sub-if1 c = search needs
+
+add-name-end : tie.Need-add-name-end
+add-name-end c = search needs
+
+sub-name-end : tie.Need-sub-name-end
+sub-name-end c = search needs
+
+part-name-end-start : tie.Need-part-name-end-start
+part-name-end-start c = search needs
+
+part-name-end-end : tie.Need-part-name-end-end
+part-name-end-end c = search needs
+
+name-end-requires : tie.Need-name-end-requires
+name-end-requires c κs = search needs
+
+content-requires : tie.Need-content-requires
+content-requires c κs = search needs
+
+returns : tie.Need-returns
+unfolding from
+returns c =
+    let a = c .before .before .before .before .before .args in
+    on-body (now (a .s)) (a .at) (a .d) (a .n) (a .st) _ (c .before .before .before .if1 .taken)
+    (after
+    (ap (λ (k : Name). contentOf (a .d) (a .n) k (a .st))
+    (c .before .name-end .ensures ∙ ap (λ (k : ℕ). nameOf (take k (drop (a .at) (now (a .s)))) 0) (add-sub-cancel-left (a .at) (a .n))))
+    (c .content .ensures))
+
+returns-2 : tie.Need-returns-2
+returns-2 c = on-body-short _ _ _ _ _ _ (c .if1 .left) refl
+
+pub body-spec : {M : Type 1} → statement M
+body-spec =
+    tie.close
+    (tie.spec
+    sub-if1
+    add-name-end
+    sub-name-end
+    part-name-end-start
+    part-name-end-end
+    name-end-requires
+    content-requires
+    returns
+    returns-2)

@@ -1,0 +1,67 @@
+-- Extended segments: "`1B 25 2F d M L`, d from 30 to 34", functions of the octets that are left and of the state.
+use Prim.Native.Nat.{ℕ, _+_, _*_, _%_, _-_}
+use mathlib.Core.Bool.{Bool, true, false}
+use mathlib.Core.List.{List, [], _∷_}
+use lib.ListN.{length, take}
+use lib.Dec.{eqb, leb, ltb}
+use Rattle.base.specs.Choice.{pick}
+use Rattle.base.specs.Refusal as refusal
+use Rattle.base.specs.Kind as kind
+use Rattle.state.specs.Directions.{countsAsText}
+use Rattle.state.specs.Elements.{part, refused, next}
+use Rattle.state.specs.declared.State.{State}
+use Rattle.state.specs.declared.element.Part.{Part}
+use Rattle.state.specs.declared.element.Element.{Element}
+use Rattle.state.specs.declared.element.Element.the-variants.{Found}
+use Rattle.segment.specs.declared.Name.{Name}
+use Rattle.segment.specs.declared.Name.the-variants.{Ends, Bad}
+
+-- "a name octet outside 21-7E and A1-FF, or equal to 2A or 3F: 7"
+unfoldable pub nameOctetOf : ℕ → Bool
+nameOctetOf b =
+    pick (ltb b 0x21) false (pick (eqb b 0x2A) false (pick (eqb b 0x3F) false (pick (leb b 0x7E) true (leb 0xA1 b))))
+
+-- the name at the start of a segment's octets, k of which are passed: "the name ends at the first 02. No 02, an empty name .. : 7"
+unfoldable pub nameOf : List ℕ → ℕ → Name
+nameOf [] k = Bad k
+nameOf (b ∷ t) k =
+    pick (eqb b 2) (pick (eqb k 0) (Bad k) (Ends k)) (pick (nameOctetOf b) (nameOf t (k + 1)) (Bad k))
+
+-- "For d of 32, 33, 34 the text length must be a multiple of 2, 3, 4, else 7."
+unfoldable pub textWidthOf : ℕ → ℕ
+textWidthOf d = pick (eqb d 0x32) 2 (pick (eqb d 0x33) 3 (pick (eqb d 0x34) 4 1))
+
+-- the unit of a segment of n octets with so many octets of text
+abbrev pub segmentPart : ℕ → ℕ → ℕ → Part
+segmentPart d n text = part kind.segment 0 d 6 n (countsAsText kind.segment text)
+
+-- a segment of n octets, by its name: "They hold a name, 02, and a text"; "The text is arbitrary."
+unfoldable pub contentOf : ℕ → ℕ → Name → State → Element
+contentOf d n (Ends k) st =
+    pick (ltb k n)
+    (pick (eqb ((n - k - 1) % textWidthOf d) 0) (Found (segmentPart d n (n - k - 1)) st) (refused refusal.bad-segment))
+    (refused refusal.bad-segment)
+contentOf d n (Bad k) st = refused refusal.bad-segment
+
+-- "n .. octets follow; fewer: 2"
+unfoldable pub bodyOf : ℕ → ℕ → List ℕ → State → Element
+bodyOf d n t st = pick (leb n (length t)) (contentOf d n (nameOf (take n t) 0) st) (refused refusal.cut)
+
+-- after 1B 25 2F d: "M or L under 80: 7, a low M even if the string ends after it. n = (M - 128) × 128 + (L - 128)"
+unfoldable pub lengthsOf : ℕ → List ℕ → State → Element
+lengthsOf d t st =
+    next t
+    (λ m u.
+    pick (ltb m 0x80) (refused refusal.bad-segment)
+    (next u (λ l v. pick (ltb l 0x80) (refused refusal.bad-segment) (bodyOf d ((m - 128) * 128 + (l - 128)) v st))))
+
+-- after 1B 25
+unfoldable pub extendedOf : List ℕ → State → Element
+extendedOf t st =
+    next t
+    (λ b u.
+    pick (eqb b 0x2F)
+    (next u
+    (λ d v.
+    pick (ltb d 0x30) (refused refusal.unknown) (pick (ltb d 0x35) (lengthsOf d v st) (refused refusal.unknown))))
+    (refused refusal.unknown))

@@ -1,0 +1,21 @@
+-- The ladder's rules for the next octet of an element: there is one, or the string ends there and the element is refused as cut.
+use Prim.Native.Nat.{ℕ, _+_, _<_, _≤_}
+use mathlib.Core.Path.{_≡_}
+use mathlib.Core.List.{List}
+use lib.ListN.{length, getD}
+use Rattle.base.specs.Choice.{from}
+use Rattle.base.specs.Refusal as refusal
+use Rattle.base.proofs.Ladder.{octet, ended, ladder}
+use Rattle.state.specs.Elements.{next, refused}
+use Rattle.state.specs.declared.element.Element.{Element}
+
+module _ (s : List ℕ) (at : ℕ) (f : ℕ → List ℕ → Element) (r : Element) where
+  pub on-next : at < length s → r ≡ f (getD s at 0) (from (at + 1) s) → r ≡ next (from at s) f
+  unfolding next
+  on-next h e = octet (λ (t : List ℕ). next t f) s at r h e
+
+  pub on-end : length s ≤ at → r ≡ refused refusal.cut → r ≡ next (from at s) f
+  unfolding next
+  on-end h e = ended (λ (t : List ℕ). next t f) s at r h e
+
+pub ruleset steps = (on-next, on-end, ladder)
