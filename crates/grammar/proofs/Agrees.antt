@@ -16,7 +16,7 @@ use Rattle.charset.specs.declared.Side.{Side}
 use Rattle.charset.specs.declared.Side.the-variants.{GL, GR}
 use Rattle.charset.specs.Charsets.{rowOf, formOf, allowed, mayUse}
 use Rattle.state.specs.State.{Standing, on, state, put, put′, designatedOf, fresh}
-use Rattle.state.specs.Directions.{none, writtenOf, deeperOf, begunOf, revertedOf, stepOf}
+use Rattle.state.specs.Directions.{undirected, writtenOf, deeperOf, begunOf, revertedOf, stepOf}
 use Rattle.element.specs.Element.{steppedOf, directedOf, elementOf}
 use Rattle.state.specs.declared.Sets.{Sets}
 use Rattle.state.specs.declared.directions.Directions.{Directions}
@@ -259,12 +259,12 @@ pub accepted-answer : (s : List ℕ) (us : List TextUnit) → Accepted s us → 
 unfolding checkOf pick
 accepted-answer s us a =
     rw (le-ltb limit.octets (length s) (a .short))
-    (answered (a .reads) none fresh-legal (direction-rule us .1 (a .rule)) 0 0 .answers
+    (answered (a .reads) undirected fresh-legal (direction-rule us .1 (a .rule)) 0 0 .answers
     ∙ ap₂ (answer 0) (let z : 0 + length s ≡ length s = omega arith in z) (let z : 0 + length us ≡ length us = omega arith in z))
 
 reading-is : (s : List ℕ) (us : List TextUnit) → Accepted s us → readingOf s ≡ us
 unfolding readingOf
-reading-is s us a = answered (a .reads) none fresh-legal (direction-rule us .1 (a .rule)) 0 0 .units
+reading-is s us a = answered (a .reads) undirected fresh-legal (direction-rule us .1 (a .rule)) 0 0 .units
 
 correct : (s : List ℕ) → Octets s → checkOf s .number ≡ 0 → Accepted s (readingOf s)
 unfolding checkOf readingOf pick

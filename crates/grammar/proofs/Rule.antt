@@ -9,7 +9,7 @@ use mathlib.Core.Logic.{_↔_, _⊎_, inl, inr, ⊎-elim}
 use lib.Dec.{eqb, ltb}
 use borrow.Author.Tests.{eqb-true, eqb-false, ltb-true, ltb-false}
 use Rattle.base.specs.Choice.{pick}
-use Rattle.state.specs.Directions.{directions, none, writtenOf, deeperOf, begunOf, revertedOf, stepOf}
+use Rattle.state.specs.Directions.{directions, undirected, writtenOf, deeperOf, begunOf, revertedOf, stepOf}
 use Rattle.base.specs.Limit as limit
 use Rattle.state.specs.declared.directions.Directions.{Directions}
 use Rattle.state.specs.declared.directions.Step.{Step}
@@ -141,7 +141,7 @@ same [] d b r t l = (λ _. tt, λ _. refl)
 same (u ∷ us) d b r t l = follow us (step d b r t l u) (λ e m. same us e (b + begins u) (r + reverts u) (t + texts u) m)
 
 -- the direction rule from the start of a string
-pub direction-rule : (us : List TextUnit) → (directed us none ≡ true) ↔ Lawful us 0 0 0
+pub direction-rule : (us : List TextUnit) → (directed us undirected ≡ true) ↔ Lawful us 0 0 0
 direction-rule us =
-    same us none 0 0 0
+    same us undirected 0 0 0
     (record { open-now = omega arith; marks = λ e. absurd (false≢true e); no-marks = λ _. omega arith; texts = λ e. absurd (false≢true e); no-texts = λ _. refl })

@@ -16,8 +16,8 @@ abbrev pub directions : ℕ → ℕ → Bool → Bool → Directions
 directions depth levels marked texted = record { depth = depth; levels = levels; marked = marked; texted = texted }
 
 -- "no direction open"
-abbrev pub none : Directions
-none = directions 0 0 false false
+abbrev pub undirected : Directions
+undirected = directions 0 0 false false
 
 -- what counts as text, by a unit's kind and the octets of an extended segment's text: "Tabs and newlines are free of this, and so is
 -- an extended segment, which does not count as a character."

@@ -2,7 +2,7 @@
 use Prim.Native.Nat.{ℕ}
 use Rattle.charset.specs.declared.Side.{Side}
 use Rattle.charset.specs.declared.Side.the-variants.{GL, GR}
-use Rattle.state.specs.Directions.{none}
+use Rattle.state.specs.Directions.{undirected}
 use Rattle.state.specs.declared.directions.Directions.{Directions}
 use Rattle.state.specs.declared.Sets.{Sets}
 use Rattle.state.specs.declared.State.{State}
@@ -16,7 +16,7 @@ state s d = record { sets = s; directions = d }
 
 -- "The fresh state is .. set 0 in GL, set 3 in GR, no direction open."
 abbrev pub fresh : State
-fresh = state (sets 0 3) none
+fresh = state (sets 0 3) undirected
 
 -- a set on a side
 pub record Standing : Type 0 where

@@ -1,0 +1,90 @@
+-- The writer's choice: what a unit needs, what the shortest writing costs, and that writing.
+use Prim.Native.Nat.{ℕ, _+_, min}
+use mathlib.Core.Bool.{Bool, true, false, cond, _||_}
+use mathlib.Core.List.{List, [], _∷_, _++_}
+use mathlib.Core.Option.{Option, none, some}
+use lib.Dec.{eqb, leb}
+use lib.ListN.{length}
+use Rattle.charset.specs.declared.Side.{Side}
+use Rattle.charset.specs.declared.Side.the-variants.{GL, GR}
+use Rattle.charset.specs.Charsets.{allowed}
+use Rattle.state.specs.State.{Standing, on, get, put}
+use Rattle.state.specs.declared.Sets.{Sets}
+use Rattle.grammar.specs.Units.{TextUnit, char, space, tab, newline, ltr, rtl, revert, ext, octets, designation}
+
+-- a set stands on a side already
+unfoldable pub stands : Standing → Sets → Bool
+stands p s = eqb (get (p .side) s) (p .set)
+
+-- the octets of its designation
+unfoldable pub price : Standing → ℕ
+price p = length (designation p)
+
+-- what has to stand for a unit: nothing, or one of two, the preferred one first
+pub data Need : Type 0 where
+  free : Need
+  either : Standing → Standing → Need
+
+-- "A designation stands only directly before a character or space whose set stands on no side it may use"
+unfoldable pub met : Need → Sets → Bool
+met free s = true
+met (either a b) s = stands a s || stands b s
+
+-- where a set may stand: "at the first difference GL goes before GR"
+abbrev pub placesOf : Bool → Bool → ℕ → Need
+placesOf true true c = either (on GL c) (on GR c)
+placesOf true false c = either (on GL c) (on GL c)
+placesOf false r c = either (on GR c) (on GR c)
+
+-- "(a space needs set 0 or 2 in GL)"; "for a space set 0 before set 2"
+unfoldable pub need : TextUnit → Need
+need (char c k) = placesOf (allowed GL c) (allowed GR c) c
+need space = either (on GL 0) (on GL 2)
+need tab = free
+need newline = free
+need ltr = free
+need rtl = free
+need revert = free
+need (ext e xs) = free
+
+-- the least cost of a need and what follows it, where f is the least cost of what follows: no designation where the need is met
+unfoldable pub least : Need → (Sets → ℕ) → Sets → ℕ
+least free f s = f s
+least (either a b) f s = cond (met (either a b) s) (f s) (min (price a + f (put a s)) (price b + f (put b s)))
+
+-- the octets of a unit, the same on either side
+unfoldable pub size : TextUnit → ℕ
+size u = length (octets GL u)
+
+-- the octets of the shortest writing from sets in force
+unfoldable pub cost : List TextUnit → Sets → ℕ
+cost [] s = 0
+cost (u ∷ us) s = size u + least (need u) (cost us) s
+
+-- what to designate for a need: nothing where it is met, and the preferred one where it costs no more
+unfoldable pub choose : Need → (Sets → ℕ) → Sets → Option Standing
+choose free f s = none
+choose (either a b) f s =
+    cond (met (either a b) s) none (cond (leb (price a + f (put a s)) (price b + f (put b s))) (some a) (some b))
+
+-- the sets in force after it
+abbrev pub after : Option Standing → Sets → Sets
+after none s = s
+after (some p) s = put p s
+
+-- its octets
+abbrev pub designated : Option Standing → List ℕ
+designated none = []
+designated (some p) = designation p
+
+-- the side on which a unit is written: "A set on both sides is used in GL."
+unfoldable pub used : Need → Sets → Side
+used free s = GL
+used (either a b) s = cond (stands a s) (a .side) (b .side)
+
+-- the writer's string
+unfoldable pub writing : List TextUnit → Sets → List ℕ
+writing [] s = []
+writing (u ∷ us) s =
+    let o = choose (need u) (cost us) s in
+    designated o ++ (octets (used (need u) (after o s)) u ++ writing us (after o s))
