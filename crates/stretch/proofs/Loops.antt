@@ -1,13 +1,16 @@
 -- A turn of the loops over a stretch: what is left to pass is one unit less, or nothing.
-use Prim.Native.Nat.{ℕ, suc, _+_, _*_, _-_, _<_, _≤_}
+use Prim.Native.Nat.{ℕ, suc, _+_, _*_, _-_, _/_, _%_, _<_, _≤_}
 use native.Mathlib.Omega.{arith}
-use mathlib.Core.Path.{_≡_, refl, ap, _∙_}
+use mathlib.Core.Path.{_≡_, refl, ap, sym, _∙_}
 use mathlib.Core.Bool.{Bool, true, false, not}
 use mathlib.Core.List.{List, [], _∷_}
 use lib.ListN.{length, getD}
+use borrow.Author.Tests.{lt-ltb, le-ltb, le-leb}
 use Rattle.base.specs.Choice.{pick, from}
-use Rattle.base.proofs.Ladder.{ladder, from-octet, from-end, from-length}
-use Rattle.stretch.specs.Characters.{graphicOn, singleOf, leadOf, oneAt, twoAt, singlesOf, pairsOf, Four, Along}
+use Rattle.base.proofs.Ladder.{ladder, on-true, on-false, on-eq, on-ne, on-ge, from-octet, from-end, from-length}
+use Rattle.charset.specs.Charsets.{form-94, form-96, form-94x94}
+use Rattle.text.specs.Text.{graphicOf}
+use Rattle.stretch.specs.Characters.{graphicOn, singleOf, leadOf, oneAt, twoAt, singlesOf, pairsOf, Within, Spans, Four, Along, glOctet, grOctet}
 
 pub flip : (b : Bool) → not b ≡ pick b false true
 unfolding pick
@@ -40,17 +43,63 @@ module _ (left right : ℕ) (s : List ℕ) (at : ℕ) where
       let y = single-yes left right s i h e in
       record { since = omega (arith, a .since); within = omega arith; same = omega (arith, a .same, y) }
 
-  pub along-four : (i : ℕ) → Along left right s at i → 4 ≤ length s - i → Four left right s i → Along left right s at (i + 4)
-  along-four i a h q =
-      let a1 = along-next i a (omega arith) (q .first) in
-      let a2 = along-next (i + 1) a1 (omega arith) (q .second) in
-      let a3 = along-next (i + 1 + 1) a2 (omega arith) (q .third) in
-      let a4 = along-next (i + 1 + 1 + 1) a3 (omega arith) (q .fourth) in
+  pub along-four : (first last i : ℕ) → Spans left right first last → Along left right s at i → 4 ≤ length s - i → Four first last s i → Along left right s at (i + 4)
+  along-four first last i p a h q =
+      let a1 = along-next i a (omega arith) (p .each _ (q .one)) in
+      let a2 = along-next (i + 1) a1 (omega arith) (p .each _ (q .two)) in
+      let a3 = along-next (i + 1 + 1) a2 (omega arith) (p .each _ (q .three)) in
+      let a4 = along-next (i + 1 + 1 + 1) a3 (omega arith) (p .each _ (q .four)) in
       let e : i + 1 + 1 + 1 + 1 ≡ i + 4 = omega arith in
       rw e at a4
 
+  -- one more stretch after another
+  pub along-more : (i j : ℕ) → Along left right s at i → i < length s → singleOf left right (getD s i 0) ≡ true → Along left right s (i + 1) j → Along left right s at j
+  along-more i j a h e b =
+      let c = along-next i a h e in
+      record { since = omega (arith, c .since, b .since); within = b .within; same = omega (arith, c .same, b .same) }
+
   pub along-last : (i : ℕ) → Along left right s at i → singlesOf left right (from i s) ≡ 0 → (i - at ≡ singlesOf left right (from at s)) × (at + (i - at) ≤ length s)
   along-last i a e = (omega (arith, a .since, a .same, e), omega (arith, a .since, a .within))
+
+-- ---- spans
+
+module _ (left right : ℕ) where
+  pub gl-span : (left ≡ form-94x94 → ⊥) → Spans left right 0x20 0x7E
+  unfolding singleOf glOctet
+  gl-span n =
+      record {
+        each = λ b w. sym
+            (on-true _ _ _ _ (sym (on-ge b 0x20 _ _ _ (w .low) (sym (lt-ltb b 0x7F (omega (arith, w .high))))))
+            (on-ne left form-94x94 _ _ _ n refl));
+      }
+
+  -- a GR octet is no GL octet, tab or newline
+  gr-single : (b : ℕ) → 0xA0 ≤ b → grOctet right b ≡ true → singleOf left right b ≡ true
+  unfolding singleOf glOctet
+  gr-single b h e =
+      sym
+      (on-false _ _ _ _ (sym (on-ge b 0x20 _ _ _ (omega arith) (sym (le-ltb b 0x7F (omega arith)))))
+      (on-ge b 0x0B _ _ _ (omega arith) (sym e)))
+
+  pub gr-span-96 : right ≡ form-96 → Spans left right 0xA0 0xFF
+  unfolding grOctet
+  gr-span-96 e =
+      record { each = λ b w. gr-single b (w .low) (sym (on-ge b 0xA0 _ _ _ (w .low) (on-eq right form-96 _ _ _ e refl))) }
+
+  pub gr-span-94 : right ≡ form-94 → Spans left right 0xA1 0xFE
+  unfolding grOctet graphicOn graphicOf
+  gr-span-94 e =
+      record {
+        each = λ b w.
+            let l = w .low in
+            let h = w .high in
+            gr-single b (omega arith)
+            (sym
+            (on-ge b 0xA0 _ _ _ (omega arith)
+            (on-ne right form-96 _ _ _ (λ q. omega arith)
+            (on-eq right form-94 _ _ _ e
+            (on-eq (b / 128) 1 _ _ _ (omega arith) (on-ge (b % 128) 0x21 _ _ _ (omega arith) (sym (le-leb (b % 128) 0x7E (omega arith)))))))));
+      }
 
 -- ---- characters of two octets
 

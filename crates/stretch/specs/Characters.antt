@@ -70,12 +70,21 @@ unfoldable pub stretchAt : List ℕ → State → Stretch
 stretchAt t st =
     pick (settledOf (st .directions)) (byFormsOf (formOf (st .sets .gl)) (formOf (st .sets .gr)) t) (stretch 0 0)
 
--- four octets from a place on are units by themselves
-pub record Four (left right : ℕ) (s : List ℕ) (at : ℕ) : Type 0 where
-  pub first : singleOf left right (getD s at 0) ≡ true
-  pub second : singleOf left right (getD s (at + 1) 0) ≡ true
-  pub third : singleOf left right (getD s (at + 1 + 1) 0) ≡ true
-  pub fourth : singleOf left right (getD s (at + 1 + 1 + 1) 0) ≡ true
+-- an octet of a span
+pub record Within (first last b : ℕ) : Type 0 where
+  pub low : first ≤ b
+  pub high : b ≤ last
+
+-- each octet of a span is a unit by itself
+pub record Spans (left right first last : ℕ) : Type 0 where
+  pub each : (b : ℕ) → Within first last b → singleOf left right b ≡ true
+
+-- four octets from a place on are of a span
+pub record Four (first last : ℕ) (s : List ℕ) (at : ℕ) : Type 0 where
+  pub one : Within first last (getD s at 0)
+  pub two : Within first last (getD s (at + 1) 0)
+  pub three : Within first last (getD s (at + 1 + 1) 0)
+  pub four : Within first last (getD s (at + 1 + 1 + 1) 0)
 
 -- only units of one octet stand from a place to another: what starts at the one ends where what starts at the other does
 pub record Along (left right : ℕ) (s : List ℕ) (at i : ℕ) : Type 0 where

@@ -4,7 +4,7 @@ ghost use mathlib.Core.Bool.{true};
 ghost use Prim.Native.Nat.{_+_, _*_, _≤_, _<_};
 ghost use lib.ListN.{length};
 ghost use Rattle.base.specs.Choice.{from};
-ghost use Rattle.stretch.specs.Characters.{glOctet, graphicOn, grOctet, singleOf, Four, Along, singlesOf, pairsOf, settledOf, twosOf, byFormsOf, stretchAt};
+ghost use Rattle.stretch.specs.Characters.{glOctet, graphicOn, grOctet, singleOf, Within, Spans, Four, Along, singlesOf, pairsOf, settledOf, twosOf, byFormsOf, stretchAt};
 use charset::FORM_94;
 use charset::FORM_94X94;
 use charset::FORM_96;
@@ -63,19 +63,29 @@ fn single(left: u8, right: u8, b: u8) -> bool
     gr_octet(right, b)
 }
 
-// Whether the four octets at a place are units by themselves.
-fn four(s: &[u8], at: usize, left: u8, right: u8) -> bool
+// An octet of a span.
+fn within(first: u8, last: u8, b: u8) -> bool
+    ensures { λ r. ⌜ (r ≡ true → Within first last b) ⌝ }
+{
+    if b < first {
+        return false;
+    }
+    b <= last
+}
+
+// Whether the four octets at a place are of a span.
+fn four(s: &[u8], at: usize, first: u8, last: u8) -> bool
     requires { ⌜ at + 4 ≤ length (now s) ⌝ }
-    ensures { λ r. ⌜ (r ≡ true → Four left right (now (s .entry)) at) ⌝ }
+    ensures { λ r. ⌜ (r ≡ true → Four first last (now (s .entry)) at) ⌝ }
 {
     let a = s[at];
     let b = s[at + 1];
     let c = s[at + 1 + 1];
     let d = s[at + 1 + 1 + 1];
-    if single(left, right, a) {
-        if single(left, right, b) {
-            if single(left, right, c) {
-                return single(left, right, d);
+    if within(first, last, a) {
+        if within(first, last, b) {
+            if within(first, last, c) {
+                return within(first, last, d);
             }
             return false;
         }
@@ -84,14 +94,14 @@ fn four(s: &[u8], at: usize, left: u8, right: u8) -> bool
     false
 }
 
-// The place after the units of one octet that start at a place, four by four.
-fn fours(s: &[u8], at: usize, left: u8, right: u8) -> usize
-    requires { ⌜ at ≤ length (now s) ⌝ }
+// The place after the octets of a span that start at a place, four by four.
+fn fours(s: &[u8], at: usize, left: u8, right: u8, first: u8, last: u8) -> usize
+    requires { ⌜ (at ≤ length (now s)) × Spans left right first last ⌝ }
     ensures { λ r. ⌜ Along left right (now (s .entry)) at r ⌝ }
 {
     let mut i = at;
     while 4 <= s.len() - i {
-        if four(s, i, left, right) {
+        if four(s, i, first, last) {
             i += 4;
         } else {
             return i;
@@ -100,16 +110,37 @@ fn fours(s: &[u8], at: usize, left: u8, right: u8) -> usize
     i
 }
 
+// The place after the octets that start at a place, stand on the side of b, and are units by themselves, four by four. The spans are
+// written out so that each loop compares with constants.
+fn same_side(s: &[u8], at: usize, left: u8, right: u8, b: u8) -> usize
+    requires { ⌜ at ≤ length (now s) ⌝ }
+    ensures { λ r. ⌜ Along left right (now (s .entry)) at r ⌝ }
+{
+    if b < 0x80 {
+        if left == FORM_94X94 {
+            return at;
+        }
+        return fours(s, at, left, right, 0x20, 0x7E);
+    }
+    if right == FORM_96 {
+        return fours(s, at, left, right, 0xA0, 0xFF);
+    }
+    if right == FORM_94 {
+        return fours(s, at, left, right, 0xA1, 0xFE);
+    }
+    at
+}
+
 // The number of the units of one octet that start at a place, where the sets in GL and GR are of these forms.
 fn singles(s: &[u8], at: usize, left: u8, right: u8) -> usize
     requires { ⌜ at ≤ length (now s) ⌝ }
     ensures { λ r. ⌜ (r ≡ singlesOf left right (from at (now (s .entry)))) × (at + r ≤ length (now (s .entry))) ⌝ }
 {
-    let mut i = fours(s, at, left, right);
+    let mut i = at;
     while i < s.len() {
         let b = s[i];
         if single(left, right, b) {
-            i += 1;
+            i = same_side(s, i + 1, left, right, b);
         } else {
             return i - at;
         }

@@ -34,20 +34,26 @@ add-d-3 c = search needs
 shared-slice-read-d : tie.Need-shared-slice-read-d
 shared-slice-read-d c = search needs
 
-single-requires : tie.Need-single-requires
-single-requires c κs = search needs
+within-requires : tie.Need-within-requires
+within-requires c κs = search needs
 
-single-requires-2 : tie.Need-single-requires-2
-single-requires-2 c κs = search needs
+within-requires-2 : tie.Need-within-requires-2
+within-requires-2 c κs = search needs
 
-single-requires-3 : tie.Need-single-requires-3
-single-requires-3 c κs = search needs
+within-requires-3 : tie.Need-within-requires-3
+within-requires-3 c κs = search needs
 
-single-requires-4 : tie.Need-single-requires-4
-single-requires-4 c κs = search needs
+within-requires-4 : tie.Need-within-requires-4
+within-requires-4 c κs = search needs
 
 returns : tie.Need-returns
-returns c = λ h. record { first = cc; second = cc; third = cc; fourth = cc }
+returns c = λ h.
+    record {
+      one = c .before .before .before .before .before .before .within .ensures (c .before .before .before .before .before .if1 .taken);
+      two = c .before .before .before .before .within2 .ensures (c .before .before .before .if2 .taken);
+      three = c .before .before .within3 .ensures (c .before .if3 .taken);
+      four = c .within4 .ensures h;
+    }
 
 returns-2 : tie.Need-returns-2
 returns-2 c = λ h. absurd (false≢true h)
@@ -72,10 +78,10 @@ four-spec =
     add-d-2
     add-d-3
     shared-slice-read-d
-    single-requires
-    single-requires-2
-    single-requires-3
-    single-requires-4
+    within-requires
+    within-requires-2
+    within-requires-3
+    within-requires-4
     returns
     returns-2
     returns-3

@@ -1,10 +1,11 @@
 -- `characters::singles` meets its contract. The invariant: only units of one octet stand from `at` to `i`.
 use borrow.Author.Needs.{needs}
+use native.Mathlib.Omega.{arith}
 use mathlib.Core.Path.{sym, _∙_}
 use Prim.Native.Nat.{_-_}
 use lib.ListN.{length}
 use Rattle.stretch.specs.Characters.{Along}
-use Rattle.stretch.proofs.Loops.{along-next, along-last, single-no, single-end}
+use Rattle.stretch.proofs.Loops.{along-first, along-more, along-last, single-no, single-end}
 use Rattle.stretch.proofs.characters.singles.Statement.{statement}
 use Rattle.stretch.proofs.characters.singles.Tie as tie
 
@@ -14,11 +15,8 @@ Inv-loop s at left right i₀ i = Along left right s at i
 abbrev μ-loop : tie.MeasureT-loop
 μ-loop s at left right i₀ i = length s - i
 
-fours-requires : tie.Need-fours-requires Inv-loop μ-loop
-fours-requires c κs = search needs
-
 loop-holds : tie.Need-loop-holds Inv-loop μ-loop
-loop-holds c = c .fours .ensures
+loop-holds c = along-first _ _ _ _ (c .before .pre)
 
 shared-slice-read-b : tie.Need-shared-slice-read-b Inv-loop μ-loop
 shared-slice-read-b c = search needs
@@ -26,14 +24,17 @@ shared-slice-read-b c = search needs
 single-requires : tie.Need-single-requires Inv-loop μ-loop
 single-requires c κs = search needs
 
-add-i : tie.Need-add-i Inv-loop μ-loop
-add-i c = search needs
+add-same-side : tie.Need-add-same-side Inv-loop μ-loop
+add-same-side c = search needs
+
+same-side-requires : tie.Need-same-side-requires Inv-loop μ-loop
+same-side-requires c κs = search needs
 
 loop-less : tie.Need-loop-less Inv-loop μ-loop
-loop-less c = search needs
+loop-less c = omega (arith, c .same-side .ensures .since, c .same-side .ensures .within)
 
 loop-again : tie.Need-loop-again Inv-loop μ-loop
-loop-again c = along-next _ _ _ _ _ (c .before .before .before .before .loop .inv) (c .before .before .before .loop-test .taken) (sym (c .before .single .ensures) ∙ c .if1 .taken)
+loop-again c = along-more _ _ _ _ _ _ (c .before .before .before .before .before .loop .inv) (c .before .before .before .before .loop-test .taken) (sym (c .before .before .single .ensures) ∙ c .before .if1 .taken) (c .same-side .ensures)
 
 sub-result : tie.Need-sub-result Inv-loop μ-loop
 sub-result c = search needs
@@ -53,11 +54,11 @@ singles-spec =
     (tie.spec
     Inv-loop
     μ-loop
-    fours-requires
     loop-holds
     shared-slice-read-b
     single-requires
-    add-i
+    add-same-side
+    same-side-requires
     loop-less
     loop-again
     sub-result
