@@ -1,5 +1,5 @@
--- An element has one octet at least, and no more than are there: shown for each definition from the leaves up, with `n` the octets
--- that the element may have.
+-- An element has one octet at least, and no more than are there, and the fields of its unit that mean nothing are 0: shown for each
+-- definition from the leaves up, with `n` the octets that the element may have.
 use Prim.Native.Nat.{ℕ, suc, _+_, _*_, _-_, _%_, _<_, _≤_, zero-le}
 use native.Mathlib.Omega.{arith}
 use mathlib.Core.Path.{_≡_, refl, sym}
@@ -9,6 +9,7 @@ use lib.Dec.{eqb, leb}
 use lib.ListN.{length, take}
 use borrow.Author.Tests.{leb-true}
 use Rattle.base.specs.Choice.{pick}
+use Rattle.base.specs.Kind as kind
 use Rattle.base.specs.Refusal as refusal
 use Rattle.charset.specs.Charsets.{setOf}
 use Rattle.charset.specs.declared.Side.{Side}
@@ -29,12 +30,22 @@ use Rattle.state.specs.declared.element.Element.the-variants.{End, Refused, Sil
 use Rattle.segment.specs.declared.Name.{Name}
 use Rattle.segment.specs.declared.Name.the-variants.{Ends, Bad}
 
+-- a kind, set and code that a unit may have: "Only a character has a set; only a character and an extended segment have a code."; "Set
+-- and code are 0 where they mean nothing."
+pub data Meant : ℕ → ℕ → ℕ → Type 0 where
+  with-set : {set code : ℕ} → Meant kind.character set code
+  with-none : {k : ℕ} → k < kind.segment → Meant k 0 0
+  with-code : {code : ℕ} → Meant kind.segment 0 code
+
+abbrev pub MeantPart : Part → Type 0
+MeantPart p = Meant (p .kind) (p .set) (p .code)
+
 -- an element of n octets: of at least one and at most n of them, and the end only where n is 0
 pub data Sized (n : ℕ) : Element → Type 0 where
   nothing : n ≡ 0 → Sized n End
   short : {r o : ℕ} → o ≤ n → Sized n (Refused r o)
   silent : {k : ℕ} {st : State} → 1 ≤ k → k ≤ n → Sized n (Silent k st)
-  found : {p : Part} {st : State} → 1 ≤ p .skip + p .octets → p .skip + p .octets ≤ n → Sized n (Found p st)
+  found : {p : Part} {st : State} → 1 ≤ p .skip + p .octets → p .skip + p .octets ≤ n → MeantPart p → Sized n (Found p st)
 
 pub of-end : {n : ℕ} → Sized n End → n ≡ 0
 of-end (nothing h) = h
@@ -46,7 +57,10 @@ pub of-silent : {n k : ℕ} {st : State} → Sized n (Silent k st) → (1 ≤ k)
 of-silent (silent h k) = (h, k)
 
 pub of-found : {n : ℕ} {p : Part} {st : State} → Sized n (Found p st) → (1 ≤ p .skip + p .octets) × (p .skip + p .octets ≤ n)
-of-found (found h k) = (h, k)
+of-found (found h k f) = (h, k)
+
+pub of-meant : {n : ℕ} {p : Part} {st : State} → Sized n (Found p st) → MeantPart p
+of-meant (found h k f) = f
 
 module _ (n : ℕ) where
   either : (t : Bool) (x y : Element) → Sized n x → Sized n y → Sized n (pick t x y)
@@ -63,25 +77,25 @@ module _ (n : ℕ) where
   no : {r : ℕ} → Sized n (refused r)
   no = short zero-le
 
-  unit : (kind set code octets : ℕ) (x : Bool) (st : State) → 1 ≤ octets → octets ≤ n → Sized n (Found (part kind set code 0 octets x) st)
-  unit kind set code octets x st h k = found {p = part kind set code 0 octets x} (omega arith) (omega arith)
+  unit : (k set code octets : ℕ) (x : Bool) (st : State) → Meant k set code → 1 ≤ octets → octets ≤ n → Sized n (Found (part k set code 0 octets x) st)
+  unit k set code octets x st f h g = found {p = part k set code 0 octets x} (omega arith) (omega arith) f
 
   second : (set b : ℕ) (t : List ℕ) (st : State) → 1 + length t ≤ n → Sized n (secondOctetOf set b t st)
   unfolding secondOctetOf
   second set b t st h =
       onward t _
-      (λ d u e. either _ _ _ (either _ _ _ (unit 0 set _ 2 _ st (omega arith) (omega arith)) no) no)
+      (λ d u e. either _ _ _ (either _ _ _ (unit 0 set _ 2 _ st with-set (omega arith) (omega arith)) no) no)
 
   character : (set b : ℕ) (t : List ℕ) (st : State) → 1 + length t ≤ n → Sized n (characterOf set b t st)
   unfolding characterOf
   character set b t st h =
-      let o : Sized n (oneOctetOf set b st) = unit 0 set _ 1 _ st (omega arith) (omega arith) in
+      let o : Sized n (oneOctetOf set b st) = unit 0 set _ 1 _ st with-set (omega arith) (omega arith) in
       either _ _ _ o (either _ _ _ (either _ _ _ (second set b t st h) o) no)
 
   text : (b : ℕ) (t : List ℕ) (st : State) → 1 + length t ≤ n → Sized n (textOf b t st)
   unfolding textOf
   text b t st h =
-      either _ _ _ (either _ _ _ no (unit 1 0 0 1 _ st (omega arith) (omega arith)))
+      either _ _ _ (either _ _ _ no (unit 1 0 0 1 _ st (with-none (omega arith)) (omega arith) (omega arith)))
       (either _ _ _ (character (st .sets .gl) b t st h) (character (st .sets .gr) b t st h))
 
   intermediates : (t : List ℕ) → Sized n (intermediatesOf t)
@@ -125,7 +139,7 @@ module _ (n : ℕ) where
 
   content : (d m : ℕ) (k : Name) (st : State) → 6 + m ≤ n → Sized n (contentOf d m k st)
   unfolding contentOf
-  content d m (Ends k) st h = either _ _ _ (either _ _ _ (found {p = segmentPart d m (m - k - 1)} (omega arith) h) no) no
+  content d m (Ends k) st h = either _ _ _ (either _ _ _ (found {p = segmentPart d m (m - k - 1)} (omega arith) h with-code) no) no
   content d m (Bad k) st h = no
 
   body-by : (e : Bool) (x : Element) → (e ≡ true → Sized n x) → Sized n (pick e x (refused refusal.cut))
@@ -165,18 +179,18 @@ module _ (n : ℕ) where
       (either _ _ _ (multi-octet u st (omega arith))
       (either _ _ _ (extended u st (omega arith)) (either _ _ _ no no))))))
 
-  begin : (kind : ℕ) (t : List ℕ) (st : State) → 2 + length t ≤ n → Sized n (beginOf kind t st)
+  begin : (k : ℕ) (t : List ℕ) (st : State) → k < kind.segment → 2 + length t ≤ n → Sized n (beginOf k t st)
   unfolding beginOf
-  begin kind t st h =
-      onward t _ (λ b u e. either _ _ _ (unit kind 0 0 3 _ st (omega arith) (omega arith)) no)
+  begin k t st f h =
+      onward t _ (λ b u e. either _ _ _ (unit k 0 0 3 _ st (with-none f) (omega arith) (omega arith)) no)
 
   csi : (t : List ℕ) (st : State) → 1 + length t ≤ n → Sized n (csiOf t st)
   unfolding csiOf
   csi t st h =
       onward t _
       (λ b u e.
-      either _ _ _ (unit 6 0 0 2 _ st (omega arith) (omega arith))
-      (either _ _ _ (begin 4 u st (omega arith)) (either _ _ _ (begin 5 u st (omega arith)) no)))
+      either _ _ _ (unit 6 0 0 2 _ st (with-none (omega arith)) (omega arith) (omega arith))
+      (either _ _ _ (begin 4 u st (omega arith) (omega arith)) (either _ _ _ (begin 5 u st (omega arith) (omega arith)) no)))
 
   shape : (t : List ℕ) (st : State) → length t ≡ n → Sized n (shapeOf t st)
   unfolding shapeOf
@@ -185,15 +199,15 @@ module _ (n : ℕ) where
       let g : 1 + length t ≤ n = omega arith in
       either _ _ _ (escape t st g)
       (either _ _ _ (csi t st g)
-      (either _ _ _ (unit 2 0 0 1 _ st (omega arith) (omega arith))
-      (either _ _ _ (unit 3 0 0 1 _ st (omega arith) (omega arith))
+      (either _ _ _ (unit 2 0 0 1 _ st (with-none (omega arith)) (omega arith) (omega arith))
+      (either _ _ _ (unit 3 0 0 1 _ st (with-none (omega arith)) (omega arith) (omega arith))
       (either _ _ _ no
       (either _ _ _ no (either _ _ _ (text b t st g) (either _ _ _ no (text b t st g))))))))
 
   -- the direction rule changes the state alone
   stepped : (p : Part) (st : State) (x : Step) → Sized n (Found p st) → Sized n (steppedOf p (st .sets) x)
   unfolding steppedOf
-  stepped p st (Goes d) (found h k) = found h k
+  stepped p st (Goes d) (found h k f) = found h k f
   stepped p st (Stops r) h = no
 
   directed : (e : Element) → Sized n e → Sized n (directedOf e)
