@@ -16,8 +16,9 @@ use Rattle.charset.specs.declared.Side.{Side}
 use Rattle.charset.specs.declared.Side.the-variants.{GL, GR}
 use Rattle.charset.specs.Charsets.{rowOf, formOf, allowed, mayUse}
 use Rattle.state.specs.State.{Standing, on, state, put, put′, designatedOf, fresh}
-use Rattle.state.specs.Directions.{undirected, writtenOf, deeperOf, begunOf, revertedOf, stepOf}
+use Rattle.state.specs.Directions.{undirected, stepOf}
 use Rattle.element.specs.Element.{steppedOf, directedOf, elementOf}
+use Rattle.element.proofs.Sizes.{Fair, stops, fair}
 use Rattle.state.specs.declared.Sets.{Sets}
 use Rattle.state.specs.declared.directions.Directions.{Directions}
 use Rattle.state.specs.declared.State.{State}
@@ -51,26 +52,6 @@ put-legal p s a l = go (p .side) a
     go : (d : Side) → allowed d (p .set) ≡ true → Legal (put′ d (p .set) s)
     go GL e = record { left = e; right = l .right }
     go GR e = record { left = l .left; right = e }
-
--- ---- a refusal by the direction rule has a number
-
-data Fair : Step → Type 0 where
-  goes : {d : Directions} → Fair (Goes d)
-  stops : {n : ℕ} → 1 ≤ n → Fair (Stops n)
-
-fair-pick : (b : Bool) (x y : Step) → Fair x → Fair y → Fair (pick b x y)
-unfolding pick
-fair-pick true x y h k = h
-fair-pick false x y h k = k
-
-fair : (x : Bool) (kind : ℕ) (d : Directions) → Fair (stepOf x kind d)
-unfolding stepOf writtenOf begunOf deeperOf revertedOf
-fair x kind d =
-    let eight : Fair (Stops 8) = stops {n = 8} (omega arith) in
-    let deeper : (way : ℕ) → Fair (deeperOf way d) = λ way. fair-pick _ _ _ goes (stops {n = 9} (omega arith)) in
-    let begun : (way : ℕ) → Fair (begunOf way d) = λ way. fair-pick _ _ _ (deeper way) (fair-pick _ _ _ eight (deeper way)) in
-    fair-pick _ _ _ (fair-pick _ _ _ (fair-pick _ _ _ eight goes) goes)
-    (fair-pick _ _ _ (begun 0) (fair-pick _ _ _ (begun 1) (fair-pick _ _ _ (fair-pick _ _ _ eight goes) goes)))
 
 -- ---- an element, with the direction rule
 

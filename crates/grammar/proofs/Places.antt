@@ -1,5 +1,5 @@
 -- The elements of a string from a place on, one at a time: each has an octet at least and no more than are left, its unit's fields that
--- mean nothing are 0, and the elements after it are those of the place after it (`ahead-from`). What is shown of all elements of a string
+-- mean nothing are 0, a refusal has a number above 0, and the elements after it are those of the place after it (`ahead-from`). What is shown of all elements of a string
 -- goes by induction on `Ahead`.
 use Prim.Native.Nat.{ℕ, zero, suc, _+_, _-_, _≤_, _<_}
 use native.Mathlib.Omega.{arith}
@@ -13,7 +13,7 @@ use borrow.Author.Tests.{ltb-true, ltb-false}
 use Rattle.base.specs.Choice.{from}
 use Rattle.base.proofs.Ladder.{from-end}
 use Rattle.element.specs.Element.{elementOf, shapeOf, directedOf}
-use Rattle.element.proofs.Sizes.{Sized, MeantPart, element-size, of-refused, of-silent, of-found, of-meant}
+use Rattle.element.proofs.Sizes.{Sized, MeantPart, element-size, of-refused, of-number, of-silent, of-found, of-meant}
 use Rattle.state.specs.declared.State.{State}
 use Rattle.state.specs.declared.element.Part.{Part}
 use Rattle.state.specs.declared.element.Element.{Element}
@@ -68,6 +68,9 @@ module _ (s : List ℕ) (at : ℕ) (st : State) (e : Element) (is : e ≡ elemen
       let g : o ≤ length s - at = of-refused (rw k at sized) in
       omega arith
 
+  pub refused-number : {n o : ℕ} → e ≡ Refused n o → 1 ≤ n
+  refused-number k = of-number (rw k at sized)
+
   pub step-silent : {k : ℕ} {next : State} → e ≡ Silent k next → Step s at k
   step-silent {k} i =
       let z = of-silent (rw i at sized) in
@@ -91,7 +94,7 @@ module _ (s : List ℕ) (at : ℕ) (st : State) (e : Element) (is : e ≡ elemen
 
 pub data Ahead (s : List ℕ) : ℕ → State → List Element → Type 0 where
   ends : {at : ℕ} {st : State} → ahead s at st ≡ End ∷ [] → Ahead s at st (End ∷ [])
-  stops : {at : ℕ} {st : State} {n o : ℕ} → ahead s at st ≡ Refused n o ∷ [] → Ahead s at st (Refused n o ∷ [])
+  stops : {at : ℕ} {st : State} {n o : ℕ} → 1 ≤ n → ahead s at st ≡ Refused n o ∷ [] → Ahead s at st (Refused n o ∷ [])
   passes : {at : ℕ} {st : State} {k : ℕ} {next : State} {es : List Element} → Step s at k → ahead s at st ≡ Silent k next ∷ es
       → Ahead s (at + k) next es → Ahead s at st (Silent k next ∷ es)
   reads : {at : ℕ} {st : State} {p : Part} {next : State} {es : List Element} → Step s at (size p) → MeantPart p → ahead s at st ≡ Found p next ∷ es
@@ -109,7 +112,7 @@ onward s at st after End i =
     subst (Ahead s at st) (sym e) (ends e)
 onward s at st after (Refused r o) i =
     let e = at-refused s at st (Refused r o) i refl in
-    subst (Ahead s at st) (sym e) (stops e)
+    subst (Ahead s at st) (sym e) (stops (refused-number s at st (Refused r o) i refl) e)
 onward s at st after (Silent k next) i =
     let e = at-silent s at st (Silent k next) i refl in
     let t = step-silent s at st (Silent k next) i refl in
