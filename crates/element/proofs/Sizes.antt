@@ -103,7 +103,6 @@ module _ (n : ℕ) where
   no : {r : ℕ} → 1 ≤ r → Sized n (refused r)
   no f = short f zero-le
 
-
   unit : (k set code octets : ℕ) (x : Bool) (st : State) → Meant k set code → 1 ≤ octets → octets ≤ n → Sized n (Found (part k set code 0 octets x) st)
   unit k set code octets x st f h g = found {p = part k set code 0 octets x} (omega arith) (omega arith) f
 

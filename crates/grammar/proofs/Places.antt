@@ -132,3 +132,10 @@ go (suc n) s at st h =
 
 pub ahead-from : (s : List ℕ) (at : ℕ) (st : State) → Ahead s at st (ahead s at st)
 ahead-from s at st = go (length s) s at st (omega arith)
+
+-- they are the elements from the place on
+pub ahead-is : (s : List ℕ) {at : ℕ} {st : State} {es : List Element} → Ahead s at st es → ahead s at st ≡ es
+ahead-is s (ends e) = e
+ahead-is s (stops f e) = e
+ahead-is s (passes t e a) = e
+ahead-is s (reads t m e a) = e

@@ -1,0 +1,106 @@
+-- The list that `read` fills, record by record at a cursor, is the list of its contract (`filled`): by induction on the elements of the
+-- string, the cursor stands where the next unit is that of the elements that are left.
+use Prim.Native.Nat.{ℕ, zero, suc, _+_, _≤_, _<_, zero-le}
+use native.Mathlib.Nat.{not-suc-le-zero, le-of-suc-le-suc}
+use native.Mathlib.Omega.{arith}
+use mathlib.Core.Path.{_≡_, refl, ap, sym, _∙_, subst}
+use mathlib.Core.Bool.{Bool, true, false}
+use mathlib.Core.List.{List, [], _∷_, _++_}
+use lib.Dec.{eqb, ltb}
+use lib.ListN.{length, drop}
+use borrow.Author.Tests.{eqb-true, ltb-false, le-ltb}
+use Rattle.base.specs.Answers.{answer, refusedAt}
+use Rattle.base.specs.Choice.{pick, from}
+use Rattle.base.specs.Limit as limit
+use Rattle.base.specs.Refusal as refusal
+use Rattle.base.specs.declared.Answer.{Answer}
+use Rattle.base.specs.declared.Unit.{Unit as UnitRecord}
+use Rattle.state.specs.State.{fresh}
+use Rattle.state.specs.declared.State.{State}
+use Rattle.state.specs.declared.element.Element.{Element}
+use Rattle.grammar.specs.Reading.{size, elements, answerOf, checkOf}
+use Rattle.grammar.proofs.Places.{Ahead, ends, stops, passes, reads, ahead, ahead-is, ahead-from}
+use Rattle.units.specs.Records.{recordOf, recordsFrom, recordsOf}
+use Rattle.units.specs.Next.{outcomeOf, nextOf}
+use Rattle.units.proofs.Records.{records-count}
+use Rattle.walks.proofs.Filling.{fillFrom}
+use Rattle.listing.specs.declared.Cursor.{Cursor}
+use Rattle.listing.specs.declared.Turn.{Turn}
+use Rattle.listing.specs.Cursor.{storedOf, cursor, first, turn, turnOf, advanceOf}
+use Rattle.listing.specs.Listing.{readAnswer, listAfter}
+
+-- the unit at a cursor, and the cursor after it
+abbrev pub unitAt : List ℕ → Cursor → UnitRecord
+unitAt s c = advanceOf s c .unit
+
+abbrev pub after : List ℕ → Cursor → Cursor
+after s c = advanceOf s c .cursor
+
+abbrev pub filledTo : List ℕ → ℕ → Cursor → List UnitRecord → List UnitRecord
+filledTo s n c ys = fillFrom (unitAt s) (after s) n c ys
+
+module _ (s : List ℕ) (short : length s ≤ limit.octets) where
+  next-ahead : {at : ℕ} {st : State} {es : List Element} → Ahead s at st es → nextOf s at st ≡ outcomeOf at es
+  unfolding nextOf pick
+  next-ahead {at} a = rw (le-ltb limit.octets (length s) short) (ap (outcomeOf at) (ahead-is s a))
+
+  -- a cursor from which the next unit is that of the elements
+  fills : {at : ℕ} {st : State} {es : List Element} → Ahead s at st es → (c : Cursor) → nextOf s (c .place) (c .state) ≡ outcomeOf at es
+      → (ys : List UnitRecord) → length (recordsFrom at es) ≤ length ys
+      → filledTo s (length (recordsFrom at es)) c ys ≡ recordsFrom at es ++ drop (length (recordsFrom at es)) ys
+  unfolding recordsFrom outcomeOf advanceOf turnOf
+  fills (ends e) c h ys k = refl
+  fills (stops f e) c h ys k = refl
+  fills (passes t e a) c h ys k = fills a c h ys k
+  fills (reads t m e a) c h [] k = absurd (not-suc-le-zero k)
+  fills {at} (reads {p = p} {next = next} {es = es} t m e a) c h (y ∷ ys) k =
+      let g : advanceOf s c ≡ turn (recordOf p at) (cursor (at + size p) next) = ap (turnOf c) h in
+      ap (λ (t : Turn). t .unit ∷ filledTo s (length (recordsFrom (at + size p) es)) (t .cursor) ys) g
+      ∙ ap (λ (l : List UnitRecord). recordOf p at ∷ l) (fills a (cursor (at + size p) next) (next-ahead a) ys (le-of-suc-le-suc k))
+
+-- an accepted string has at most 65,535 octets
+short-by : (s : List ℕ) (b : Bool) → ltb limit.octets (length s) ≡ b → pick b (refusedAt refusal.too-long 0) (answerOf 0 0 (elements s 0 fresh)) .number ≡ refusal.accepted → length s ≤ limit.octets
+unfolding pick
+short-by s true e z = absurd (let y : _≡_ {A = ℕ} refusal.too-long refusal.accepted = z in omega arith)
+short-by s false e z = ltb-false limit.octets (length s) e
+
+short : (s : List ℕ) → checkOf s .number ≡ refusal.accepted → length s ≤ limit.octets
+unfolding checkOf
+short s z = short-by s (ltb limit.octets (length s)) refl z
+
+all : (s : List ℕ) (ys : List UnitRecord) → checkOf s .number ≡ refusal.accepted → checkOf s .count ≤ length ys
+    → filledTo s (checkOf s .count) first ys ≡ recordsOf s ++ drop (length (recordsOf s)) ys
+unfolding recordsOf from
+all s ys z h =
+    let a : Ahead s 0 fresh (elements s 0 fresh) = ahead-from s 0 fresh in
+    rw (records-count s z) (fills s (short s z) a first (next-ahead s (short s z) a) ys (rw (records-count s z) at h))
+
+-- the answer, by its tests
+module _ (s : List ℕ) (ys : List UnitRecord) where
+  abbrev given : Bool → Bool → Answer
+  given accepts lacks = pick accepts (pick lacks (answer refusal.no-room 0 (checkOf s .count)) (checkOf s)) (checkOf s)
+
+  filled-by : (x y : Bool) → eqb (checkOf s .number) refusal.accepted ≡ x → ltb (length ys) (checkOf s .count) ≡ y
+      → filledTo s (storedOf (given x y)) first ys
+      ≡ pick (eqb (given x y .number) refusal.accepted) (recordsOf s ++ drop (length (recordsOf s)) ys) ys
+  unfolding storedOf pick
+  filled-by true true e k = refl
+  filled-by true false e k =
+      rw e (all s ys (eqb-true (checkOf s .number) refusal.accepted e) (ltb-false (length ys) (checkOf s .count) k))
+  filled-by false y e k = rw e refl
+
+  pub filled : filledTo s (storedOf (readAnswer s (length ys))) first ys ≡ listAfter s ys
+  unfolding readAnswer listAfter
+  filled = filled-by (eqb (checkOf s .number) refusal.accepted) (ltb (length ys) (checkOf s .count)) refl refl
+
+stores-by : (s : List ℕ) (room : ℕ) (x y : Bool) → eqb (checkOf s .number) refusal.accepted ≡ x → ltb room (checkOf s .count) ≡ y
+    → storedOf (pick x (pick y (answer refusal.no-room 0 (checkOf s .count)) (checkOf s)) (checkOf s)) ≤ room
+unfolding storedOf pick
+stores-by s room true true e k = zero-le
+stores-by s room true false e k = rw e (ltb-false room (checkOf s .count) k)
+stores-by s room false y e k = rw e zero-le
+
+-- no more records are stored than there is room for
+pub stores : (s : List ℕ) (room : ℕ) → storedOf (readAnswer s room) ≤ room
+unfolding readAnswer
+stores s room = stores-by s room (eqb (checkOf s .number) refusal.accepted) (ltb room (checkOf s .count)) refl refl
