@@ -62,7 +62,7 @@ data Right (st : State) (w : List ℕ) : Element → Type 0 where
       → Right st w (Found p (state (st .sets) next))
 
 module _ (st : State) (w : List ℕ) where
-  stepped : {p : Part} (u : TextUnit) (d : Side) (t : List ℕ) → Shown (st .sets) w p u d t → (x : Step) → direct (st .directions) u ≡ x → Fair x
+  stepped : {p : Part} (u : TextUnit) (d : Side) (t : List ℕ) → Shown (st .sets) w p u d t → (x : Step) → direct (st .directions) u ≡ x → Fair (st .directions) x
       → Right st w (steppedOf p (st .sets) x)
   unfolding steppedOf
   stepped u d t h (Goes next) e f = read u d t h e
@@ -74,7 +74,7 @@ module _ (st : State) (w : List ℕ) where
   right (designates d c t h) = passed d c t h
   right (finds {p} u d t h) =
       stepped u d t h (stepOf (p .text) (p .kind) (st .directions)) (ap₂ (λ x k. stepOf x k (st .directions)) (sym (h .text)) (sym (h .kind)))
-      (fair (p .text) (p .kind) (st .directions))
+      (fair (st .directions) (p .text) (p .kind))
 
 -- ---- what is accepted is of the grammar
 

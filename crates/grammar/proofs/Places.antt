@@ -1,5 +1,5 @@
 -- The elements of a string from a place on, one at a time: each has an octet at least and no more than are left, its unit's fields that
--- mean nothing are 0, a refusal has a number above 0, and the elements after it are those of the place after it (`ahead-from`). What is shown of all elements of a string
+-- mean nothing are 0, a refusal has a number above 0, a state that is fit stays fit, and the elements after it are those of the place after it (`ahead-from`). What is shown of all elements of a string
 -- goes by induction on `Ahead`.
 use Prim.Native.Nat.{ℕ, zero, suc, _+_, _-_, _≤_, _<_}
 use native.Mathlib.Omega.{arith}
@@ -13,7 +13,7 @@ use borrow.Author.Tests.{ltb-true, ltb-false}
 use Rattle.base.specs.Choice.{from}
 use Rattle.base.proofs.Ladder.{from-end}
 use Rattle.element.specs.Element.{elementOf, shapeOf, directedOf}
-use Rattle.element.proofs.Sizes.{Sized, MeantPart, element-size, of-refused, of-number, of-silent, of-found, of-meant}
+use Rattle.element.proofs.Sizes.{Sized, Fit, MeantPart, element-size, of-refused, of-number, of-silent, fit-silent, of-found, of-meant, fit-found}
 use Rattle.state.specs.declared.State.{State}
 use Rattle.state.specs.declared.element.Part.{Part}
 use Rattle.state.specs.declared.element.Element.{Element}
@@ -37,14 +37,15 @@ of-nothing : (st : State) → elementOf [] st ≡ End
 unfolding shapeOf directedOf
 of-nothing st = refl
 
--- an element of k octets at a place of s
-pub record Step (s : List ℕ) (at k : ℕ) : Type 0 where
+-- an element of k octets at a place of s, between two states
+pub record Step (s : List ℕ) (at k : ℕ) (st next : State) : Type 0 where
   pub some : 1 ≤ k
   pub fits : at + k ≤ length s
+  pub fit : Fit st → Fit next
 
 -- the element at a place, and those after it
 module _ (s : List ℕ) (at : ℕ) (st : State) (e : Element) (is : e ≡ elementOf (from at s) st) where
-  sized : Sized (length s - at) e
+  sized : Sized (length s - at) st e
   sized = rw (is, ← (from-length s at)) (element-size (from at s) st)
 
   pub at-end : e ≡ End → ahead s at st ≡ End ∷ []
@@ -71,19 +72,19 @@ module _ (s : List ℕ) (at : ℕ) (st : State) (e : Element) (is : e ≡ elemen
   pub refused-number : {n o : ℕ} → e ≡ Refused n o → 1 ≤ n
   refused-number k = of-number (rw k at sized)
 
-  pub step-silent : {k : ℕ} {next : State} → e ≡ Silent k next → Step s at k
+  pub step-silent : {k : ℕ} {next : State} → e ≡ Silent k next → Step s at k st next
   step-silent {k} i =
       let z = of-silent (rw i at sized) in
-      record { some = z .0; fits = omega arith }
+      record { some = z .0; fits = omega arith; fit = fit-silent (rw i at sized) }
 
   pub at-silent : {k : ℕ} {next : State} → e ≡ Silent k next → ahead s at st ≡ Silent k next ∷ ahead s (at + k) next
   at-silent {k} {next} i =
       rw (← (from-from s at k)) (elements-silent (from at s) st (step-silent i .some) (sym is ∙ i))
 
-  pub step-found : {p : Part} {next : State} → e ≡ Found p next → Step s at (size p)
+  pub step-found : {p : Part} {next : State} → e ≡ Found p next → Step s at (size p) st next
   step-found {p} i =
       let z = of-found (rw i at sized) in
-      record { some = z .0; fits = omega arith }
+      record { some = z .0; fits = omega arith; fit = fit-found (rw i at sized) }
 
   pub at-found : {p : Part} {next : State} → e ≡ Found p next → ahead s at st ≡ Found p next ∷ ahead s (at + size p) next
   at-found {p} {next} i =
@@ -95,9 +96,9 @@ module _ (s : List ℕ) (at : ℕ) (st : State) (e : Element) (is : e ≡ elemen
 pub data Ahead (s : List ℕ) : ℕ → State → List Element → Type 0 where
   ends : {at : ℕ} {st : State} → ahead s at st ≡ End ∷ [] → Ahead s at st (End ∷ [])
   stops : {at : ℕ} {st : State} {n o : ℕ} → 1 ≤ n → ahead s at st ≡ Refused n o ∷ [] → Ahead s at st (Refused n o ∷ [])
-  passes : {at : ℕ} {st : State} {k : ℕ} {next : State} {es : List Element} → Step s at k → ahead s at st ≡ Silent k next ∷ es
+  passes : {at : ℕ} {st : State} {k : ℕ} {next : State} {es : List Element} → Step s at k st next → ahead s at st ≡ Silent k next ∷ es
       → Ahead s (at + k) next es → Ahead s at st (Silent k next ∷ es)
-  reads : {at : ℕ} {st : State} {p : Part} {next : State} {es : List Element} → Step s at (size p) → MeantPart p → ahead s at st ≡ Found p next ∷ es
+  reads : {at : ℕ} {st : State} {p : Part} {next : State} {es : List Element} → Step s at (size p) st next → MeantPart p → ahead s at st ≡ Found p next ∷ es
       → Ahead s (at + size p) next es → Ahead s at st (Found p next ∷ es)
 
 past : (s : List ℕ) (at : ℕ) (st : State) → length s ≤ at → ahead s at st ≡ End ∷ []
@@ -105,7 +106,7 @@ unfolding elements
 past s at st h = rw (from-end s at h)
 
 -- the element at a place, where those after it are known
-onward : (s : List ℕ) (at : ℕ) (st : State) → ((k : ℕ) (next : State) → Step s at k → Ahead s (at + k) next (ahead s (at + k) next))
+onward : (s : List ℕ) (at : ℕ) (st : State) → ((k : ℕ) (next : State) → Step s at k st next → Ahead s (at + k) next (ahead s (at + k) next))
     → (e : Element) → e ≡ elementOf (from at s) st → Ahead s at st (ahead s at st)
 onward s at st after End i =
     let e = at-end s at st End i refl in

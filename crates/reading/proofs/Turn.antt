@@ -40,7 +40,7 @@ unfolding from
 from-length s at = length-drop at s
 
 module _ (s : List ℕ) (at count : ℕ) (st : State) (e : Element) (is : e ≡ elementOf (from at s) st) (h : Head s at count st) where
-  size : Sized (length s - at) e
+  size : Sized (length s - at) st e
   size = rw (is, ← (from-length s at)) (element-size (from at s) st)
 
   pub turn-end : e ≡ End → answer 0 at count ≡ whole s

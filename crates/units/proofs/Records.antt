@@ -27,7 +27,7 @@ use Rattle.state.specs.declared.element.Element.the-variants.{End, Refused, Sil
 use Rattle.grammar.specs.Units.{TextUnit, unitOf}
 use Rattle.grammar.specs.Reading.{size, elements, answerOf, checkOf, unitAt, unitsOf, readingOf}
 use Rattle.grammar.specs.Records.{readable, unitRead, prepend, listReading}
-use Rattle.grammar.proofs.Places.{Step, ahead, Ahead, ends, stops, passes, reads, ahead-from}
+use Rattle.grammar.proofs.Places.{ahead, Ahead, ends, stops, passes, reads, ahead-from}
 use Rattle.units.specs.Records.{recordOf, recordsFrom, recordsOf}
 
 -- ---- their reading
@@ -41,10 +41,10 @@ readable-by s k set code start n (with-none f) h =
     rw (ne-eqb k kind.segment (λ (e : k ≡ kind.segment). omega (arith, f, e)), lt-ltb k kind.segment f)
 readable-by s k set code start n with-code h = le-leb (start + n) (length s) h
 
-unit-read : (s : List ℕ) (at : ℕ) (p : Part) → Step s at (size p) → MeantPart p → unitRead s (recordOf p at) ≡ some (unitAt p (drop at s))
+unit-read : (s : List ℕ) (at : ℕ) (p : Part) → at + size p ≤ length s → MeantPart p → unitRead s (recordOf p at) ≡ some (unitAt p (drop at s))
 unfolding unitRead unitAt
-unit-read s at p t m =
-    rw (readable-by s (p .kind) (p .set) (p .code) (at + p .skip) (p .octets) m (omega (arith, t .fits)), drop-drop (p .skip) at s)
+unit-read s at p h m =
+    rw (readable-by s (p .kind) (p .set) (p .code) (at + p .skip) (p .octets) m (omega (arith, h)), drop-drop (p .skip) at s)
 
 reads-from : (s : List ℕ) {at : ℕ} {st : State} {es : List Element} → Ahead s at st es
     → listReading s (recordsFrom at es) ≡ some (unitsOf (drop at s) es)
@@ -52,7 +52,7 @@ unfolding listReading recordsFrom unitsOf
 reads-from s (ends e) = refl
 reads-from s (stops f e) = refl
 reads-from s {at} (passes {k = k} t e a) = rw (drop-drop k at s) (reads-from s a)
-reads-from s {at} (reads {p = p} t m e a) = rw (unit-read s at p t m, drop-drop (size p) at s, reads-from s a)
+reads-from s {at} (reads {p = p} t m e a) = rw (unit-read s at p (t .fits) m, drop-drop (size p) at s, reads-from s a)
 
 start : (s : List ℕ) → Ahead s 0 fresh (elements s 0 fresh)
 unfolding from
