@@ -10,20 +10,20 @@ use state::State;
 use units::Outcome;
 
 // Where the next unit is looked for: a place of the string, and the state there.
-pub struct Cursor {
+struct Cursor {
     pub place: usize,
     pub state: State,
 }
 
 // A unit, and the cursor after it.
-pub struct Turn {
+struct Turn {
     pub cursor: Cursor,
     pub unit: Unit,
 }
 
 impl Cursor {
     // The start of a string.
-    pub fn first() -> Cursor
+    fn first() -> Cursor
         ensures { λ r. ⌜ r ≡ first ⌝ }
     {
         Cursor {
@@ -52,7 +52,7 @@ pub fn answer(s: &[u8], room: usize) -> Answer
 }
 
 // How many records an answer stores.
-pub fn stored(a: Answer) -> usize
+fn stored(a: Answer) -> usize
     ensures { λ r. ⌜ r ≡ storedOf a ⌝ }
 {
     if a.number == refusal::ACCEPTED {
@@ -62,7 +62,7 @@ pub fn stored(a: Answer) -> usize
 }
 
 // The unit that comes next, and the cursor after it.
-pub fn advance(s: &[u8], c: Cursor) -> Turn
+fn advance(s: &[u8], c: Cursor) -> Turn
     ensures { λ r. ⌜ r ≡ advanceOf (now (s .entry)) c ⌝ }
 {
     let state = c.state;
