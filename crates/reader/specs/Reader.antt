@@ -13,7 +13,7 @@ abbrev pub opened : RefT (List ℕ) → Reader
 opened s = record { octets = s; place = 0; count = 0; state = fresh }
 
 -- the step of a reader
-unfoldable pub stepOf : Reader → Stepped
+abbrev pub stepOf : Reader → Stepped
 stepOf r = stepAt (now (r .octets)) (r .place) (r .count) (r .state)
 
 abbrev pub itemAt : Reader → Item
