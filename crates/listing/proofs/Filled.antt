@@ -10,7 +10,7 @@ use lib.Dec.{eqb, ltb}
 use lib.ListN.{length, drop}
 use borrow.Author.Tests.{eqb-true, ltb-false, le-ltb}
 use Rattle.base.specs.Answers.{answer, refusedAt}
-use Rattle.base.specs.Choice.{pick, from}
+use Rattle.base.specs.Choice.{pick}
 use Rattle.base.specs.Limit as limit
 use Rattle.base.specs.Refusal as refusal
 use Rattle.base.specs.declared.Answer.{Answer}
@@ -19,10 +19,10 @@ use Rattle.state.specs.State.{fresh}
 use Rattle.state.specs.declared.State.{State}
 use Rattle.state.specs.declared.element.Element.{Element}
 use Rattle.grammar.specs.Reading.{size, elements, answerOf, checkOf}
-use Rattle.grammar.proofs.Places.{Ahead, ends, stops, passes, reads, ahead, ahead-is, ahead-from}
+use Rattle.grammar.proofs.Places.{Ahead, ends, stops, passes, reads}
 use Rattle.units.specs.Records.{recordOf, recordsFrom, recordsOf}
 use Rattle.units.specs.Next.{outcomeOf, nextOf}
-use Rattle.units.proofs.Records.{records-count}
+use Rattle.units.proofs.Records.{from-start, records-count, next-ahead}
 use Rattle.walks.proofs.Filling.{fillFrom}
 use Rattle.listing.specs.declared.Cursor.{Cursor}
 use Rattle.listing.specs.declared.Turn.{Turn}
@@ -40,10 +40,6 @@ abbrev pub filledTo : List ℕ → ℕ → Cursor → List UnitRecord → List U
 filledTo s n c ys = fillFrom (unitAt s) (after s) n c ys
 
 module _ (s : List ℕ) (short : length s ≤ limit.octets) where
-  next-ahead : {at : ℕ} {st : State} {es : List Element} → Ahead s at st es → nextOf s at st ≡ outcomeOf at es
-  unfolding nextOf pick
-  next-ahead {at} a = rw (le-ltb limit.octets (length s) short) (ap (outcomeOf at) (ahead-is s a))
-
   -- a cursor from which the next unit is that of the elements
   fills : {at : ℕ} {st : State} {es : List Element} → Ahead s at st es → (c : Cursor) → nextOf s (c .place) (c .state) ≡ outcomeOf at es
       → (ys : List UnitRecord) → length (recordsFrom at es) ≤ length ys
@@ -56,7 +52,7 @@ module _ (s : List ℕ) (short : length s ≤ limit.octets) where
   fills {at} (reads {p = p} {next = next} {es = es} t m e a) c h (y ∷ ys) k =
       let g : advanceOf s c ≡ turn (recordOf p at) (cursor (at + size p) next) = ap (turnOf c) h in
       ap (λ (t : Turn). t .unit ∷ filledTo s (length (recordsFrom (at + size p) es)) (t .cursor) ys) g
-      ∙ ap (λ (l : List UnitRecord). recordOf p at ∷ l) (fills a (cursor (at + size p) next) (next-ahead a) ys (le-of-suc-le-suc k))
+      ∙ ap (λ (l : List UnitRecord). recordOf p at ∷ l) (fills a (cursor (at + size p) next) (next-ahead s short a) ys (le-of-suc-le-suc k))
 
 -- an accepted string has at most 65,535 octets
 short-by : (s : List ℕ) (b : Bool) → ltb limit.octets (length s) ≡ b → pick b (refusedAt refusal.too-long 0) (answerOf 0 0 (elements s 0 fresh)) .number ≡ refusal.accepted → length s ≤ limit.octets
@@ -70,9 +66,9 @@ short s z = short-by s (ltb limit.octets (length s)) refl z
 
 all : (s : List ℕ) (ys : List UnitRecord) → checkOf s .number ≡ refusal.accepted → checkOf s .count ≤ length ys
     → filledTo s (checkOf s .count) first ys ≡ recordsOf s ++ drop (length (recordsOf s)) ys
-unfolding recordsOf from
+unfolding recordsOf
 all s ys z h =
-    let a : Ahead s 0 fresh (elements s 0 fresh) = ahead-from s 0 fresh in
+    let a : Ahead s 0 fresh (elements s 0 fresh) = from-start s in
     rw (records-count s z) (fills s (short s z) a first (next-ahead s (short s z) a) ys (rw (records-count s z) at h))
 
 -- the answer, by its tests

@@ -11,7 +11,7 @@ use mathlib.Core.Option.{Option, none, some}
 use lib.Dec.{eqb, leb, ltb}
 use lib.ListN.{length, take, drop}
 use lib.Seq.{drop-drop}
-use borrow.Author.Tests.{lt-ltb, le-leb, ltb-false, ne-eqb}
+use borrow.Author.Tests.{lt-ltb, le-ltb, le-leb, ne-eqb}
 use Rattle.base.specs.Answers.{answer, refusedAt}
 use Rattle.base.specs.Choice.{pick, from}
 use Rattle.base.specs.Kind as kind
@@ -27,8 +27,9 @@ use Rattle.state.specs.declared.element.Element.the-variants.{End, Refused, Sil
 use Rattle.grammar.specs.Units.{TextUnit, unitOf}
 use Rattle.grammar.specs.Reading.{size, elements, answerOf, checkOf, unitAt, unitsOf, readingOf}
 use Rattle.grammar.specs.Records.{readable, unitRead, prepend, listReading}
-use Rattle.grammar.proofs.Places.{ahead, Ahead, ends, stops, passes, reads, ahead-from}
+use Rattle.grammar.proofs.Places.{Ahead, ends, stops, passes, reads, ahead-from, ahead-is}
 use Rattle.units.specs.Records.{recordOf, recordsFrom, recordsOf}
+use Rattle.units.specs.Next.{outcomeOf, nextOf}
 
 -- ---- their reading
 
@@ -54,14 +55,14 @@ reads-from s (stops f e) = refl
 reads-from s {at} (passes {k = k} t e a) = rw (drop-drop k at s) (reads-from s a)
 reads-from s {at} (reads {p = p} t m e a) = rw (unit-read s at p (t .fits) m, drop-drop (size p) at s, reads-from s a)
 
-start : (s : List ℕ) → Ahead s 0 fresh (elements s 0 fresh)
+pub from-start : (s : List ℕ) → Ahead s 0 fresh (elements s 0 fresh)
 unfolding from
-start s = ahead-from s 0 fresh
+from-start s = ahead-from s 0 fresh
 
 -- "A string reads as a list where their two readings are equal."
 pub records-read : (s : List ℕ) → listReading s (recordsOf s) ≡ some (readingOf s)
 unfolding recordsOf readingOf
-records-read s = reads-from s (start s)
+records-read s = reads-from s (from-start s)
 
 -- ---- their fields
 
@@ -79,7 +80,7 @@ meant-from s {at} (reads {p = p} t m e a) = one-more {r = recordOf p at} m (mean
 -- "Set and code are 0 where they mean nothing."
 pub records-meant : (s : List ℕ) → AllMeant (recordsOf s)
 unfolding recordsOf
-records-meant s = meant-from s (start s)
+records-meant s = meant-from s (from-start s)
 
 -- ---- their number
 
@@ -97,9 +98,24 @@ counts-by : (s : List ℕ) (b : Bool) → pick b (refusedAt refusal.too-long 0) 
     → pick b (refusedAt refusal.too-long 0) (answerOf 0 0 (elements s 0 fresh)) .count ≡ length (recordsFrom 0 (elements s 0 fresh))
 unfolding pick
 counts-by s true z = absurd (let y : _≡_ {A = ℕ} refusal.too-long refusal.accepted = z in omega arith)
-counts-by s false z = omega (arith, counts-from s 0 (start s) z)
+counts-by s false z = omega (arith, counts-from s 0 (from-start s) z)
 
 -- "Accepted is 0, the input's length, and the units"
 pub records-count : (s : List ℕ) → checkOf s .number ≡ refusal.accepted → checkOf s .count ≡ length (recordsOf s)
 unfolding checkOf recordsOf
 records-count s z = counts-by s (ltb limit.octets (length s)) z
+
+-- ---- the next of them
+
+-- the next unit of a string that is not too long
+pub next-ahead : (s : List ℕ) → length s ≤ limit.octets → {at : ℕ} {st : State} {es : List Element} → Ahead s at st es → nextOf s at st ≡ outcomeOf at es
+unfolding nextOf pick
+next-ahead s short {at} a = rw (le-ltb limit.octets (length s) short) (ap (outcomeOf at) (ahead-is s a))
+
+-- each has an octet at least
+pub few-records : (s : List ℕ) {at : ℕ} {st : State} {es : List Element} → Ahead s at st es → at ≤ length s → at + length (recordsFrom at es) ≤ length s
+unfolding recordsFrom
+few-records s (ends e) h = omega arith
+few-records s (stops f e) h = omega arith
+few-records s (passes t e a) h = omega (arith, few-records s a (t .fits), t .some)
+few-records s (reads t m e a) h = omega (arith, few-records s a (t .fits), t .some)
