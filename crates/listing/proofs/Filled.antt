@@ -6,10 +6,10 @@ use native.Mathlib.Omega.{arith}
 use mathlib.Core.Path.{_≡_, refl, ap, sym, _∙_, subst}
 use mathlib.Core.Bool.{Bool, true, false}
 use mathlib.Core.List.{List, [], _∷_, _++_}
-use lib.Dec.{eqb, ltb}
+use lib.Dec.{ltb}
 use lib.ListN.{length, drop}
-use borrow.Author.Tests.{eqb-true, ltb-false, le-ltb}
-use Rattle.base.specs.Answers.{answer, refusedAt}
+use borrow.Author.Tests.{eq-eqb, ne-eqb, ltb-false}
+use Rattle.base.specs.Answers.{refusedAt}
 use Rattle.base.specs.Choice.{pick}
 use Rattle.base.specs.Limit as limit
 use Rattle.base.specs.Refusal as refusal
@@ -22,12 +22,13 @@ use Rattle.grammar.specs.Reading.{size, elements, answerOf, checkOf}
 use Rattle.grammar.proofs.Places.{Ahead, ends, stops, passes, reads}
 use Rattle.units.specs.Records.{recordOf, recordsFrom, recordsOf}
 use Rattle.units.specs.Next.{outcomeOf, nextOf}
-use Rattle.units.proofs.Records.{from-start, records-count, next-ahead}
+use Rattle.units.proofs.Records.{from-start, next-ahead}
 use Rattle.walks.proofs.Filling.{fillFrom}
 use Rattle.listing.specs.declared.Cursor.{Cursor}
 use Rattle.listing.specs.declared.Turn.{Turn}
 use Rattle.listing.specs.Cursor.{storedOf, cursor, first, turn, turnOf, advanceOf}
 use Rattle.listing.specs.Listing.{readAnswer, listAfter}
+use Rattle.listing.proofs.Cases.{Case, refuses, lacks, accepts, read-cases}
 
 -- the unit at a cursor, and the cursor after it
 abbrev pub unitAt : List ℕ → Cursor → UnitRecord
@@ -64,39 +65,36 @@ short : (s : List ℕ) → checkOf s .number ≡ refusal.accepted → length s �
 unfolding checkOf
 short s z = short-by s (ltb limit.octets (length s)) refl z
 
-all : (s : List ℕ) (ys : List UnitRecord) → checkOf s .number ≡ refusal.accepted → checkOf s .count ≤ length ys
-    → filledTo s (checkOf s .count) first ys ≡ recordsOf s ++ drop (length (recordsOf s)) ys
+all : (s : List ℕ) (ys : List UnitRecord) → checkOf s .number ≡ refusal.accepted → length (recordsOf s) ≤ length ys
+    → filledTo s (length (recordsOf s)) first ys ≡ recordsOf s ++ drop (length (recordsOf s)) ys
 unfolding recordsOf
-all s ys z h =
-    let a : Ahead s 0 fresh (elements s 0 fresh) = from-start s in
-    rw (records-count s z) (fills s (short s z) a first (next-ahead s (short s z) a) ys (rw (records-count s z) at h))
+all s ys z h = fills s (short s z) (from-start s) first (next-ahead s (short s z) (from-start s)) ys h
 
--- the answer, by its tests
-module _ (s : List ℕ) (ys : List UnitRecord) where
-  abbrev given : Bool → Bool → Answer
-  given accepts lacks = pick accepts (pick lacks (answer refusal.no-room 0 (checkOf s .count)) (checkOf s)) (checkOf s)
-
-  filled-by : (x y : Bool) → eqb (checkOf s .number) refusal.accepted ≡ x → ltb (length ys) (checkOf s .count) ≡ y
-      → filledTo s (storedOf (given x y)) first ys
-      ≡ pick (eqb (given x y .number) refusal.accepted) (recordsOf s ++ drop (length (recordsOf s)) ys) ys
-  unfolding storedOf pick
-  filled-by true true e k = refl
-  filled-by true false e k =
-      rw e (all s ys (eqb-true (checkOf s .number) refusal.accepted e) (ltb-false (length ys) (checkOf s .count) k))
-  filled-by false y e k = rw e refl
-
-  pub filled : filledTo s (storedOf (readAnswer s (length ys))) first ys ≡ listAfter s ys
-  unfolding readAnswer listAfter
-  filled = filled-by (eqb (checkOf s .number) refusal.accepted) (ltb (length ys) (checkOf s .count)) refl refl
-
-stores-by : (s : List ℕ) (room : ℕ) (x y : Bool) → eqb (checkOf s .number) refusal.accepted ≡ x → ltb room (checkOf s .count) ≡ y
-    → storedOf (pick x (pick y (answer refusal.no-room 0 (checkOf s .count)) (checkOf s)) (checkOf s)) ≤ room
+-- an answer that refuses stores none
+none-stored : (a : Answer) → (a .number ≡ refusal.accepted → ⊥) → storedOf a ≡ 0
 unfolding storedOf pick
-stores-by s room true true e k = zero-le
-stores-by s room true false e k = rw e (ltb-false room (checkOf s .count) k)
-stores-by s room false y e k = rw e zero-le
+none-stored a n = rw (ne-eqb (a .number) refusal.accepted n)
+
+all-stored : (a : Answer) → a .number ≡ refusal.accepted → storedOf a ≡ a .count
+unfolding storedOf pick
+all-stored a e = rw (eq-eqb (a .number) refusal.accepted e)
+
+module _ {s : List ℕ} {ys : List UnitRecord} where
+  stores-by : {a : Answer} {l : List UnitRecord} → Case s ys a l → storedOf a ≤ length ys
+  unfolding storedOf pick
+  stores-by (refuses f) = rw (none-stored (checkOf s) f) zero-le
+  stores-by (lacks g h) = zero-le
+  stores-by (accepts g c h) = rw (all-stored (checkOf s) g, c) h
+
+  filled-by : {a : Answer} {l : List UnitRecord} → Case s ys a l → filledTo s (storedOf a) first ys ≡ l
+  unfolding storedOf pick
+  filled-by (refuses f) = rw (none-stored (checkOf s) f)
+  filled-by (lacks g h) = refl
+  filled-by (accepts g c h) = rw (all-stored (checkOf s) g, c) (all s ys g h)
 
 -- no more records are stored than there is room for
-pub stores : (s : List ℕ) (room : ℕ) → storedOf (readAnswer s room) ≤ room
-unfolding readAnswer
-stores s room = stores-by s room (eqb (checkOf s .number) refusal.accepted) (ltb room (checkOf s .count)) refl refl
+pub stores : (s : List ℕ) (ys : List UnitRecord) → storedOf (readAnswer s (length ys)) ≤ length ys
+stores s ys = stores-by (read-cases s ys)
+
+pub filled : (s : List ℕ) (ys : List UnitRecord) → filledTo s (storedOf (readAnswer s (length ys))) first ys ≡ listAfter s ys
+filled s ys = filled-by (read-cases s ys)

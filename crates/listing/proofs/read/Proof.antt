@@ -234,7 +234,7 @@ module _ {M : Type 1} (𝓤 : URA M) (H : Heap 𝓤) (A : Atoms 𝓤) (W : Given
         move ! (27 ∷ 28 ∷ 25 ∷ 26 ∷ 23 ∷ 24 ∷ 21 ∷ 22 ∷ 19 ∷ 20 ∷ 17 ∷ 18 ∷ 15 ∷ 16 ∷ 13 ∷ 14 ∷ 11 ∷ 12 ∷ 9 ∷ 10 ∷ 7 ∷ 8 ∷ 5 ∷ 6 ∷ []) $ frees-all ! En $ by ! (exits is-ans))
       where
         inside : (i : Turn) → Holds (ltb (i .0) n) → i .0 < length ys
-        inside i less = lt-of-lt-of-le (ltb→lt (i .0) n less) (stores xs (length ys))
+        inside i less = lt-of-lt-of-le (ltb→lt (i .0) n less) (stores xs ys)
 
         within : (i : Turn) → Holds (ltb (i .0) n) → i .0 < length (got (i .0))
         within i less = subst (λ (m : ℕ). i .0 < m) (sym (same (i .0))) (inside i less)
