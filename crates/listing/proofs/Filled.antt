@@ -61,7 +61,7 @@ unfolding pick
 short-by s true e z = absurd (let y : _≡_ {A = ℕ} refusal.too-long refusal.accepted = z in omega arith)
 short-by s false e z = ltb-false limit.octets (length s) e
 
-short : (s : List ℕ) → checkOf s .number ≡ refusal.accepted → length s ≤ limit.octets
+pub short : (s : List ℕ) → checkOf s .number ≡ refusal.accepted → length s ≤ limit.octets
 unfolding checkOf
 short s z = short-by s (ltb limit.octets (length s)) refl z
 

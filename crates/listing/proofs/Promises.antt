@@ -23,6 +23,11 @@ module _ {s : List ℕ} {old : List UnitRecord} where
   stored (lacks g h) z = absurd (let y : _≡_ {A = ℕ} refusal.no-room refusal.accepted = z in omega arith)
   stored (accepts g c h) z = rw c (take-append-seam (recordsOf s) (drop (length (recordsOf s)) old))
 
+  string-accepted : {a : Answer} {l : List UnitRecord} → Case s old a l → a .number ≡ refusal.accepted → checkOf s .number ≡ refusal.accepted
+  string-accepted (refuses f) z = z
+  string-accepted (lacks g h) z = g
+  string-accepted (accepts g c h) z = z
+
   rest : {a : Answer} {l : List UnitRecord} → Case s old a l → a .number ≡ refusal.accepted → drop (a .count) l ≡ drop (a .count) old
   rest (refuses f) z = absurd (f z)
   rest (lacks g h) z = absurd (let y : _≡_ {A = ℕ} refusal.no-room refusal.accepted = z in omega arith)
@@ -44,6 +49,10 @@ module _ (s : List ℕ) (old : List UnitRecord) where
   -- "The caller lends a list of unit records, filled from its first place"
   pub list-stored : a .number ≡ refusal.accepted → storedRecords ≡ recordsOf s
   list-stored z = stored (read-cases s old) z
+
+  -- what it accepts `check` accepts
+  pub checked : a .number ≡ refusal.accepted → checkOf s .number ≡ refusal.accepted
+  checked z = string-accepted (read-cases s old) z
 
   -- "A string reads as a list where their two readings are equal."
   pub list-reads : a .number ≡ refusal.accepted → listReading s storedRecords ≡ some (readingOf s)
