@@ -7,11 +7,10 @@ use mathlib.Core.Path.{_≡_, refl, ap, sym, _∙_, subst}
 use mathlib.Core.Bool.{Bool, true, false}
 use mathlib.Core.List.{List, [], _∷_}
 use lib.Dec.{ltb}
-use lib.ListN.{length, drop, length-drop}
-use lib.Seq.{drop-drop}
+use lib.ListN.{length}
 use borrow.Author.Tests.{ltb-true, ltb-false}
 use Rattle.base.specs.Choice.{from}
-use Rattle.base.proofs.Ladder.{from-end}
+use Rattle.base.proofs.Ladder.{from-end, from-from, from-length}
 use Rattle.element.specs.Element.{elementOf, shapeOf, directedOf}
 use Rattle.element.proofs.Sizes.{Sized, Fit, MeantPart, element-size, of-refused, of-number, of-silent, fit-silent, of-found, of-meant, fit-found}
 use Rattle.state.specs.declared.State.{State}
@@ -24,14 +23,6 @@ use Rattle.grammar.proofs.Elements.{elements-end, elements-refused, ele
 -- the elements from a place on, under a state
 abbrev pub ahead : List ℕ → ℕ → State → List Element
 ahead s at st = elements (from at s) 0 st
-
-pub from-from : (s : List ℕ) (at k : ℕ) → drop k (from at s) ≡ from (at + k) s
-unfolding from
-from-from s at k = drop-drop k at s
-
-from-length : (s : List ℕ) (at : ℕ) → length (from at s) ≡ length s - at
-unfolding from
-from-length s at = length-drop at s
 
 of-nothing : (st : State) → elementOf [] st ≡ End
 unfolding shapeOf directedOf
