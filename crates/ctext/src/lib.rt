@@ -5,6 +5,8 @@ ghost use Rattle.runs.specs.Runs.{runAt};
 use base::Answer;
 use runs::Bounds;
 
+pub mod stepping;
+
 // Whether a string is accepted, and what of it is refused.
 #[no_mangle]
 pub extern "C" fn ctext_check(s: &[u8]) -> Answer

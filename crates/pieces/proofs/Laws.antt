@@ -11,6 +11,7 @@ use lib.Dec.{eqb, ltb}
 use lib.ListN.{length, getD}
 use lib.Seq.{getD-drop}
 use borrow.Author.Tests.{ltb-true, ltb-false, lt-ltb, le-ltb, eqb-true}
+use Rattle.base.proofs.Ladder.{from-from}
 use Rattle.base.specs.Choice.{pick, from}
 use Rattle.base.specs.Kind as kind
 use Rattle.charset.specs.declared.Side.{Side}
@@ -31,7 +32,7 @@ use Rattle.pieces.specs.Pieces.{noPiece, sideKindOf, pieceKindOf, pieceO
 use Rattle.pieces.specs.declared.Piece.{Piece}
 use Rattle.pieces.proofs.Joined.{Followed, same, over, other, followed, joined-by}
 use Rattle.pieces.proofs.Partition.{EndToEnd, none, more, tiled}
-use Rattle.pieces.proofs.Step.{Step, stops, goes, step, elementAt, rest, from-from, silent-fits, found-fits}
+use Rattle.pieces.proofs.Step.{Step, stops, goes, step, elementAt, rest, silent-fits, found-fits}
 use Rattle.pieces.proofs.Text.{text-side, text-keeps}
 
 -- ---- longest
@@ -169,9 +170,9 @@ module _ (s : List ℕ) where
   state-after at st End is i n = absurd (n refl)
   state-after at st (Refused r o) is i n = absurd (n refl)
   state-after at st (Silent k next) is i n =
-      past at st next k i _ (ap (λ (x : List Element). stateAt at st x i) (elements-silent (from at s) st (silent-fits s at st is .0) is)) (ap (λ (x : List ℕ). elements x 0 next) (from-from s at st k))
+      past at st next k i _ (ap (λ (x : List Element). stateAt at st x i) (elements-silent (from at s) st (silent-fits s at st is .0) is)) (ap (λ (x : List ℕ). elements x 0 next) (from-from s at k))
   state-after at st (Found p next) is i n =
-      past at st next (size p) i _ (ap (λ (x : List Element). stateAt at st x i) (elements-found (from at s) st (found-fits s at st is .0) is)) (ap (λ (x : List ℕ). elements x 0 next) (from-from s at st (size p)))
+      past at st next (size p) i _ (ap (λ (x : List Element). stateAt at st x i) (elements-found (from at s) st (found-fits s at st is .0) is)) (ap (λ (x : List ℕ). elements x 0 next) (from-from s at (size p)))
 
   -- at the place itself
   first-state : (at : ℕ) (st : State) (e : Element) → elementAt s at st ≡ e → stateFrom s at st at ≡ st

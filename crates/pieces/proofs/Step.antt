@@ -5,10 +5,9 @@ use native.Mathlib.Omega.{arith}
 use mathlib.Core.Path.{_≡_, refl, ap, sym, _∙_}
 use mathlib.Core.Bool.{Bool, true, false}
 use mathlib.Core.List.{List, []}
-use lib.ListN.{length, getD, drop, length-drop}
-use lib.Seq.{drop-drop}
+use lib.ListN.{length, getD}
 use Rattle.base.specs.Choice.{from}
-use Rattle.base.proofs.Ladder.{ended}
+use Rattle.base.proofs.Ladder.{ended, from-from, from-length}
 use Rattle.element.specs.Element.{shapeOf, directedOf, elementOf}
 use Rattle.element.proofs.Sizes.{Sized, element-size, of-end, of-silent, of-found}
 use Rattle.grammar.specs.Reading.{size, elements, noneRefused}
@@ -40,16 +39,8 @@ pub data Step (s : List ℕ) (at : ℕ) (st : State) : Piece → Type 0 where
   goes : {q : Piece} → q .start ≡ at → at < q .end → q .end ≤ length s → rest s at st ≡ joined q (rest s (q .end) (q .state)) → noRefusal s at st ≡ noRefusal s (q .end) (q .state) → Step s at st q
 
 module _ (s : List ℕ) (at : ℕ) (st : State) where
-  pub from-from : (k : ℕ) → drop k (from at s) ≡ from (at + k) s
-  unfolding from
-  from-from k = drop-drop k at s
-
-  from-length : length (from at s) ≡ length s - at
-  unfolding from
-  from-length = length-drop at s
-
-  sized : (e : Element) → elementAt s at st ≡ e → Sized (length s - at) e
-  sized e is = rw (← is, ← from-length) (element-size (from at s) st)
+  sized : (e : Element) → elementAt s at st ≡ e → Sized (length s - at) st e
+  sized e is = rw (← is, ← (from-length s at)) (element-size (from at s) st)
 
   -- an element's octets lie in the string
   pub silent-fits : {k : ℕ} {next : State} → elementAt s at st ≡ Silent k next → (1 ≤ k) × (at + k ≤ length s)
@@ -71,10 +62,10 @@ module _ (s : List ℕ) (at : ℕ) (st : State) where
       absurd (omega arith))
   step-by (Silent k next) is =
       let z = silent-fits is in
-      goes {q = piece at (at + k) pieceKind.control next} refl (omega arith) (z .1) (rw (← (from-from k)) (ap (piecesFrom s at) (elements-silent (from at s) st (z .0) is))) (rw (← (from-from k)) (ap noneRefused (elements-silent (from at s) st (z .0) is)))
+      goes {q = piece at (at + k) pieceKind.control next} refl (omega arith) (z .1) (rw (← (from-from s at k)) (ap (piecesFrom s at) (elements-silent (from at s) st (z .0) is))) (rw (← (from-from s at k)) (ap noneRefused (elements-silent (from at s) st (z .0) is)))
   step-by (Found p next) is =
       let z = found-fits is in
-      goes {q = piece at (at + size p) (pieceKindOf (p .kind) (getD s at 0)) next} refl (omega arith) (z .1) (rw (← (from-from (size p))) (ap (piecesFrom s at) (elements-found (from at s) st (z .0) is))) (rw (← (from-from (size p))) (ap noneRefused (elements-found (from at s) st (z .0) is)))
+      goes {q = piece at (at + size p) (pieceKindOf (p .kind) (getD s at 0)) next} refl (omega arith) (z .1) (rw (← (from-from s at (size p))) (ap (piecesFrom s at) (elements-found (from at s) st (z .0) is))) (rw (← (from-from s at (size p))) (ap noneRefused (elements-found (from at s) st (z .0) is)))
 
   pub step : Step s at st (pieceAt s at st)
   step = step-by (elementAt s at st) refl
