@@ -196,8 +196,9 @@ static inline const uint8_t *ctext_run_octets(const uint8_t *s, ctext_run_bounds
    count   the units handed out; it stays at the largest number
    gl, gr  the sets in force
    depth   how many directions are open
-   marked  whether a direction mark was read: 0 is no, anything else yes
-   texted  whether a character or space was read: the same */
+   marked  whether a direction mark was read
+   texted  whether a character or space was read
+   Of marked and texted 0 is no and anything else yes; a step gives 0 or 1. */
 typedef struct ctext_reader {
     uint64_t levels;
     size_t place;
@@ -209,9 +210,9 @@ typedef struct ctext_reader {
     uint8_t texted;
 } ctext_reader;
 
-/* given 1: unit is the next unit, and reader stands after it;
-   given 0: there is none, answer says why, and reader stands where it stood.
-   The other one of unit and answer means nothing. */
+/* given 1: unit is the next unit, and reader stands after it; answer is all 0.
+   given 0: there is none, answer says why, and reader stands where it stood;
+   unit is all 0. */
 typedef struct ctext_step {
     ctext_reader reader;
     ctext_answer answer;
@@ -222,13 +223,13 @@ typedef struct ctext_step {
 /* A reader at the start of a string, in the fresh state. */
 ctext_reader ctext_open(void);
 
-/* One step over the n octets at s, always the same ones. From ctext_open it
-   hands out exactly the units before the end or the offending element; the
-   answer is then that of ctext_check, and every further step repeats it. A
-   string over 65,535 octets gives CTEXT_TOO_LONG and no unit. A reader made by
-   hand is read on by the rules from where it stands; one whose place lies past
-   the string, whose sets stand on a side they may not use, or whose depth is
-   over 16, gives CTEXT_BAD_UNIT at 0. Reads s, touches nothing. */
+/* One step over the n octets at s. A reader of ctext_open, taken on over the
+   same octets, hands out exactly the units before the end or the offending
+   element; the answer is then that of ctext_check, and every further step
+   repeats it. A string over 65,535 octets gives CTEXT_TOO_LONG and no unit. A
+   reader made by hand is read on by the rules from where it stands; one whose
+   place lies past the string, with a set on a side it may not use, or whose
+   depth is over 16, gives CTEXT_BAD_UNIT at 0. Reads s, touches nothing. */
 ctext_step ctext_next(const uint8_t *s, size_t n, ctext_reader reader);
 
 /* ---- Writing ----------------------------------------------------------- */

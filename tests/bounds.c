@@ -212,6 +212,54 @@ static void try_elements(unsigned most, const uint8_t *before, size_t n)
     }
 }
 
+/* Readers made by hand, good and bad ones. */
+static void try_readers(void)
+{
+    static const uint8_t s[] = { 0x09, 0x09 };
+    unsigned gl, gr, depth, place;
+    for (gl = 0; gl < 20; gl++)
+        for (gr = 0; gr < 20; gr++)
+            for (depth = 0; depth < 20; depth++)
+                for (place = 0; place < 4; place++) {
+                    int good = (gl == 0 || gl == 2 || (gl >= 12 && gl <= 14))
+                        && (gr == 1 || (gr >= 3 && gr <= 14)) && depth <= CTEXT_MOST_OPEN
+                        && place <= sizeof s;
+                    ctext_reader r = ctext_open();
+                    ctext_step step;
+                    r.gl = (uint8_t)gl;
+                    r.gr = (uint8_t)gr;
+                    r.depth = (uint8_t)depth;
+                    r.place = place;
+                    r.count = SIZE_MAX;
+                    r.levels = UINT64_MAX;
+                    step = ctext_next(s, sizeof s, r);
+                    if (good && place < sizeof s)
+                        expect(step.given == 1 && step.unit.kind == CTEXT_KIND_TAB
+                                   && step.reader.place == place + 1
+                                   && step.reader.count == SIZE_MAX,
+                               "a good reader", s, 2);
+                    else
+                        expect(step.given == 0 && step.reader.place == place
+                                   && step.answer.number == (good ? 0 : CTEXT_BAD_UNIT)
+                                   && step.answer.place == (good ? place : 0),
+                               "a bad reader, or one at the end", s, 2);
+                }
+}
+
+/* Sixteen directions open, and a seventeenth. */
+static void try_depth(void)
+{
+    uint8_t s[3 * (CTEXT_MOST_OPEN + 1)];
+    ctext_answer a;
+    size_t i;
+    for (i = 0; i < sizeof s; i++)
+        s[i] = (uint8_t)"\x9B\x32\x5D"[i % 3];
+    a = ctext_check(s, sizeof s - 3);
+    expect(a.number == CTEXT_ACCEPTED && a.count == CTEXT_MOST_OPEN, "sixteen open", s, 3);
+    a = ctext_check(s, sizeof s);
+    expect(a.number == CTEXT_TOO_DEEP && a.place == sizeof s - 3, "seventeen open", s, 3);
+}
+
 /* The longest string and list, and one more. */
 static void try_limits(void)
 {
@@ -243,6 +291,8 @@ int main(int argc, char **argv)
     if (most > 5)
         most = 5;
     try_elements(most, NULL, 0);
+    try_readers();
+    try_depth();
     try_limits();
     printf("bounds: %lu strings, %lu accepted, %lu failures\n", strings, accepted, failures);
     return failures != 0;
