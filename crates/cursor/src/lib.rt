@@ -1,0 +1,196 @@
+// The unit at a cursor of an accepted string: text is read by its octets alone, since nothing of it can be refused.
+ghost use mathlib.Core.Path.{_≡_};
+ghost use Prim.Native.Nat.{_+_, _<_, _^_};
+ghost use lib.ListN.{length};
+ghost use Rattle.base.specs.Choice.{from};
+ghost use Rattle.cursor.specs.Cursor.{first, elementTurn, textOctet, setAt, unlessSpace, kindAt, textedOf, single, double, doubleOf, advanceOf};
+use base::Unit;
+use base::kind;
+use charset::NO_SET;
+use state::State;
+use units::Outcome;
+
+// The first of the sets of two octets.
+const FIRST_DOUBLE: u8 = 12;
+
+// Where the next unit is looked for: a place of the string, and the state there.
+pub struct Cursor {
+    pub place: usize,
+    pub state: State,
+}
+
+// A unit, and the cursor after it.
+pub struct Turn {
+    pub cursor: Cursor,
+    pub unit: Unit,
+}
+
+impl Cursor {
+    // The start of a string.
+    pub fn first() -> Cursor
+        ensures { λ r. ⌜ r ≡ first ⌝ }
+    {
+        Cursor {
+            place: 0,
+            state: State::FRESH,
+        }
+    }
+}
+
+// The unit of the next element that gives one, and the cursor after it.
+fn by_element(s: &[u8], c: Cursor) -> Turn
+    ensures { λ r. ⌜ r ≡ elementTurn (now (s .entry)) c ⌝ }
+{
+    let state = c.state;
+    let o = units::next_unit(s, c.place, state);
+    match o {
+        Outcome::Gives(unit, place, next) => Turn {
+            cursor: Cursor {
+                place: place,
+                state: next,
+            },
+            unit: unit,
+        },
+        Outcome::Stops(number, place) => Turn {
+            cursor: c,
+            unit: Unit {
+                kind: 0,
+                set: 0,
+                code: 0,
+                start: 0,
+                length: 0,
+            },
+        },
+    }
+}
+
+// A GL octet of a character or space, or a GR octet.
+fn text_octet(b: u8) -> bool
+    ensures { λ r. ⌜ r ≡ textOctet b ⌝ }
+{
+    if b < 0x20 {
+        return false;
+    }
+    if b < 0x7F {
+        return true;
+    }
+    0xA0 <= b
+}
+
+// The set on the side of an octet.
+fn set_at(b: u8, state: State) -> u8
+    ensures { λ r. ⌜ r ≡ setAt b state ⌝ }
+{
+    let sets = state.sets;
+    if b < 0x80 {
+        return sets.gl;
+    }
+    sets.gr
+}
+
+// A space has neither set nor code.
+fn unless_space(b: u8, x: u8) -> u8
+    ensures { λ r. ⌜ r ≡ unlessSpace b x ⌝ }
+{
+    if b == 0x20 {
+        return 0;
+    }
+    x
+}
+
+fn kind_at(b: u8) -> u8
+    ensures { λ r. ⌜ r ≡ kindAt b ⌝ }
+{
+    if b == 0x20 {
+        return kind::SPACE;
+    }
+    kind::CHARACTER
+}
+
+// The state after text.
+fn texted(state: State) -> State
+    ensures { λ r. ⌜ r ≡ textedOf state ⌝ }
+{
+    let mut directions = state.directions;
+    directions.texted = true;
+    state.directed(directions)
+}
+
+// A character or space of one octet.
+fn one_octet(at: usize, b: u8, state: State) -> Turn
+    requires { ⌜ at + 1 < 2 ^ 64 ⌝ }
+    ensures { λ r. ⌜ r ≡ single at b state ⌝ }
+{
+    Turn {
+        cursor: Cursor {
+            place: at + 1,
+            state: texted(state),
+        },
+        unit: Unit {
+            kind: kind_at(b),
+            set: unless_space(b, set_at(b, state)),
+            code: unless_space(b, b % 128) as u16,
+            start: (at % 0x1_0000_0000) as u32,
+            length: 1,
+        },
+    }
+}
+
+// A character of two octets.
+fn two_octets(at: usize, b: u8, d: u8, state: State) -> Turn
+    requires { ⌜ at + 2 < 2 ^ 64 ⌝ }
+    ensures { λ r. ⌜ r ≡ double at b d state ⌝ }
+{
+    Turn {
+        cursor: Cursor {
+            place: at + 2,
+            state: texted(state),
+        },
+        unit: Unit {
+            kind: kind::CHARACTER,
+            set: set_at(b, state),
+            code: (b % 128) as u16 * 256 + (d % 128) as u16,
+            start: (at % 0x1_0000_0000) as u32,
+            length: 2,
+        },
+    }
+}
+
+// A character of two octets that begins with b, where its set has two.
+fn or_two(s: &[u8], c: Cursor, b: u8) -> Turn
+    requires { ⌜ c .place < length (now s) ⌝ }
+    ensures { λ r. ⌜ r ≡ doubleOf (c .place) b (from (c .place + 1) (now (s .entry))) (c .state) (elementTurn (now (s .entry)) c) ⌝ }
+{
+    let at = c.place;
+    let state = c.state;
+    if s.len() <= at + 1 {
+        return by_element(s, c);
+    }
+    let d = s[at + 1];
+    if b == 0x20 {
+        return by_element(s, c);
+    }
+    if set_at(b, state) < NO_SET {
+        return two_octets(at, b, d, state);
+    }
+    by_element(s, c)
+}
+
+// The unit at a cursor of an accepted string, and the cursor after it: text by its octets alone, and any other unit by its element.
+pub fn advance(s: &[u8], c: Cursor) -> Turn
+    ensures { λ r. ⌜ r ≡ advanceOf (now (s .entry)) c ⌝ }
+{
+    let at = c.place;
+    let state = c.state;
+    if s.len() <= at {
+        return by_element(s, c);
+    }
+    let b = s[at];
+    if text_octet(b) {
+        if set_at(b, state) < FIRST_DOUBLE {
+            return one_octet(at, b, state);
+        }
+        return or_two(s, c, b);
+    }
+    by_element(s, c)
+}
