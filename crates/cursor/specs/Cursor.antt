@@ -8,8 +8,12 @@ use Rattle.base.specs.Choice.{pick, from}
 use Rattle.base.specs.Kind as kind
 use Rattle.base.specs.declared.Unit.{Unit as UnitRecord}
 use Rattle.state.specs.Directions.{directions}
-use Rattle.state.specs.State.{state, fresh}
-use Rattle.state.specs.declared.State.{State}
+use Rattle.state.specs.State.{state, fresh, on, put}
+use Rattle.state.specs.declared.Sets.{Sets}
+use Rattle.state.specs.declared.directions.Directions.{Directions}
+use Rattle.stretch.specs.Designation.{designationAt}
+use Rattle.stretch.specs.declared.designation.Designation.{Designation}
+use Rattle.charset.specs.Charsets.{no-set}
 use Rattle.units.specs.Records.{blank}
 use Rattle.units.specs.Next.{nextOf}
 use Rattle.units.specs.declared.Outcome.{Outcome}
@@ -17,37 +21,48 @@ use Rattle.units.specs.declared.Outcome.the-variants.{Gives, Stops}
 use Rattle.cursor.specs.declared.Cursor.{Cursor}
 use Rattle.cursor.specs.declared.Turn.{Turn}
 
-abbrev pub cursor : ℕ → State → Cursor
-cursor place st = record { place = place; state = st }
+abbrev pub cursor : ℕ → Sets → Cursor
+cursor place sets = record { place = place; sets = sets }
 
 -- the start of a string
 abbrev pub first : Cursor
-first = cursor 0 fresh
+first = cursor 0 (fresh .sets)
 
 abbrev pub turn : UnitRecord → Cursor → Turn
 turn u c = record { unit = u; cursor = c }
 
--- ---- any element: the next unit and the cursor after it; where there is none, nothing and the same cursor
+-- ---- any element
+
+-- directions that refuse nothing: one is open, and more may be opened
+abbrev pub free : Directions
+free = directions 1 0 true true
+
+-- the next unit and the cursor after it; where there is none, nothing and the same cursor
 unfoldable pub turnOf : Cursor → Outcome → Turn
-turnOf c (Gives u place st) = turn u (cursor place st)
+turnOf c (Gives u place st) = turn u (cursor place (st .sets))
 turnOf c (Stops n place) = turn blank c
 
-abbrev pub elementTurn : List ℕ → Cursor → Turn
-elementTurn s c = turnOf c (nextOf s (c .place) (c .state))
+unfoldable pub elementTurn : List ℕ → Cursor → Turn
+elementTurn s c = turnOf c (nextOf s (c .place) (state (c .sets) free))
+
+-- ---- designations
+
+-- the cursor after a designation, where one is found
+unfoldable pub placedOf : Cursor → Designation → Cursor
+placedOf c d = pick (ltb (d .set) no-set) (cursor (c .place + d .octets) (put (on (d .side) (d .set)) (c .sets))) c
+
+unfoldable pub passedOf : List ℕ → Cursor → Cursor
+passedOf s c = placedOf c (designationAt (from (c .place) s))
 
 -- ---- text, by its octets alone, since the string is accepted
-
--- the state after text
-abbrev pub textedOf : State → State
-textedOf st = state (st .sets) (directions (st .directions .depth) (st .directions .levels) (st .directions .marked) true)
 
 -- a GL octet of a character or space, or a GR octet
 unfoldable pub textOctet : ℕ → Bool
 textOctet b = pick (ltb b 0x20) false (pick (ltb b 0x7F) true (leb 0xA0 b))
 
 -- the set on the side of an octet
-unfoldable pub setAt : ℕ → State → ℕ
-setAt b st = pick (ltb b 0x80) (st .sets .gl) (st .sets .gr)
+unfoldable pub setAt : ℕ → Sets → ℕ
+setAt b s = pick (ltb b 0x80) (s .gl) (s .gr)
 
 -- x, and 0 for a space
 unfoldable pub unlessSpace : ℕ → ℕ → ℕ
@@ -57,36 +72,41 @@ unfoldable pub kindAt : ℕ → ℕ
 kindAt b = pick (eqb b 0x20) kind.space kind.character
 
 -- a character or space of one octet
-abbrev pub single : ℕ → ℕ → State → Turn
-single at b st =
-    turn (record { kind = kindAt b; set = unlessSpace b (setAt b st); code = unlessSpace b (b % 128); start = at % 2 ^ 32; length = 1 })
-    (cursor (at + 1) (textedOf st))
+abbrev pub single : ℕ → ℕ → Sets → Turn
+single at b s =
+    turn (record { kind = kindAt b; set = unlessSpace b (setAt b s); code = unlessSpace b (b % 128); start = at % 2 ^ 32; length = 1 })
+    (cursor (at + 1) s)
 
 -- a character of two octets
-abbrev pub double : ℕ → ℕ → ℕ → State → Turn
-double at b d st =
-    turn (record { kind = kind.character; set = setAt b st; code = b % 128 * 256 + d % 128; start = at % 2 ^ 32; length = 2 })
-    (cursor (at + 2) (textedOf st))
+abbrev pub double : ℕ → ℕ → ℕ → Sets → Turn
+double at b d s =
+    turn (record { kind = kind.character; set = setAt b s; code = b % 128 * 256 + d % 128; start = at % 2 ^ 32; length = 2 })
+    (cursor (at + 2) s)
 
--- the first of the two-octet sets, and the number that no set has
+-- the first of the two-octet sets
 abbrev pub first-double : ℕ
 first-double = 12
 
-abbrev pub no-set : ℕ
-no-set = 15
-
 -- the octets t after b, where the set on its side has two octets
-unfoldable pub doubleOf : ℕ → ℕ → List ℕ → State → Turn → Turn
-doubleOf at b [] st other = other
-doubleOf at b (d ∷ t) st other =
-    pick (eqb b 0x20) other (pick (ltb (setAt b st) no-set) (double at b d st) other)
+unfoldable pub doubleOf : ℕ → ℕ → List ℕ → Sets → Turn → Turn
+doubleOf at b [] s other = other
+doubleOf at b (d ∷ t) s other =
+    pick (eqb b 0x20) other (pick (ltb (setAt b s) no-set) (double at b d s) other)
 
 -- the octets at a place
-unfoldable pub quickOf : ℕ → List ℕ → State → Turn → Turn
-quickOf at [] st other = other
-quickOf at (b ∷ t) st other =
-    pick (textOctet b) (pick (ltb (setAt b st) first-double) (single at b st) (doubleOf at b t st other)) other
+unfoldable pub quickOf : ℕ → List ℕ → Sets → Turn → Turn
+quickOf at [] s other = other
+quickOf at (b ∷ t) s other =
+    pick (textOctet b) (pick (ltb (setAt b s) first-double) (single at b s) (doubleOf at b t s other)) other
 
--- the unit at a cursor
-unfoldable pub advanceOf : List ℕ → Cursor → Turn
-advanceOf s c = quickOf (c .place) (from (c .place) s) (c .state) (elementTurn s c)
+unfoldable pub textTurn : List ℕ → Cursor → Turn
+textTurn s c = quickOf (c .place) (from (c .place) s) (c .sets) (elementTurn s c)
+
+-- ---- the unit at a cursor: up to two designations are passed where there is an escape sequence
+
+unfoldable pub advanceAt : List ℕ → List ℕ → Cursor → Turn
+advanceAt [] s c = textTurn s c
+advanceAt (b ∷ t) s c = pick (eqb b 0x1B) (textTurn s (passedOf s (passedOf s c))) (textTurn s c)
+
+abbrev pub advanceOf : List ℕ → Cursor → Turn
+advanceOf s c = advanceAt (from (c .place) s) s c

@@ -1,22 +1,36 @@
-// The unit at a cursor of an accepted string: text is read by its octets alone, since nothing of it can be refused.
+// The unit at a cursor of an accepted string. Since nothing of it can be refused, text is read by its octets alone, and no directions are
+// kept.
 ghost use mathlib.Core.Path.{_≡_};
 ghost use Prim.Native.Nat.{_+_, _<_, _^_};
 ghost use lib.ListN.{length};
 ghost use Rattle.base.specs.Choice.{from};
-ghost use Rattle.cursor.specs.Cursor.{first, elementTurn, textOctet, setAt, unlessSpace, kindAt, textedOf, single, double, doubleOf, advanceOf};
+ghost use Rattle.cursor.specs.Cursor.{first, elementTurn, textOctet, setAt, unlessSpace, kindAt, single, double, doubleOf, textTurn, placedOf, passedOf, advanceOf};
+ghost use Rattle.stretch.specs.Designation.{designationAt};
 use base::Unit;
 use base::kind;
 use charset::NO_SET;
+use state::Sets;
 use state::State;
+use state::directions::Directions;
+use stretch::designation::Designation;
+use stretch::designation::designation_at;
 use units::Outcome;
 
 // The first of the sets of two octets.
 const FIRST_DOUBLE: u8 = 12;
 
-// Where the next unit is looked for: a place of the string, and the state there.
+// Directions under which nothing is refused: one is open, and more may be opened.
+const FREE: Directions = Directions {
+    levels: 0,
+    depth: 1,
+    marked: true,
+    texted: true,
+};
+
+// Where the next unit is looked for: a place of the string, and the sets in force there.
 pub struct Cursor {
     pub place: usize,
-    pub state: State,
+    pub sets: Sets,
 }
 
 // A unit, and the cursor after it.
@@ -32,7 +46,7 @@ impl Cursor {
     {
         Cursor {
             place: 0,
-            state: State::FRESH,
+            sets: Sets { gl: 0, gr: 3 },
         }
     }
 }
@@ -41,16 +55,23 @@ impl Cursor {
 fn by_element(s: &[u8], c: Cursor) -> Turn
     ensures { λ r. ⌜ r ≡ elementTurn (now (s .entry)) c ⌝ }
 {
-    let state = c.state;
+    let sets = c.sets;
+    let state = State {
+        directions: FREE,
+        sets: sets,
+    };
     let o = units::next_unit(s, c.place, state);
     match o {
-        Outcome::Gives(unit, place, next) => Turn {
-            cursor: Cursor {
-                place: place,
-                state: next,
-            },
-            unit: unit,
-        },
+        Outcome::Gives(unit, place, next) => {
+            let after = next.sets;
+            Turn {
+                cursor: Cursor {
+                    place: place,
+                    sets: after,
+                },
+                unit: unit,
+            }
+        }
         Outcome::Stops(number, place) => Turn {
             cursor: c,
             unit: Unit {
@@ -78,10 +99,9 @@ fn text_octet(b: u8) -> bool
 }
 
 // The set on the side of an octet.
-fn set_at(b: u8, state: State) -> u8
-    ensures { λ r. ⌜ r ≡ setAt b state ⌝ }
+fn set_at(b: u8, sets: Sets) -> u8
+    ensures { λ r. ⌜ r ≡ setAt b sets ⌝ }
 {
-    let sets = state.sets;
     if b < 0x80 {
         return sets.gl;
     }
@@ -107,28 +127,19 @@ fn kind_at(b: u8) -> u8
     kind::CHARACTER
 }
 
-// The state after text.
-fn texted(state: State) -> State
-    ensures { λ r. ⌜ r ≡ textedOf state ⌝ }
-{
-    let mut directions = state.directions;
-    directions.texted = true;
-    state.directed(directions)
-}
-
 // A character or space of one octet.
-fn one_octet(at: usize, b: u8, state: State) -> Turn
+fn one_octet(at: usize, b: u8, sets: Sets) -> Turn
     requires { ⌜ at + 1 < 2 ^ 64 ⌝ }
-    ensures { λ r. ⌜ r ≡ single at b state ⌝ }
+    ensures { λ r. ⌜ r ≡ single at b sets ⌝ }
 {
     Turn {
         cursor: Cursor {
             place: at + 1,
-            state: texted(state),
+            sets: sets,
         },
         unit: Unit {
             kind: kind_at(b),
-            set: unless_space(b, set_at(b, state)),
+            set: unless_space(b, set_at(b, sets)),
             code: unless_space(b, b % 128) as u16,
             start: (at % 0x1_0000_0000) as u32,
             length: 1,
@@ -137,18 +148,18 @@ fn one_octet(at: usize, b: u8, state: State) -> Turn
 }
 
 // A character of two octets.
-fn two_octets(at: usize, b: u8, d: u8, state: State) -> Turn
+fn two_octets(at: usize, b: u8, d: u8, sets: Sets) -> Turn
     requires { ⌜ at + 2 < 2 ^ 64 ⌝ }
-    ensures { λ r. ⌜ r ≡ double at b d state ⌝ }
+    ensures { λ r. ⌜ r ≡ double at b d sets ⌝ }
 {
     Turn {
         cursor: Cursor {
             place: at + 2,
-            state: texted(state),
+            sets: sets,
         },
         unit: Unit {
             kind: kind::CHARACTER,
-            set: set_at(b, state),
+            set: set_at(b, sets),
             code: (b % 128) as u16 * 256 + (d % 128) as u16,
             start: (at % 0x1_0000_0000) as u32,
             length: 2,
@@ -159,10 +170,10 @@ fn two_octets(at: usize, b: u8, d: u8, state: State) -> Turn
 // A character of two octets that begins with b, where its set has two.
 fn or_two(s: &[u8], c: Cursor, b: u8) -> Turn
     requires { ⌜ c .place < length (now s) ⌝ }
-    ensures { λ r. ⌜ r ≡ doubleOf (c .place) b (from (c .place + 1) (now (s .entry))) (c .state) (elementTurn (now (s .entry)) c) ⌝ }
+    ensures { λ r. ⌜ r ≡ doubleOf (c .place) b (from (c .place + 1) (now (s .entry))) (c .sets) (elementTurn (now (s .entry)) c) ⌝ }
 {
     let at = c.place;
-    let state = c.state;
+    let sets = c.sets;
     if s.len() <= at + 1 {
         return by_element(s, c);
     }
@@ -170,27 +181,72 @@ fn or_two(s: &[u8], c: Cursor, b: u8) -> Turn
     if b == 0x20 {
         return by_element(s, c);
     }
-    if set_at(b, state) < NO_SET {
-        return two_octets(at, b, d, state);
+    if set_at(b, sets) < NO_SET {
+        return two_octets(at, b, d, sets);
     }
     by_element(s, c)
 }
 
-// The unit at a cursor of an accepted string, and the cursor after it: text by its octets alone, and any other unit by its element.
-pub fn advance(s: &[u8], c: Cursor) -> Turn
-    ensures { λ r. ⌜ r ≡ advanceOf (now (s .entry)) c ⌝ }
+// The unit at a cursor: text by its octets alone, and any other unit by its element.
+fn text_or_element(s: &[u8], c: Cursor) -> Turn
+    ensures { λ r. ⌜ r ≡ textTurn (now (s .entry)) c ⌝ }
 {
     let at = c.place;
-    let state = c.state;
+    let sets = c.sets;
     if s.len() <= at {
         return by_element(s, c);
     }
     let b = s[at];
     if text_octet(b) {
-        if set_at(b, state) < FIRST_DOUBLE {
-            return one_octet(at, b, state);
+        if set_at(b, sets) < FIRST_DOUBLE {
+            return one_octet(at, b, sets);
         }
         return or_two(s, c, b);
     }
     by_element(s, c)
+}
+
+// The cursor after a designation that was found.
+fn placed(s: &[u8], c: Cursor, d: Designation) -> Cursor
+    requires { ⌜ d ≡ designationAt (from (c .place) (now s)) ⌝ }
+    ensures { λ r. ⌜ r ≡ placedOf c d ⌝ }
+{
+    let set = d.set;
+    if set < NO_SET {
+        let side = d.side;
+        let sets = c.sets;
+        let state = State {
+            directions: FREE,
+            sets: sets,
+        };
+        let next = state.designated(side, set);
+        let after = next.sets;
+        return Cursor {
+            place: c.place + d.octets,
+            sets: after,
+        };
+    }
+    c
+}
+
+// The cursor after a designation, where one stands at it.
+fn passed(s: &[u8], c: Cursor) -> Cursor
+    ensures { λ r. ⌜ r ≡ passedOf (now (s .entry)) c ⌝ }
+{
+    let d = designation_at(s, c.place);
+    placed(s, c, d)
+}
+
+// The unit at a cursor of an accepted string, and the cursor after it.
+pub fn advance(s: &[u8], c: Cursor) -> Turn
+    ensures { λ r. ⌜ r ≡ advanceOf (now (s .entry)) c ⌝ }
+{
+    let at = c.place;
+    if s.len() <= at {
+        return text_or_element(s, c);
+    }
+    if s[at] == 0x1B {
+        return text_or_element(s, passed(s, passed(s, c)));
+    }
+    text_or_element(s, c)
 }

@@ -1,59 +1,53 @@
 -- `cursor::advance` meets its contract. Assumes nothing.
-use Rattle.cursor.specs.Cursor.{quickOf, advanceOf}
+use mathlib.Core.Path.{_≡_, ap, _∙_}
+use Rattle.cursor.specs.Cursor.{textTurn, passedOf, advanceAt}
 use Rattle.cursor.proofs.Rules.{reading}
 use borrow.Author.Needs.{needs}
 use Rattle.cursor.proofs.advance.Statement.{statement}
 use Rattle.cursor.proofs.advance.Tie as tie
 
-by-element-requires : tie.Need-by-element-requires
-by-element-requires c κs = search needs
+text-or-element-requires : tie.Need-text-or-element-requires
+text-or-element-requires c κs = search needs
 
 returns : tie.Need-returns
-unfolding quickOf advanceOf
+unfolding advanceAt
 returns c = search reading depth 9
 
-shared-slice-read-b : tie.Need-shared-slice-read-b
-shared-slice-read-b c = search needs
+shared-slice-read-if2 : tie.Need-shared-slice-read-if2
+shared-slice-read-if2 c = search needs
 
-text-octet-requires : tie.Need-text-octet-requires
-text-octet-requires c κs = search needs
+passed-requires : tie.Need-passed-requires
+passed-requires c κs = search needs
 
-set-at-requires : tie.Need-set-at-requires
-set-at-requires c κs = search needs
+passed-requires-2 : tie.Need-passed-requires-2
+passed-requires-2 c κs = search needs
 
-one-octet-requires : tie.Need-one-octet-requires
-one-octet-requires c κs = search needs
+text-or-element-requires-2 : tie.Need-text-or-element-requires-2
+text-or-element-requires-2 c κs = search needs
 
 returns-2 : tie.Need-returns-2
-unfolding quickOf advanceOf
-returns-2 c = search reading depth 9
+unfolding advanceAt
+returns-2 c =
+    let h = c .text-or-element2 .ensures ∙ ap (textTurn _) (c .before .passed2 .ensures ∙ ap (passedOf _) (c .before .before .passed .ensures)) in
+    search reading depth 9
 
-or-two-requires : tie.Need-or-two-requires
-or-two-requires c κs = search needs
+text-or-element-requires-3 : tie.Need-text-or-element-requires-3
+text-or-element-requires-3 c κs = search needs
 
 returns-3 : tie.Need-returns-3
-unfolding quickOf advanceOf
+unfolding advanceAt
 returns-3 c = search reading depth 9
-
-by-element-requires-2 : tie.Need-by-element-requires-2
-by-element-requires-2 c κs = search needs
-
-returns-4 : tie.Need-returns-4
-unfolding quickOf advanceOf
-returns-4 c = search reading depth 9
 
 pub advance-spec : {M : Type 1} → statement M
 advance-spec =
     tie.close
     (tie.spec
-    by-element-requires
+    text-or-element-requires
     returns
-    shared-slice-read-b
-    text-octet-requires
-    set-at-requires
-    one-octet-requires
+    shared-slice-read-if2
+    passed-requires
+    passed-requires-2
+    text-or-element-requires-2
     returns-2
-    or-two-requires
-    returns-3
-    by-element-requires-2
-    returns-4)
+    text-or-element-requires-3
+    returns-3)

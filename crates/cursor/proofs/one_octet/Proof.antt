@@ -6,9 +6,6 @@ use Rattle.cursor.proofs.one_octet.Tie as tie
 add-t4 : tie.Need-add-t4
 add-t4 c = search needs
 
-texted-requires : tie.Need-texted-requires
-texted-requires c κs = search needs
-
 kind-at-requires : tie.Need-kind-at-requires
 kind-at-requires c κs = search needs
 
@@ -21,11 +18,11 @@ unless-space-requires c κs = search needs
 unless-space-requires-2 : tie.Need-unless-space-requires-2
 unless-space-requires-2 c κs = search needs
 
-cast-t12 : tie.Need-cast-t12
-cast-t12 c = search needs
+cast-t11 : tie.Need-cast-t11
+cast-t11 c = search needs
 
-cast-t14 : tie.Need-cast-t14
-cast-t14 c = search needs
+cast-t13 : tie.Need-cast-t13
+cast-t13 c = search needs
 
 returns : tie.Need-returns
 returns c = cc
@@ -35,11 +32,10 @@ one-octet-spec =
     tie.close
     (tie.spec
     add-t4
-    texted-requires
     kind-at-requires
     set-at-requires
     unless-space-requires
     unless-space-requires-2
-    cast-t12
-    cast-t14
+    cast-t11
+    cast-t13
     returns)
