@@ -8,7 +8,7 @@ use Rattle.base.specs.Choice.{pick, from}
 use Rattle.base.specs.Kind as kind
 use Rattle.base.specs.declared.Unit.{Unit as UnitRecord}
 use Rattle.state.specs.Directions.{directions}
-use Rattle.state.specs.State.{state, fresh, on, put}
+use Rattle.state.specs.State.{sets, state, fresh, on, put}
 use Rattle.state.specs.declared.Sets.{Sets}
 use Rattle.state.specs.declared.directions.Directions.{Directions}
 use Rattle.stretch.specs.Designation.{designationAt}
@@ -22,7 +22,10 @@ use Rattle.cursor.specs.declared.Cursor.{Cursor}
 use Rattle.cursor.specs.declared.Turn.{Turn}
 
 abbrev pub cursor : ℕ → Sets → Cursor
-cursor place sets = record { place = place; sets = sets }
+cursor place s = record { place = place; gl = s .gl; gr = s .gr }
+
+abbrev pub setsIn : Cursor → Sets
+setsIn c = sets (c .gl) (c .gr)
 
 -- the start of a string
 abbrev pub first : Cursor
@@ -43,13 +46,13 @@ turnOf c (Gives u place st) = turn u (cursor place (st .sets))
 turnOf c (Stops n place) = turn blank c
 
 unfoldable pub elementTurn : List ℕ → Cursor → Turn
-elementTurn s c = turnOf c (nextOf s (c .place) (state (c .sets) free))
+elementTurn s c = turnOf c (nextOf s (c .place) (state (setsIn c) free))
 
 -- ---- designations
 
 -- the cursor after a designation, where one is found
 unfoldable pub placedOf : Cursor → Designation → Cursor
-placedOf c d = pick (ltb (d .set) no-set) (cursor (c .place + d .octets) (put (on (d .side) (d .set)) (c .sets))) c
+placedOf c d = pick (ltb (d .set) no-set) (cursor (c .place + d .octets) (put (on (d .side) (d .set)) (setsIn c))) c
 
 unfoldable pub passedOf : List ℕ → Cursor → Cursor
 passedOf s c = placedOf c (designationAt (from (c .place) s))
@@ -100,7 +103,7 @@ quickOf at (b ∷ t) s other =
     pick (textOctet b) (pick (ltb (setAt b s) first-double) (single at b s) (doubleOf at b t s other)) other
 
 unfoldable pub textTurn : List ℕ → Cursor → Turn
-textTurn s c = quickOf (c .place) (from (c .place) s) (c .sets) (elementTurn s c)
+textTurn s c = quickOf (c .place) (from (c .place) s) (setsIn c) (elementTurn s c)
 
 -- ---- the unit at a cursor: up to two designations are passed where there is an escape sequence
 

@@ -5,6 +5,7 @@ ghost use Prim.Native.Nat.{_+_, _<_, _^_};
 ghost use lib.ListN.{length};
 ghost use Rattle.base.specs.Choice.{from};
 ghost use Rattle.cursor.specs.Cursor.{first, elementTurn, textOctet, setAt, unlessSpace, kindAt, single, double, doubleOf, textTurn, placedOf, passedOf, advanceOf};
+ghost use Rattle.state.specs.State.{sets};
 ghost use Rattle.stretch.specs.Designation.{designationAt};
 use base::Unit;
 use base::kind;
@@ -30,7 +31,8 @@ const FREE: Directions = Directions {
 // Where the next unit is looked for: a place of the string, and the sets in force there.
 pub struct Cursor {
     pub place: usize,
-    pub sets: Sets,
+    pub gl: u8,
+    pub gr: u8,
 }
 
 // A unit, and the cursor after it.
@@ -46,7 +48,8 @@ impl Cursor {
     {
         Cursor {
             place: 0,
-            sets: Sets { gl: 0, gr: 3 },
+            gl: 0,
+            gr: 3,
         }
     }
 }
@@ -55,10 +58,9 @@ impl Cursor {
 fn by_element(s: &[u8], c: Cursor) -> Turn
     ensures { λ r. ⌜ r ≡ elementTurn (now (s .entry)) c ⌝ }
 {
-    let sets = c.sets;
     let state = State {
         directions: FREE,
-        sets: sets,
+        sets: Sets { gl: c.gl, gr: c.gr },
     };
     let o = units::next_unit(s, c.place, state);
     match o {
@@ -67,7 +69,8 @@ fn by_element(s: &[u8], c: Cursor) -> Turn
             Turn {
                 cursor: Cursor {
                     place: place,
-                    sets: after,
+                    gl: after.gl,
+                    gr: after.gr,
                 },
                 unit: unit,
             }
@@ -99,13 +102,13 @@ fn text_octet(b: u8) -> bool
 }
 
 // The set on the side of an octet.
-fn set_at(b: u8, sets: Sets) -> u8
-    ensures { λ r. ⌜ r ≡ setAt b sets ⌝ }
+fn set_at(b: u8, gl: u8, gr: u8) -> u8
+    ensures { λ r. ⌜ r ≡ setAt b (sets gl gr) ⌝ }
 {
     if b < 0x80 {
-        return sets.gl;
+        return gl;
     }
-    sets.gr
+    gr
 }
 
 // A space has neither set nor code.
@@ -128,40 +131,50 @@ fn kind_at(b: u8) -> u8
 }
 
 // A character or space of one octet.
-fn one_octet(at: usize, b: u8, sets: Sets) -> Turn
+fn one_octet(at: usize, b: u8, gl: u8, gr: u8) -> Turn
     requires { ⌜ at + 1 < 2 ^ 64 ⌝ }
-    ensures { λ r. ⌜ r ≡ single at b sets ⌝ }
+    ensures { λ r. ⌜ r ≡ single at b (sets gl gr) ⌝ }
 {
+    let place = at + 1;
+    let code = unless_space(b, b % 128) as u16;
+    let start = (at % 0x1_0000_0000) as u32;
     Turn {
         cursor: Cursor {
-            place: at + 1,
-            sets: sets,
+            place: place,
+            gl: gl,
+            gr: gr,
         },
         unit: Unit {
             kind: kind_at(b),
-            set: unless_space(b, set_at(b, sets)),
-            code: unless_space(b, b % 128) as u16,
-            start: (at % 0x1_0000_0000) as u32,
+            set: unless_space(b, set_at(b, gl, gr)),
+            code: code,
+            start: start,
             length: 1,
         },
     }
 }
 
 // A character of two octets.
-fn two_octets(at: usize, b: u8, d: u8, sets: Sets) -> Turn
+fn two_octets(at: usize, b: u8, d: u8, gl: u8, gr: u8) -> Turn
     requires { ⌜ at + 2 < 2 ^ 64 ⌝ }
-    ensures { λ r. ⌜ r ≡ double at b d sets ⌝ }
+    ensures { λ r. ⌜ r ≡ double at b d (sets gl gr) ⌝ }
 {
+    let place = at + 2;
+    let high = (b % 128) as u16;
+    let low = (d % 128) as u16;
+    let code = high * 256 + low;
+    let start = (at % 0x1_0000_0000) as u32;
     Turn {
         cursor: Cursor {
-            place: at + 2,
-            sets: sets,
+            place: place,
+            gl: gl,
+            gr: gr,
         },
         unit: Unit {
             kind: kind::CHARACTER,
-            set: set_at(b, sets),
-            code: (b % 128) as u16 * 256 + (d % 128) as u16,
-            start: (at % 0x1_0000_0000) as u32,
+            set: set_at(b, gl, gr),
+            code: code,
+            start: start,
             length: 2,
         },
     }
@@ -170,10 +183,11 @@ fn two_octets(at: usize, b: u8, d: u8, sets: Sets) -> Turn
 // A character of two octets that begins with b, where its set has two.
 fn or_two(s: &[u8], c: Cursor, b: u8) -> Turn
     requires { ⌜ c .place < length (now s) ⌝ }
-    ensures { λ r. ⌜ r ≡ doubleOf (c .place) b (from (c .place + 1) (now (s .entry))) (c .sets) (elementTurn (now (s .entry)) c) ⌝ }
+    ensures { λ r. ⌜ r ≡ doubleOf (c .place) b (from (c .place + 1) (now (s .entry))) (sets (c .gl) (c .gr)) (elementTurn (now (s .entry)) c) ⌝ }
 {
     let at = c.place;
-    let sets = c.sets;
+    let gl = c.gl;
+    let gr = c.gr;
     if s.len() <= at + 1 {
         return by_element(s, c);
     }
@@ -181,8 +195,8 @@ fn or_two(s: &[u8], c: Cursor, b: u8) -> Turn
     if b == 0x20 {
         return by_element(s, c);
     }
-    if set_at(b, sets) < NO_SET {
-        return two_octets(at, b, d, sets);
+    if set_at(b, gl, gr) < NO_SET {
+        return two_octets(at, b, d, gl, gr);
     }
     by_element(s, c)
 }
@@ -192,14 +206,15 @@ fn text_or_element(s: &[u8], c: Cursor) -> Turn
     ensures { λ r. ⌜ r ≡ textTurn (now (s .entry)) c ⌝ }
 {
     let at = c.place;
-    let sets = c.sets;
+    let gl = c.gl;
+    let gr = c.gr;
     if s.len() <= at {
         return by_element(s, c);
     }
     let b = s[at];
     if text_octet(b) {
-        if set_at(b, sets) < FIRST_DOUBLE {
-            return one_octet(at, b, sets);
+        if set_at(b, gl, gr) < FIRST_DOUBLE {
+            return one_octet(at, b, gl, gr);
         }
         return or_two(s, c, b);
     }
@@ -214,16 +229,17 @@ fn placed(s: &[u8], c: Cursor, d: Designation) -> Cursor
     let set = d.set;
     if set < NO_SET {
         let side = d.side;
-        let sets = c.sets;
         let state = State {
             directions: FREE,
-            sets: sets,
+            sets: Sets { gl: c.gl, gr: c.gr },
         };
         let next = state.designated(side, set);
         let after = next.sets;
+        let place = c.place + d.octets;
         return Cursor {
-            place: c.place + d.octets,
-            sets: after,
+            place: place,
+            gl: after.gl,
+            gr: after.gr,
         };
     }
     c

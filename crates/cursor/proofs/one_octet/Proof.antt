@@ -3,8 +3,17 @@ use borrow.Author.Needs.{needs}
 use Rattle.cursor.proofs.one_octet.Statement.{statement}
 use Rattle.cursor.proofs.one_octet.Tie as tie
 
-add-t4 : tie.Need-add-t4
-add-t4 c = search needs
+add-place : tie.Need-add-place
+add-place c = search needs
+
+unless-space-requires : tie.Need-unless-space-requires
+unless-space-requires c κs = search needs
+
+cast-code : tie.Need-cast-code
+cast-code c = search needs
+
+cast-start : tie.Need-cast-start
+cast-start c = search needs
 
 kind-at-requires : tie.Need-kind-at-requires
 kind-at-requires c κs = search needs
@@ -12,17 +21,8 @@ kind-at-requires c κs = search needs
 set-at-requires : tie.Need-set-at-requires
 set-at-requires c κs = search needs
 
-unless-space-requires : tie.Need-unless-space-requires
-unless-space-requires c κs = search needs
-
 unless-space-requires-2 : tie.Need-unless-space-requires-2
 unless-space-requires-2 c κs = search needs
-
-cast-t11 : tie.Need-cast-t11
-cast-t11 c = search needs
-
-cast-t13 : tie.Need-cast-t13
-cast-t13 c = search needs
 
 returns : tie.Need-returns
 returns c = cc
@@ -31,11 +31,11 @@ pub one-octet-spec : {M : Type 1} → statement M
 one-octet-spec =
     tie.close
     (tie.spec
-    add-t4
+    add-place
+    unless-space-requires
+    cast-code
+    cast-start
     kind-at-requires
     set-at-requires
-    unless-space-requires
     unless-space-requires-2
-    cast-t11
-    cast-t13
     returns)
