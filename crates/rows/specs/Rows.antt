@@ -1,0 +1,62 @@
+-- The rows of the work room, and the units that they hold. Row i is the 72 octets from 72 × i on. The first 65 are left to the plan, and
+-- the last seven are a unit:
+--   65       its tag: 0 to 14 a character of that set, 15 a space, 16 a tab, 17 a newline, 18 left-to-right, 19 right-to-left,
+--            20 a revert, 21 to 25 an extended segment with d of 30 to 34 hexadecimal
+--   66, 67   the code of a character, or the n of a segment, the higher octet first
+--   68 to 71 where a segment's n octets start, the highest octet first
+-- Every row holds a unit, whatever its octets are: of a code's octet the top bit is ignored, of n the two highest bits; of a part that
+-- does not lie wholly in the octets of the segments only what lies in them counts; and any other tag is a revert.
+use Prim.Native.Nat.{ℕ, zero, suc, _+_, _-_, _*_, _%_, min}
+use mathlib.Core.Bool.{cond, _&&_}
+use mathlib.Core.List.{List, [], _∷_}
+use lib.Dec.{eqb, leb, ltb}
+use lib.ListN.{getD, take, drop}
+use Rattle.grammar.specs.Units.{TextUnit, char, space, tab, newline, ltr, rtl, revert, ext}
+
+abbrev pub octetAt : List ℕ → ℕ → ℕ → ℕ
+octetAt w i q = getD w (72 * i + q) 0
+
+abbrev pub tagAt : List ℕ → ℕ → ℕ
+tagAt w i = octetAt w i 65
+
+abbrev pub highAt : List ℕ → ℕ → ℕ
+highAt w i = octetAt w i 66
+
+abbrev pub lowAt : List ℕ → ℕ → ℕ
+lowAt w i = octetAt w i 67
+
+-- four octets as a number, the highest first
+abbrev pub fourOctets : ℕ → ℕ → ℕ → ℕ → ℕ
+fourOctets a b c d = ((a * 256 + b) * 256 + c) * 256 + d
+
+abbrev pub startAt : List ℕ → ℕ → ℕ
+startAt w i = fourOctets (octetAt w i 68) (octetAt w i 69) (octetAt w i 70) (octetAt w i 71)
+
+-- the n of a segment
+abbrev pub countOf : ℕ → ℕ → ℕ
+countOf high low = high % 64 * 256 + low
+
+-- the octets of a segment's part that lie in the m octets in which the segments stand
+abbrev pub partOf : ℕ → ℕ → ℕ → ℕ
+partOf n start m = min n (m - start)
+
+-- the unit of a tag, two octets and a start, where o are the octets in which the segments stand
+unfoldable pub unitTagged : List ℕ → ℕ → ℕ → ℕ → ℕ → TextUnit
+unitTagged o tag high low start =
+    cond (ltb tag 12) (char tag (low % 128))
+    (cond (ltb tag 15) (char tag (high % 128 * 256 + low % 128))
+    (cond (eqb tag 15) space
+    (cond (eqb tag 16) tab
+    (cond (eqb tag 17) newline
+    (cond (eqb tag 18) ltr
+    (cond (eqb tag 19) rtl
+    (cond (leb 21 tag && leb tag 25) (ext (27 + tag) (take (countOf high low) (drop start o))) revert)))))))
+
+-- the unit that row i holds
+abbrev pub unitIn : List ℕ → List ℕ → ℕ → TextUnit
+unitIn o w i = unitTagged o (tagAt w i) (highAt w i) (lowAt w i) (startAt w i)
+
+-- those of m rows from row i on
+unfoldable pub unitsIn : List ℕ → List ℕ → ℕ → ℕ → List TextUnit
+unitsIn o w i zero = []
+unitsIn o w i (suc m) = unitIn o w i ∷ unitsIn o w (suc i) m
