@@ -1,4 +1,4 @@
--- Stores into a list, place by place and column by column.
+-- Stores into a list, place by place and row by row.
 use mathlib.Core.Path.{_≡_, refl, ap, _∙_, subst, sym}
 use mathlib.Core.Bool.{Bool, true, false, cond}
 use mathlib.Core.List.{List, [], _∷_}
@@ -9,7 +9,7 @@ use lib.ListN.{length, getD, set, replicate, length-set}
 use lib.Seq.{getD-set-same, getD-set-other}
 use lib.Dec.{ltb, eqb}
 use borrow.Author.Tests.{ltb-true, ltb-false, eqb-true, eqb-false}
-use Rattle.plan.specs.Costs.{Filled, Columns, Charges, Column}
+use Rattle.plan.specs.Costs.{Filled, Rows, Charges, Column}
 
 below-cases : (j k : ℕ) → j < k + 1 → (j < k) ⊎ (j ≡ k)
 below-cases j k h = go (ltb j k) refl
@@ -68,85 +68,32 @@ all-five P a b c d e g h = go (eqb g 0) refl (eqb g 1) refl (eqb g 2) refl (eqb 
         let y : 4 ≡ g = omega arith in
         subst P y e
 
--- ---- one column more
+-- ---- one row more
 
-pub columns-none : (f : ℕ → ℕ → ℕ) (cur : List ℕ) → length cur ≡ 80 → Columns f 0 cur
-columns-none f cur l = record { there = λ g r h k. absurd (omega arith); long = l }
+pub rows-none : (f : ℕ → ℕ → ℕ) (cur : List ℕ) → length cur ≡ 80 → Rows f 0 cur
+rows-none f cur l = record { there = λ g r h k. absurd (omega arith); long = l }
 
-pub columns-end : {f : ℕ → ℕ → ℕ} {k : ℕ} {cur : List ℕ} → Columns f k cur → k ≤ 16 → 16 ≤ k → Columns f 16 cur
-columns-end {f} {k} {cur} s l h = subst (λ (i : ℕ). Columns f i cur) (omega arith) s
+pub rows-more : (f : ℕ → ℕ → ℕ) (m : ℕ) (before after : List ℕ) → Rows f m before → Filled (f m) (16 * m) 16 before after → Rows f (m + 1) after
+rows-more f m before after s e =
+    record {
+      there = λ g r hg hr.
+          ⊎-elim
+          (λ q. e .kept (16 * g + r) (inl (omega arith)) ∙ s .there g r q hr)
+          (λ q. rw q (e .there r hr))
+          (below-cases g m hg);
+      long = e .long ∙ s .long;
+    }
 
-pub columns-as : {f : ℕ → ℕ → ℕ} {cur : List ℕ} (g : ℕ → ℕ → ℕ) → ((i r : ℕ) → i < 5 → r < 16 → f i r ≡ g i r) → Columns f 16 cur → Columns g 16 cur
-columns-as g e s = record { there = λ i r h k. s .there i r h k ∙ e i r h k; long = s .long }
+pub rows-end : {f : ℕ → ℕ → ℕ} {k : ℕ} {cur : List ℕ} → Rows f k cur → k ≤ 5 → 5 ≤ k → Rows f 5 cur
+rows-end {f} {k} {cur} s l h = subst (λ (i : ℕ). Rows f i cur) (omega arith) s
 
-pub columns-at : (f : ℕ → ℕ) {cur : List ℕ} → Columns (λ g r. f (16 * g + r)) 16 cur → (k : ℕ) → k < 80 → getD cur k 0 ≡ f k
-columns-at f {cur} s k h =
+pub rows-as : {f : ℕ → ℕ → ℕ} {cur : List ℕ} (g : ℕ → ℕ → ℕ) → ((i r : ℕ) → i < 5 → r < 16 → f i r ≡ g i r) → Rows f 5 cur → Rows g 5 cur
+rows-as g e s = record { there = λ i r h k. s .there i r h k ∙ e i r h k; long = s .long }
+
+pub rows-at : (f : ℕ → ℕ) {cur : List ℕ} → Rows (λ g r. f (16 * g + r)) 5 cur → (k : ℕ) → k < 80 → getD cur k 0 ≡ f k
+rows-at f {cur} s k h =
     let z : 16 * (k / 16) + k % 16 ≡ k = omega arith in
     subst (λ (i : ℕ). getD cur i 0 ≡ f i) z (s .there (k / 16) (k % 16) (omega arith) (omega arith))
-
-module _ (f : ℕ → ℕ → ℕ) (m : ℕ) (cur : List ℕ) (v0 v1 v2 v3 v4 : ℕ) (s : Columns f m cur) (h : m < 16)
-    (e0 : v0 ≡ f 0 m) (e1 : v1 ≡ f 1 m) (e2 : v2 ≡ f 2 m) (e3 : v3 ≡ f 3 m) (e4 : v4 ≡ f 4 m) where
-  abbrev s0 : List ℕ
-  s0 = set cur m v0
-
-  abbrev s1 : List ℕ
-  s1 = set s0 (16 + m) v1
-
-  abbrev s2 : List ℕ
-  s2 = set s1 (32 + m) v2
-
-  abbrev s3 : List ℕ
-  s3 = set s2 (48 + m) v3
-
-  abbrev s4 : List ℕ
-  s4 = set s3 (64 + m) v4
-
-  l0 : length s0 ≡ 80
-  l0 = length-set cur m v0 ∙ s .long
-
-  l1 : length s1 ≡ 80
-  l1 = length-set s0 (16 + m) v1 ∙ l0
-
-  l2 : length s2 ≡ 80
-  l2 = length-set s1 (32 + m) v2 ∙ l1
-
-  l3 : length s3 ≡ 80
-  l3 = length-set s2 (48 + m) v3 ∙ l2
-
-  -- from a place back to the store that made it
-  back4 : (p : ℕ) → (p ≡ 64 + m → ⊥) → getD s4 p 0 ≡ getD s3 p 0
-  back4 p n = getD-set-other s3 (64 + m) p v4 0 n
-
-  back3 : (p : ℕ) → (p ≡ 64 + m → ⊥) → (p ≡ 48 + m → ⊥) → getD s4 p 0 ≡ getD s2 p 0
-  back3 p n n3 = back4 p n ∙ getD-set-other s2 (48 + m) p v3 0 n3
-
-  back2 : (p : ℕ) → (p ≡ 64 + m → ⊥) → (p ≡ 48 + m → ⊥) → (p ≡ 32 + m → ⊥) → getD s4 p 0 ≡ getD s1 p 0
-  back2 p n n3 n2 = back3 p n n3 ∙ getD-set-other s1 (32 + m) p v2 0 n2
-
-  back1 : (p : ℕ) → (p ≡ 64 + m → ⊥) → (p ≡ 48 + m → ⊥) → (p ≡ 32 + m → ⊥) → (p ≡ 16 + m → ⊥) → getD s4 p 0 ≡ getD s0 p 0
-  back1 p n n3 n2 n1 = back2 p n n3 n2 ∙ getD-set-other s0 (16 + m) p v1 0 n1
-
-  older : (g r : ℕ) → g < 5 → r < m → getD s4 (16 * g + r) 0 ≡ f g r
-  older g r hg hr =
-      back1 (16 * g + r) (λ z. omega arith) (λ z. omega arith) (λ z. omega arith) (λ z. omega arith)
-      ∙ getD-set-other cur m (16 * g + r) v0 0 (λ z. omega arith) ∙ s .there g r hg hr
-
-  newer : (g : ℕ) → g < 5 → getD s4 (16 * g + m) 0 ≡ f g m
-  newer =
-      all-five (λ g. getD s4 (16 * g + m) 0 ≡ f g m)
-      (ap (λ (p : ℕ). getD s4 p 0) (let z : 16 * 0 + m ≡ m = omega arith in z)
-      ∙ back1 m (λ z. omega arith) (λ z. omega arith) (λ z. omega arith) (λ z. omega arith) ∙ getD-set-same cur m v0 0 (omega (arith, s .long)) ∙ e0)
-      (back2 (16 + m) (λ z. omega arith) (λ z. omega arith) (λ z. omega arith) ∙ getD-set-same s0 (16 + m) v1 0 (omega (arith, l0)) ∙ e1)
-      (back3 (32 + m) (λ z. omega arith) (λ z. omega arith) ∙ getD-set-same s1 (32 + m) v2 0 (omega (arith, l1)) ∙ e2)
-      (back4 (48 + m) (λ z. omega arith) ∙ getD-set-same s2 (48 + m) v3 0 (omega (arith, l2)) ∙ e3)
-      (getD-set-same s3 (64 + m) v4 0 (omega (arith, l3)) ∙ e4)
-
-  pub columns-more : Columns f (m + 1) (set (set (set (set (set cur m v0) (16 + m) v1) (32 + m) v2) (48 + m) v3) (64 + m) v4)
-  columns-more =
-      record {
-        there = λ g r hg hr. ⊎-elim (λ z. older g r hg z) (λ z. rw z (newer g hg)) (below-cases r m hr);
-        long = length-set s3 (64 + m) v4 ∙ l3;
-      }
 
 -- ---- five surcharges
 

@@ -11,8 +11,8 @@ use lib.Dec.{leb, eqb}
 use borrow.Author.Tests.{eqb-true, eqb-false, eq-eqb, ne-eqb, leb-true, leb-false}
 use Rattle.writing.proofs.Sets.{upTo, up-to}
 use Rattle.plan.specs.Numbers.{withGL, withGR, priceOfClass, placesInGL, placesInGR, afterFirst, afterSecond, chosenBy, surcharge}
-use Rattle.plan.specs.Costs.{leastBy, SumsFit, Charges, Column, surcharges, Smooth}
-use Rattle.plan.proofs.Numbers.{bounded, first-gl, first-gr, second-gl, second-gr, first-space, second-space}
+use Rattle.plan.specs.Costs.{leastBy, SumsFit, Charges, Column, surcharges, Smooth, InGL, InGR, OnBoth}
+use Rattle.plan.proofs.Numbers.{bounded, first-gl, first-gr, second-gl, second-gr, first-space, second-space, price-gl, price-both, price-gr}
 
 -- ---- the least cost where the sets stay, and where one is designated
 
@@ -86,9 +86,6 @@ module _ (p : ℕ) (t : upTo 32 (λ m. eqb (getD (surcharges p) m 0) (cond (eqb 
   surcharge-there : (r q : ℕ) → r < 13 → q < 16 → (q ≡ r → ⊥) → getD (surcharges p) (15 - r + q) 0 ≡ p
   surcharge-there r q hr hq n = surcharged (15 - r + q) (omega arith) ∙ charged (15 - r + q) 15 p .1 (λ e. n (omega arith))
 
-pub surcharge-four : (table : List ℕ) (x : ℕ) → table ≡ surcharges 4 → x < 16 → getD table (16 + x) 0 ≡ 4
-surcharge-four table x e h = ap (λ (z : List ℕ). getD z (16 + x) 0) e ∙ surcharged 4 refl (16 + x) (omega arith) ∙ charged (16 + x) 15 4 .1 (λ z. omega arith)
-
 -- ---- the two ways to number 16 g + q
 
 module _ (x : ℕ) (next : List ℕ) (g q : ℕ) (hg : g < 5) (hq : q < 16) (sm : Smooth x next) where
@@ -129,47 +126,48 @@ module _ (x : ℕ) (next : List ℕ) (g q : ℕ) (hg : g < 5) (hq : q < 16) (sm 
       (gl-way 0 (afterFirst x (16 * g + q)) 3 ps (rw e (first-space (16 * g + q))) (rw e) a)
       (gl-way 1 (afterSecond x (16 * g + q)) 3 qs (rw e (second-space (16 * g + q))) (rw e) b)
 
-  module _ (l r : ℕ) (hx : x < 15) (el : l ≡ getD placesInGL x 0) (er : r ≡ getD placesInGR x 0) where
-    pub lesser-gl : (ps : List ℕ) → l < 5 → 13 ≤ r → priceOfClass x ≡ 3 → Charges 3 l ps
-        → min (getD next (16 * l + q) 0 + getD ps g 0) (getD next (16 * l + q) 0 + getD ps g 0) ≡ leastBy x next (16 * g + q)
-    lesser-gl ps h m p ch =
-        by-ways (getD next (16 * l + q) 0 + getD ps g 0) (getD next (16 * l + q) 0 + getD ps g 0)
-        (gl-way l (afterFirst x (16 * g + q)) 3 ps (first-gl x l r (16 * g + q) el er hx h) p ch)
-        (gl-way l (afterSecond x (16 * g + q)) 3 ps (second-gl x l r (16 * g + q) el er hx m) p ch)
+  pub lesser-gl : (l : ℕ) (ps : List ℕ) → InGL x l → Charges 3 l ps
+      → min (getD next (16 * l + q) 0 + getD ps g 0) (getD next (16 * l + q) 0 + getD ps g 0) ≡ leastBy x next (16 * g + q)
+  lesser-gl l ps (hx, el, hr) ch =
+      let p = price-gl x l (getD placesInGR x 0) hx el refl hr in
+      by-ways (getD next (16 * l + q) 0 + getD ps g 0) (getD next (16 * l + q) 0 + getD ps g 0)
+      (gl-way l (afterFirst x (16 * g + q)) 3 ps (first-gl x l (getD placesInGR x 0) (16 * g + q) el refl hx (p .1)) (p .0) ch)
+      (gl-way l (afterSecond x (16 * g + q)) 3 ps (second-gl x l (getD placesInGR x 0) (16 * g + q) el refl hx hr) (p .0) ch)
 
-    pub lesser-both : (ps vs table : List ℕ) → table ≡ surcharges 4 → l < 5 → r < 13 → priceOfClass x ≡ 4 → Charges 4 l ps → Column next r vs
-        → min (getD next (16 * l + q) 0 + getD ps g 0) (getD table (15 - r + q) 0 + getD vs g 0) ≡ leastBy x next (16 * g + q)
-    lesser-both ps vs table et h m p ch col =
-        by-ways (getD next (16 * l + q) 0 + getD ps g 0) (getD table (15 - r + q) 0 + getD vs g 0)
-        (gl-way l (afterFirst x (16 * g + q)) 4 ps (first-gl x l r (16 * g + q) el er hx h) p ch)
-        (gr-way r (afterSecond x (16 * g + q)) 4 table vs refl (second-gr x l r (16 * g + q) el er hx m) p m et col)
+  pub lesser-both : (l r : ℕ) (ps vs table : List ℕ) → OnBoth x l r → table ≡ surcharges 4 → Charges 4 l ps → Column next r vs
+      → min (getD next (16 * l + q) 0 + getD ps g 0) (getD table (15 - r + q) 0 + getD vs g 0) ≡ leastBy x next (16 * g + q)
+  lesser-both l r ps vs table (hx, el, er, hl, hr) et ch col =
+      let p = price-both x l r hx el er hl hr in
+      by-ways (getD next (16 * l + q) 0 + getD ps g 0) (getD table (15 - r + q) 0 + getD vs g 0)
+      (gl-way l (afterFirst x (16 * g + q)) 4 ps (first-gl x l r (16 * g + q) el er hx hl) p ch)
+      (gr-way r (afterSecond x (16 * g + q)) 4 table vs refl (second-gr x l r (16 * g + q) el er hx hr) p hr et col)
 
-    pub lesser-gr : (vs table : List ℕ) → table ≡ surcharges 3 → 5 ≤ l → r < 13 → priceOfClass x ≡ 3 → Column next r vs
-        → min (getD table (15 - r + q) 0 + getD vs g 0) (getD table (15 - r + q) 0 + getD vs g 0) ≡ leastBy x next (16 * g + q)
-    lesser-gr vs table et h m p col =
-        by-ways (getD table (15 - r + q) 0 + getD vs g 0) (getD table (15 - r + q) 0 + getD vs g 0)
-        (gr-way r (afterFirst x (16 * g + q)) 3 table vs refl (first-gr x l r (16 * g + q) el er hx h) p m et col)
-        (gr-way r (afterSecond x (16 * g + q)) 3 table vs refl (second-gr x l r (16 * g + q) el er hx m) p m et col)
+  pub lesser-gr : (r : ℕ) (vs table : List ℕ) → InGR x r → table ≡ surcharges 3 → Column next r vs
+      → min (getD table (15 - r + q) 0 + getD vs g 0) (getD table (15 - r + q) 0 + getD vs g 0) ≡ leastBy x next (16 * g + q)
+  lesser-gr r vs table (hx, er, hr, hl) et col =
+      let p = price-gr x (getD placesInGL x 0) hx refl hl in
+      by-ways (getD table (15 - r + q) 0 + getD vs g 0) (getD table (15 - r + q) 0 + getD vs g 0)
+      (gr-way r (afterFirst x (16 * g + q)) 3 table vs refl (first-gr x (getD placesInGL x 0) r (16 * g + q) refl er hx hl) p hr et col)
+      (gr-way r (afterSecond x (16 * g + q)) 3 table vs refl (second-gr x (getD placesInGL x 0) r (16 * g + q) refl er hx hr) p hr et col)
 
 -- ---- the sums fit an octet
 
 pub fit-charges : {x : ℕ} {next : List ℕ} (i p l : ℕ) (ps : List ℕ) → Smooth x next → length next ≡ 80 → i ≤ 64 → p ≤ 4 → Charges p l ps → SumsFit next i ps
-fit-charges {x} {next} i p l ps sm len hi hp ch =
-    record { inside = omega arith; sums = λ r g hr hg. omega (arith, sm .small (i + r), ch .each g hg, cond-most (eqb g l) p) }
+fit-charges {x} {next} i p l ps sm len hi hp ch g hg =
+    record { inside = omega arith; sums = λ r hr. omega (arith, sm .small (i + r), ch .each g hg, cond-most (eqb g l) p) }
 
 pub fit-column : {x : ℕ} {next : List ℕ} (p i r : ℕ) (table vs : List ℕ) → upTo 32 (λ m. leb (getD (surcharges p) m 0) 4) ≡ true → table ≡ surcharges p → Smooth x next
     → r < 13 → i ≡ 15 - r → Column next r vs → SumsFit table i vs
-fit-column {x} {next} p i r table vs t e sm hr ei col =
+fit-column {x} {next} p i r table vs t e sm hr ei col g hg =
     record {
       inside = omega (arith, ap length e);
-      sums = λ q g hq hg.
+      sums = λ q hq.
           omega (arith, ap (λ (z : List ℕ). getD z (i + q) 0) e, bounded (surcharges p) 4 t (i + q), col .each g hg, sm .small (16 * g + r));
     }
 
--- ---- surcharges by the table's entry
+pub charges-as : {l : ℕ} {ps : List ℕ} {p p′ : ℕ} → p ≡ p′ → Charges p l ps → Charges p′ l ps
+charges-as {l} {ps} e c = subst (λ (p : ℕ). Charges p l ps) e c
 
-pub charges-three : (four l : ℕ) (ps : List ℕ) → four ≡ 4 → Charges (four - 1) l ps → Charges 3 l ps
-charges-three four l ps e c = subst (λ (p : ℕ). Charges (p - 1) l ps) e c
-
-pub charges-four : (four l : ℕ) (ps : List ℕ) → four ≡ 4 → Charges four l ps → Charges 4 l ps
-charges-four four l ps e c = subst (λ (p : ℕ). Charges p l ps) e c
+-- the last entry of a table is the price
+pub last-surcharge : (table : List ℕ) (p : ℕ) → table ≡ surcharges p → getD table 31 0 ≡ p
+last-surcharge table p e = ap (λ (z : List ℕ). getD z 31 0) e

@@ -11,7 +11,7 @@ use Rattle.base.specs.Limit as limit
 use Rattle.state.specs.declared.Sets.{Sets}
 use Rattle.rows.specs.Rows.{tagAt, highAt, lowAt, startAt, countOf, partOf, unitsIn}
 use Rattle.writing.specs.Writing.{cost}
-use Rattle.plan.specs.Numbers.{numbered, classOf, afterFirst, afterSecond, afterChoice, surcharge, priceOfClass}
+use Rattle.plan.specs.Numbers.{numbered, classOf, placesInGL, placesInGR, afterFirst, afterSecond, afterChoice, surcharge, priceOfClass}
 
 -- ---- the units of the rows
 
@@ -40,15 +40,19 @@ pub record Filled (f : ℕ → ℕ) (at m : ℕ) (before after : List ℕ) : Typ
   pub kept : (p : ℕ) → (p < at) ⊎ (at + m ≤ p) → getD after p 0 ≡ getD before p 0
   pub long : length after ≡ length before
 
--- the first m columns of a table of five rows by 16 hold the numbers that f gives by row and column
-pub record Columns (f : ℕ → ℕ → ℕ) (m : ℕ) (table : List ℕ) : Type 0 where
-  pub there : (g r : ℕ) → g < 5 → r < m → getD table (16 * g + r) 0 ≡ f g r
+-- the first m rows of a table of five rows by 16 hold the numbers that f gives by row and column
+pub record Rows (f : ℕ → ℕ → ℕ) (m : ℕ) (table : List ℕ) : Type 0 where
+  pub there : (g r : ℕ) → g < m → r < 16 → getD table (16 * g + r) 0 ≡ f g r
   pub long : length table ≡ 80
 
--- 16 costs from a place on and five surcharges, whose sums each fit an octet
-pub record SumsFit (costs : List ℕ) (at : ℕ) (added : List ℕ) : Type 0 where
+-- 16 costs from a place on and a surcharge, whose sums each fit an octet
+pub record SumFits (costs : List ℕ) (at added : ℕ) : Type 0 where
   pub inside : at + 16 ≤ length costs
-  pub sums : (r g : ℕ) → r < 16 → g < 5 → getD costs (at + r) 0 + getD added g 0 ≤ 255
+  pub sums : (r : ℕ) → r < 16 → getD costs (at + r) 0 + added ≤ 255
+
+-- the same with each of five surcharges
+abbrev pub SumsFit : List ℕ → ℕ → List ℕ → Type 0
+SumsFit costs at added = (g : ℕ) → g < 5 → SumFits costs at (getD added g 0)
 
 -- five surcharges: a designation's price in each row, but nothing in the row of a place
 pub record Charges (price place : ℕ) (added : List ℕ) : Type 0 where
@@ -65,6 +69,16 @@ abbrev pub surcharges : ℕ → List ℕ
 surcharges p =
     p ∷ p ∷ p ∷ p ∷ p ∷ p ∷ p ∷ p ∷ p ∷ p ∷ p ∷ p ∷ p ∷ p ∷ p ∷ 0
     ∷ p ∷ p ∷ p ∷ p ∷ p ∷ p ∷ p ∷ p ∷ p ∷ p ∷ p ∷ p ∷ p ∷ p ∷ p ∷ p ∷ []
+
+-- a class whose set has a place in GL alone, in GR alone, and on both sides
+abbrev pub InGL : ℕ → ℕ → Type 0
+InGL x l = (x < 15) × (l ≡ getD placesInGL x 0) × (13 ≤ getD placesInGR x 0)
+
+abbrev pub InGR : ℕ → ℕ → Type 0
+InGR x r = (x < 15) × (r ≡ getD placesInGR x 0) × (r < 13) × (5 ≤ getD placesInGL x 0)
+
+abbrev pub OnBoth : ℕ → ℕ → ℕ → Type 0
+OnBoth x l r = (x < 15) × (l ≡ getD placesInGL x 0) × (r ≡ getD placesInGR x 0) × (l < 5) × (r < 13)
 
 -- ---- a unit before the rest
 

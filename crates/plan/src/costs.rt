@@ -2,7 +2,7 @@
 ghost use mathlib.Core.Path.{_≡_};
 ghost use Prim.Native.Nat.{ℕ, _+_, _-_, _*_, _≤_, _<_, min};
 ghost use lib.ListN.{length, getD};
-ghost use Rattle.plan.specs.Costs.{Filled, Columns, SumsFit, Charges, Column, surcharges, leastBy, Smooth, changes, Turned, RowKept};
+ghost use Rattle.plan.specs.Costs.{Filled, Rows, SumFits, SumsFit, Charges, Column, surcharges, InGL, InGR, OnBoth, leastBy, Smooth, changes, Turned, RowKept};
 use crate::place_in_gl;
 use crate::place_in_gr;
 
@@ -12,21 +12,29 @@ fn lesser(a: u8, b: u8) -> u8
     if a <= b { a } else { b }
 }
 
-// In each column and row the lesser of a's cost with the row's surcharge p and c's cost with the row's surcharge q.
-fn lesser_costs(a: &[u8], i: usize, p: [u8; 5], c: &[u8], j: usize, q: [u8; 5], cur: &mut [u8; 80])
-    requires { ⌜ SumsFit (now a) i p × SumsFit (now c) j q × (length (now cur) ≡ 80) ⌝ }
-    ensures { λ _. ⌜ Columns (λ g r. min (getD (now (a .entry)) (i + r) 0 + getD p g 0) (getD (now (c .entry)) (j + r) 0 + getD q g 0)) 16 (now (cur .exit)) ⌝ }
+// For each of 16 places the lesser of a's cost with the surcharge p and c's cost with the surcharge q.
+fn lesser_row(a: &[u8], i: usize, p: u8, c: &[u8], j: usize, q: u8, cur: &mut [u8; 80], at: usize)
+    requires { ⌜ (at + 16 ≤ 80) × SumFits (now a) i p × SumFits (now c) j q × (length (now cur) ≡ 80) ⌝ }
+    ensures { λ _. ⌜ Filled (λ r. min (getD (now (a .entry)) (i + r) 0 + p) (getD (now (c .entry)) (j + r) 0 + q)) at 16 (now (cur .entry)) (now (cur .exit)) ⌝ }
 {
     let mut r: usize = 0;
     while r < 16 {
         let u = a[i + r];
         let v = c[j + r];
-        cur[r] = lesser(u + p[0], v + q[0]);
-        cur[16 + r] = lesser(u + p[1], v + q[1]);
-        cur[32 + r] = lesser(u + p[2], v + q[2]);
-        cur[48 + r] = lesser(u + p[3], v + q[3]);
-        cur[64 + r] = lesser(u + p[4], v + q[4]);
+        cur[at + r] = lesser(u + p, v + q);
         r += 1;
+    }
+}
+
+// The same for the five rows, with a surcharge for each.
+fn lesser_costs(a: &[u8], i: usize, p: [u8; 5], c: &[u8], j: usize, q: [u8; 5], cur: &mut [u8; 80])
+    requires { ⌜ SumsFit (now a) i p × SumsFit (now c) j q × (length (now cur) ≡ 80) ⌝ }
+    ensures { λ _. ⌜ Rows (λ g r. min (getD (now (a .entry)) (i + r) 0 + getD p g 0) (getD (now (c .entry)) (j + r) 0 + getD q g 0)) 5 (now (cur .exit)) ⌝ }
+{
+    let mut g: usize = 0;
+    while g < 5 {
+        lesser_row(a, i, p[g], c, j, q[g], cur, 16 * g);
+        g += 1;
     }
 }
 
@@ -54,38 +62,71 @@ fn column(costs: &[u8; 80], r: usize) -> [u8; 5]
     ]
 }
 
-// The least costs, but for the unit's own octets, of a unit of class x before what next has. The tables have a designation's price at each
-// place but 15: a column's costs with the table from 15 - r on are what going to GR's place r costs.
+// The least costs of a space before what next has: set 0 or set 2 in GL.
+fn space_costs(next: &[u8; 80], three: u8, cur: &mut [u8; 80])
+    requires { ⌜ Smooth 15 (now next) × (length (now next) ≡ 80) × (three ≡ 3) × (length (now cur) ≡ 80) ⌝ }
+    ensures { λ _. ⌜ Rows (λ g r. leastBy 15 (now (next .entry)) (16 * g + r)) 5 (now (cur .exit)) ⌝ }
+{
+    let p = charges(three, 0);
+    let q = charges(three, 1);
+    lesser_costs(next, 0, p, next, 16, q, cur);
+}
+
+// Those of a character whose set has a place in GL alone.
+fn gl_costs(x: usize, l: usize, next: &[u8; 80], three: u8, cur: &mut [u8; 80])
+    requires { ⌜ Smooth x (now next) × (length (now next) ≡ 80) × (three ≡ 3) × (length (now cur) ≡ 80) × InGL x l ⌝ }
+    ensures { λ _. ⌜ Rows (λ g r. leastBy x (now (next .entry)) (16 * g + r)) 5 (now (cur .exit)) ⌝ }
+{
+    let i = 16 * l;
+    let p = charges(three, l);
+    lesser_costs(next, i, p, next, i, p, cur);
+}
+
+// Those of a character whose set has a place on each side. From 15 - r on, the table has nothing at place r and a designation's price at
+// the other places: with the column's costs that is what GR's place r costs.
+fn both_costs(x: usize, l: usize, r: usize, next: &[u8; 80], fours: &[u8; 32], cur: &mut [u8; 80])
+    requires { ⌜ Smooth x (now next) × (length (now next) ≡ 80) × (now fours ≡ surcharges 4) × (length (now cur) ≡ 80) × OnBoth x l r ⌝ }
+    ensures { λ _. ⌜ Rows (λ g r. leastBy x (now (next .entry)) (16 * g + r)) 5 (now (cur .exit)) ⌝ }
+{
+    // Read from the table and not written out: with a constant the loop of lesser_row is unrolled and not done 16 at a time.
+    let four = fours[31];
+    let i = 16 * l;
+    let j = 15 - r;
+    let p = charges(four, l);
+    let v = column(next, r);
+    lesser_costs(next, i, p, fours, j, v, cur);
+}
+
+// Those of a character whose set has a place in GR alone.
+fn gr_costs(x: usize, r: usize, next: &[u8; 80], threes: &[u8; 32], cur: &mut [u8; 80])
+    requires { ⌜ Smooth x (now next) × (length (now next) ≡ 80) × (now threes ≡ surcharges 3) × (length (now cur) ≡ 80) × InGR x r ⌝ }
+    ensures { λ _. ⌜ Rows (λ g r. leastBy x (now (next .entry)) (16 * g + r)) 5 (now (cur .exit)) ⌝ }
+{
+    let j = 15 - r;
+    let v = column(next, r);
+    lesser_costs(threes, j, v, threes, j, v, cur);
+}
+
+// The least costs, but for the unit's own octets, of a unit of class x before what next has.
 fn costs_before(x: usize, next: &[u8; 80], fours: &[u8; 32], threes: &[u8; 32], cur: &mut [u8; 80])
     requires { ⌜ (x < 16) × Smooth x (now next) × (length (now next) ≡ 80) × (now fours ≡ surcharges 4) × (now threes ≡ surcharges 3) × (length (now cur) ≡ 80) ⌝ }
-    ensures { λ _. ⌜ Columns (λ g r. leastBy x (now (next .entry)) (16 * g + r)) 16 (now (cur .exit)) ⌝ }
+    ensures { λ _. ⌜ Rows (λ g r. leastBy x (now (next .entry)) (16 * g + r)) 5 (now (cur .exit)) ⌝ }
 {
-    // Read from the table and not written out: with constants the loop of lesser_costs is unrolled and not done 16 at a time.
-    let four = fours[16 + x];
-    let three = four - 1;
     if x == 15 {
-        let p = charges(three, 0);
-        let q = charges(three, 1);
-        lesser_costs(next, 0, p, next, 16, q, cur);
+        space_costs(next, threes[31], cur);
         return;
     }
     let l = place_in_gl(x);
     let r = place_in_gr(x);
     if 13 <= r {
-        let i = 16 * l;
-        let p = charges(three, l);
-        lesser_costs(next, i, p, next, i, p, cur);
+        gl_costs(x, l, next, threes[31], cur);
         return;
     }
-    let j = 15 - r;
-    let v = column(next, r);
     if l < 5 {
-        let i = 16 * l;
-        let p = charges(four, l);
-        lesser_costs(next, i, p, fours, j, v, cur);
+        both_costs(x, l, r, next, fours, cur);
         return;
     }
-    lesser_costs(threes, j, v, threes, j, v, cur);
+    gr_costs(x, r, next, threes, cur);
 }
 
 // Takes 128 from each cost.
