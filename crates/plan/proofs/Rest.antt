@@ -20,7 +20,7 @@ use Rattle.grammar.proofs.Sound.{lead-size}
 use Rattle.writing.specs.Writing.{Need, least, choose, after, price, cost}
 use Rattle.writing.proofs.Needs.{spent, least-chosen}
 use Rattle.writing.proofs.Costs.{cost-steady}
-use Rattle.rows.specs.Rows.{tagAt, highAt, lowAt, startAt, countOf, partOf, unitsIn}
+use Rattle.rows.specs.Rows.{tagAt, startFrom, countOf, partOf, unitTagged, unitFrom, unitsIn}
 use Rattle.plan.specs.Numbers.{numbered, classOf, needOfClass, afterFirst, afterSecond, afterChoice, surcharge}
 use Rattle.plan.specs.Costs.{sizeOf, sizeAt, restFrom, leastBy, Smooth, changes, Turned, TwoStandings, secondSlot, RowKept, CostsKept, Planned}
 use Rattle.plan.proofs.Numbers.{choice-at, chosen-base, below, steady-at}
@@ -77,7 +77,7 @@ rest-most o w h n (suc m) i s e l =
       arith,
       rest-cons o w n i s (omega arith),
       least-most (needOfClass (classOf (tagAt w i))) (restFrom o w n (suc i)) (16393 * m) s (λ t. rest-most o w h n m (suc i) t (omega arith) (omega arith)),
-      size-most (tagAt w i) (partOf (countOf (highAt w i) (lowAt w i)) (startAt w i) (length o)) (omega (arith, h (72 * i + 67))),
+      size-most (tagAt w i) (partOf (countOf (getD w (72 * i + 66) 0) (getD w (72 * i + 67) 0)) (startFrom w (72 * i)) (length o)) (omega (arith, h (72 * i + 67))),
     )
 
 -- ---- the costs of all numbers, less a base, are those of the rows from i on
@@ -279,7 +279,7 @@ module _ (o before : List ℕ) (n i j base last : ℕ) (cur room : List ℕ) (e 
       ew ∙ ap₂ sizeOf (p .kept j 65 (omega arith) (omega arith))
       (ap₂ (λ (c s : ℕ). partOf c s (length o))
       (ap₂ countOf (p .kept j 66 (omega arith) (omega arith)) (p .kept j 67 (omega arith) (omega arith)))
-      (let z : startAt room j ≡ startAt before j = omega (
+      (let z : startFrom room (72 * j) ≡ startFrom before (72 * j) = omega (
         arith,
         p .kept j 68 (omega arith) (omega arith),
         p .kept j 69 (omega arith) (omega arith),

@@ -1,10 +1,10 @@
 -- What the unit in a row needs, and how many octets it has: by the row's tag, shown by one computed test of the tags below 26.
-use Prim.Native.Nat.{ℕ, suc, _+_, _-_, _≤_, _<_}
+use Prim.Native.Nat.{ℕ, suc, _+_, _-_, _*_, _≤_, _<_}
 use native.Mathlib.Omega.{arith}
 use mathlib.Core.Path.{_≡_, refl, ap, ap₂, _∙_}
 use mathlib.Core.Bool.{Bool, true, false, _&&_, false≢true}
 use mathlib.Core.List.{List}
-use lib.ListN.{length, take, drop, length-take, length-drop}
+use lib.ListN.{length, getD, take, drop, length-take, length-drop}
 use lib.Dec.{eqb, ltb}
 use borrow.Author.Tests.{ltb-true, ltb-false, lt-ltb, le-ltb, le-leb, lt-leb, eqb-true, ne-eqb}
 use Rattle.base.specs.Choice.{pick}
@@ -14,7 +14,7 @@ use Rattle.grammar.specs.Units.{revert, ext, wide, octets}
 use Rattle.grammar.proofs.Complete.{and-left, and-right}
 use Rattle.writing.specs.Writing.{Need, free, either, need, least, size, cost}
 use Rattle.writing.proofs.Sets.{up-to}
-use Rattle.rows.specs.Rows.{tagAt, highAt, lowAt, startAt, countOf, partOf, unitTagged, unitsIn}
+use Rattle.rows.specs.Rows.{tagAt, startFrom, countOf, partOf, unitTagged, unitFrom, unitsIn}
 use Rattle.plan.specs.Numbers.{classOf, needOfClass}
 use Rattle.plan.specs.Costs.{sizeOf, sizeAt, restFrom}
 use Rattle.plan.proofs.Numbers.{sameStanding, sameStanding-eq}
@@ -141,5 +141,5 @@ unfolding unitsIn cost
 rest-cons o w n i s h =
     let e : n - i ≡ suc (n - suc i) = omega arith in
     ap (λ (m : ℕ). cost (unitsIn o w i m) s) e
-    ∙ ap₂ (λ (a : ℕ) (q : Need). a + least q (restFrom o w n (suc i)) s) (size-tagged o (tagAt w i) (highAt w i) (lowAt w i) (startAt w i))
-    (need-tagged o (tagAt w i) (highAt w i) (lowAt w i) (startAt w i))
+    ∙ ap₂ (λ (a : ℕ) (q : Need). a + least q (restFrom o w n (suc i)) s) (size-tagged o (tagAt w i) (getD w (72 * i + 66) 0) (getD w (72 * i + 67) 0) (startFrom w (72 * i)))
+    (need-tagged o (tagAt w i) (getD w (72 * i + 66) 0) (getD w (72 * i + 67) 0) (startFrom w (72 * i)))

@@ -9,7 +9,7 @@ use lib.ListN.{length, getD}
 use Rattle.base.specs.Choice.{pick}
 use Rattle.base.specs.Limit as limit
 use Rattle.state.specs.declared.Sets.{Sets}
-use Rattle.rows.specs.Rows.{tagAt, highAt, lowAt, startAt, countOf, partOf, unitsIn}
+use Rattle.rows.specs.Rows.{tagAt, startFrom, countOf, partOf, unitsIn}
 use Rattle.writing.specs.Writing.{cost}
 use Rattle.plan.specs.Numbers.{numbered, classOf, placesInGL, placesInGR, afterFirst, afterSecond, afterChoice, surcharge, priceOfClass}
 
@@ -25,8 +25,12 @@ sizeOf tag p =
     pick (ltb tag 12) 1
     (pick (ltb tag 15) 2 (pick (ltb tag 18) 1 (pick (ltb tag 20) 3 (pick (ltb tag 21) 2 (pick (ltb tag 26) (6 + p) 2)))))
 
+-- those of the unit of the row that starts at a place, where the segments stand in m octets
+abbrev pub sizeFrom : ℕ → List ℕ → ℕ → ℕ
+sizeFrom m w row = sizeOf (getD w (row + 65) 0) (partOf (countOf (getD w (row + 66) 0) (getD w (row + 67) 0)) (startFrom w row) m)
+
 abbrev pub sizeAt : List ℕ → List ℕ → ℕ → ℕ
-sizeAt o w i = sizeOf (tagAt w i) (partOf (countOf (highAt w i) (lowAt w i)) (startAt w i) (length o))
+sizeAt o w i = sizeFrom (length o) w (72 * i)
 
 -- the least cost of the units of rows i to n
 abbrev pub restFrom : List ℕ → List ℕ → ℕ → ℕ → Sets → ℕ

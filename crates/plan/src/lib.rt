@@ -4,10 +4,10 @@ ghost use mathlib.Core.Path.{_≡_};
 ghost use Prim.Native.Nat.{_+_, _*_, _≤_, _<_};
 ghost use lib.ListN.{length, getD};
 ghost use Rattle.state.specs.State.{fresh};
-ghost use Rattle.rows.specs.Rows.{octetAt, countOf, partOf, fourOctets, unitsIn};
+ghost use Rattle.rows.specs.Rows.{unitsIn};
 ghost use Rattle.writing.specs.Writing.{cost};
 ghost use Rattle.plan.specs.Numbers.{classOf, placesInGL, placesInGR};
-ghost use Rattle.plan.specs.Costs.{rowsOf, sizeOf, Planned};
+ghost use Rattle.plan.specs.Costs.{rowsOf, sizeFrom, Planned};
 use base::limit;
 
 mod costs;
@@ -54,11 +54,12 @@ pub fn place_in_gr(x: usize) -> usize
     0
 }
 
-// The octets of the unit in the row that starts at a place, where the segments stand in m octets.
-fn size_at(work: &[u8], row: usize, tag: u8, m: usize) -> usize
+// The octets of the unit of the row that starts at a place, where the segments stand in m octets.
+fn size_from(work: &[u8], row: usize, m: usize) -> usize
     requires { ⌜ row + 72 ≤ length (now work) ⌝ }
-    ensures { λ r. ⌜ (r ≡ sizeOf tag (partOf (countOf (getD (now (work .entry)) (row + 66) 0) (getD (now (work .entry)) (row + 67) 0)) (fourOctets (getD (now (work .entry)) (row + 68) 0) (getD (now (work .entry)) (row + 69) 0) (getD (now (work .entry)) (row + 70) 0) (getD (now (work .entry)) (row + 71) 0)) m)) × (r ≤ 16389) ⌝ }
+    ensures { λ r. ⌜ (r ≡ sizeFrom m (now (work .entry)) row) × (r ≤ 16389) ⌝ }
 {
+    let tag = work[row + 65];
     if tag < 12 {
         return 1;
     }
@@ -116,9 +117,8 @@ pub fn plan(work: &mut [u8], n: usize, segments: &[u8]) -> usize
     while 0 < i {
         i -= 1;
         let row = 72 * i;
-        let tag = work[row + 65];
-        let size = size_at(work, row, tag, m);
-        let x = class_of(tag);
+        let size = size_from(work, row, m);
+        let x = class_of(work[row + 65]);
         costs::keep(x, &cur, work, row);
         let t = costs::unit_before(last, x, &fours, &threes, &mut cur);
         base = base + size + t.base;

@@ -13,24 +13,17 @@ use lib.Dec.{eqb, leb, ltb}
 use lib.ListN.{getD, take, drop}
 use Rattle.grammar.specs.Units.{TextUnit, char, space, tab, newline, ltr, rtl, revert, ext}
 
-abbrev pub octetAt : List ℕ → ℕ → ℕ → ℕ
-octetAt w i q = getD w (72 * i + q) 0
-
+-- the tag of row i
 abbrev pub tagAt : List ℕ → ℕ → ℕ
-tagAt w i = octetAt w i 65
-
-abbrev pub highAt : List ℕ → ℕ → ℕ
-highAt w i = octetAt w i 66
-
-abbrev pub lowAt : List ℕ → ℕ → ℕ
-lowAt w i = octetAt w i 67
+tagAt w i = getD w (72 * i + 65) 0
 
 -- four octets as a number, the highest first
 abbrev pub fourOctets : ℕ → ℕ → ℕ → ℕ → ℕ
 fourOctets a b c d = ((a * 256 + b) * 256 + c) * 256 + d
 
-abbrev pub startAt : List ℕ → ℕ → ℕ
-startAt w i = fourOctets (octetAt w i 68) (octetAt w i 69) (octetAt w i 70) (octetAt w i 71)
+-- where the segment of the row that starts at a place starts
+abbrev pub startFrom : List ℕ → ℕ → ℕ
+startFrom w row = fourOctets (getD w (row + 68) 0) (getD w (row + 69) 0) (getD w (row + 70) 0) (getD w (row + 71) 0)
 
 -- the n of a segment
 abbrev pub countOf : ℕ → ℕ → ℕ
@@ -52,11 +45,11 @@ unitTagged o tag high low start =
     (cond (eqb tag 19) rtl
     (cond (leb 21 tag && leb tag 25) (ext (27 + tag) (take (countOf high low) (drop start o))) revert)))))))
 
--- the unit that row i holds
-abbrev pub unitIn : List ℕ → List ℕ → ℕ → TextUnit
-unitIn o w i = unitTagged o (tagAt w i) (highAt w i) (lowAt w i) (startAt w i)
+-- the unit of the row that starts at a place
+abbrev pub unitFrom : List ℕ → List ℕ → ℕ → TextUnit
+unitFrom o w row = unitTagged o (getD w (row + 65) 0) (getD w (row + 66) 0) (getD w (row + 67) 0) (startFrom w row)
 
--- those of m rows from row i on
+-- the units of m rows from row i on
 unfoldable pub unitsIn : List ℕ → List ℕ → ℕ → ℕ → List TextUnit
 unitsIn o w i zero = []
-unitsIn o w i (suc m) = unitIn o w i ∷ unitsIn o w (suc i) m
+unitsIn o w i (suc m) = unitFrom o w (72 * i) ∷ unitsIn o w (suc i) m

@@ -36,14 +36,14 @@ sub-i c = search needs
 mul-row : tie.Need-mul-row Inv-loop μ-loop
 mul-row c = omega (arith, c .before .before .rows-of .ensures .0, c .before .before .rows-of .ensures .1, c .before .before .rows-of .ensures .2, c .before .loop .inv .0)
 
-add-tag : tie.Need-add-tag Inv-loop μ-loop
-add-tag c = omega (arith, c .before .before .rows-of .ensures .0, c .before .before .rows-of .ensures .1, c .before .before .rows-of .ensures .2, c .before .loop .inv .0)
+size-from-requires : tie.Need-size-from-requires Inv-loop μ-loop
+size-from-requires c κs = omega (arith, c .before .before .before .rows-of .ensures .0, c .before .before .before .rows-of .ensures .1, c .before .before .before .rows-of .ensures .2, c .before .before .loop .inv .0, c .before .before .loop .inv .3 .long)
 
-slice-read-tag : tie.Need-slice-read-tag Inv-loop μ-loop
-slice-read-tag c = omega (arith, c .before .before .before .rows-of .ensures .0, c .before .before .before .rows-of .ensures .1, c .before .before .before .rows-of .ensures .2, c .before .before .loop .inv .0, c .before .before .loop .inv .3 .long)
+add-class-of : tie.Need-add-class-of Inv-loop μ-loop
+add-class-of c = omega (arith, c .before .before .before .before .rows-of .ensures .0, c .before .before .before .before .rows-of .ensures .1, c .before .before .before .before .rows-of .ensures .2, c .before .before .before .loop .inv .0)
 
-size-at-requires : tie.Need-size-at-requires Inv-loop μ-loop
-size-at-requires c κs = omega (arith, c .before .before .before .before .rows-of .ensures .0, c .before .before .before .before .rows-of .ensures .1, c .before .before .before .before .rows-of .ensures .2, c .before .before .before .loop .inv .0, c .before .before .before .loop .inv .3 .long)
+slice-read-class-of : tie.Need-slice-read-class-of Inv-loop μ-loop
+slice-read-class-of c = omega (arith, c .before .before .before .before .before .rows-of .ensures .0, c .before .before .before .before .before .rows-of .ensures .1, c .before .before .before .before .before .rows-of .ensures .2, c .before .before .before .before .loop .inv .0, c .before .before .before .before .loop .inv .3 .long)
 
 class-of-requires : tie.Need-class-of-requires Inv-loop μ-loop
 class-of-requires c κs = search needs
@@ -52,32 +52,34 @@ keep-requires : tie.Need-keep-requires Inv-loop μ-loop
 keep-requires c κs = (c .before .before .class-of .ensures .1, omega (arith, c .before .before .before .before .before .before .before .before .rows-of .ensures .0, c .before .before .before .before .before .before .before .before .rows-of .ensures .1, c .before .before .before .before .before .before .before .before .rows-of .ensures .2, c .before .before .before .before .before .before .before .loop .inv .0, c .before .before .before .before .before .before .before .loop .inv .3 .long))
 
 unit-before-requires : tie.Need-unit-before-requires Inv-loop μ-loop
-unit-before-requires c κs = (
-  c .before .before .before .before .before .before .before .before .class-of .ensures .1,
-  c .before .before .before .before .before .before .before .before .before .before .before .before .before .loop .inv .2 .low,
-  known-smooth _ (c .before .before .before .before .before .before .before .before .before .before .before .before .before .loop .inv .1) (c .before .before .before .before .before .before .before .before .before .before .before .before .before .loop .inv .2) (c .before .before .before .before .before .before .before .before .class-of .ensures .1),
-  refl,
-  refl,
-  turn-near _ _ _ _ _ _ _ _ _ (omega arith) (c .before .before .before .before .before .before .before .before .before .before .before .before .before .loop .inv .0) (c .before .before .before .before .before .before .before .before .before .before .before .before .before .loop .inv .2) (c .before .before .before .before .before .before .before .before .before .before .before .before .before .loop .inv .3) _ _ (c .before .before .before .before .before .before .before .before .class-of .ensures .0) (c .before .before .before .before .before .before .before .before .before .size-at .ensures .0),
-  c .before .before .before .before .before .before .before .before .before .before .before .before .before .loop .inv .1,
-)
+unit-before-requires c κs =
+    (
+      c .before .before .before .before .before .before .before .before .class-of .ensures .1,
+      c .before .before .before .before .before .before .before .before .before .before .before .before .before .loop .inv .2 .low,
+      known-smooth _ (c .before .before .before .before .before .before .before .before .before .before .before .before .before .loop .inv .1) (c .before .before .before .before .before .before .before .before .before .before .before .before .before .loop .inv .2) (c .before .before .before .before .before .before .before .before .class-of .ensures .1),
+      refl,
+      refl,
+      turn-near _ _ _ _ _ _ _ _ _ (omega arith) (c .before .before .before .before .before .before .before .before .before .before .before .before .before .loop .inv .0) (c .before .before .before .before .before .before .before .before .before .before .before .before .before .loop .inv .2) (c .before .before .before .before .before .before .before .before .before .before .before .before .before .loop .inv .3) _ _ (c .before .before .before .before .before .before .before .before .class-of .ensures .0) (c .before .before .before .before .before .before .before .before .before .before .size-from .ensures .0),
+      c .before .before .before .before .before .before .before .before .before .before .before .before .before .loop .inv .1,
+    )
 
 add-base : tie.Need-add-base Inv-loop μ-loop
-add-base c = omega (arith, known-bound (λ q. c .before .before .before .before .before .before .before .before .before .before .before .before .before .before .before .before .before .slice-known .given q .fits) (omega (arith, c .before .before .before .before .before .before .before .before .before .before .before .before .before .before .before .rows-of .ensures .0, c .before .before .before .before .before .before .before .before .before .before .before .before .before .before .before .rows-of .ensures .1)) (c .before .before .before .before .before .before .before .before .before .before .before .before .before .before .loop .inv .0) (c .before .before .before .before .before .before .before .before .before .before .before .before .before .before .loop .inv .2), c .before .before .before .before .before .before .before .before .before .before .size-at .ensures .1)
+add-base c = omega (arith, known-bound (λ q. c .before .before .before .before .before .before .before .before .before .before .before .before .before .before .before .before .before .slice-known .given q .fits) (omega (arith, c .before .before .before .before .before .before .before .before .before .before .before .before .before .before .before .rows-of .ensures .0, c .before .before .before .before .before .before .before .before .before .before .before .before .before .before .before .rows-of .ensures .1)) (c .before .before .before .before .before .before .before .before .before .before .before .before .before .before .loop .inv .0) (c .before .before .before .before .before .before .before .before .before .before .before .before .before .before .loop .inv .2), c .before .before .before .before .before .before .before .before .before .before .before .size-from .ensures .1)
 
 add-base-2 : tie.Need-add-base-2 Inv-loop μ-loop
-add-base-2 c = omega (arith, known-bound (λ q. c .before .before .before .before .before .before .before .before .before .before .before .before .before .before .before .before .before .before .slice-known .given q .fits) (omega (arith, c .before .before .before .before .before .before .before .before .before .before .before .before .before .before .before .before .rows-of .ensures .0, c .before .before .before .before .before .before .before .before .before .before .before .before .before .before .before .before .rows-of .ensures .1)) (c .before .before .before .before .before .before .before .before .before .before .before .before .before .before .before .loop .inv .0) (c .before .before .before .before .before .before .before .before .before .before .before .before .before .before .before .loop .inv .2), c .before .before .before .before .before .before .before .before .before .before .before .size-at .ensures .1, c .before .unit-before .ensures .small)
+add-base-2 c = omega (arith, known-bound (λ q. c .before .before .before .before .before .before .before .before .before .before .before .before .before .before .before .before .before .before .slice-known .given q .fits) (omega (arith, c .before .before .before .before .before .before .before .before .before .before .before .before .before .before .before .before .rows-of .ensures .0, c .before .before .before .before .before .before .before .before .before .before .before .before .before .before .before .before .rows-of .ensures .1)) (c .before .before .before .before .before .before .before .before .before .before .before .before .before .before .before .loop .inv .0) (c .before .before .before .before .before .before .before .before .before .before .before .before .before .before .before .loop .inv .2), c .before .before .before .before .before .before .before .before .before .before .before .before .size-from .ensures .1, c .before .unit-before .ensures .small)
 
 loop-less : tie.Need-loop-less Inv-loop μ-loop
 loop-less c = search needs
 
 loop-again : tie.Need-loop-again Inv-loop μ-loop
-loop-again c = (
-  omega arith,
-  c .before .unit-before .ensures .long ∙ c .before .before .before .before .before .before .before .before .before .before .before .before .before .before .before .loop .inv .1,
-  turn-known _ _ _ _ _ _ _ _ _ (omega arith) (c .before .before .before .before .before .before .before .before .before .before .before .before .before .before .before .loop .inv .0) (c .before .before .before .before .before .before .before .before .before .before .before .before .before .before .before .loop .inv .2) (c .before .before .before .before .before .before .before .before .before .before .before .before .before .before .before .loop .inv .3) _ _ (c .before .before .before .before .before .before .before .before .before .before .class-of .ensures .0) (c .before .before .before .before .before .before .before .before .before .before .before .size-at .ensures .0) _ _ _ (c .before .unit-before .ensures),
-  turn-planned _ _ _ _ _ _ _ _ _ (omega arith) (c .before .before .before .before .before .before .before .before .before .before .before .before .before .before .before .loop .inv .0) (c .before .before .before .before .before .before .before .before .before .before .before .before .before .before .before .loop .inv .2) (c .before .before .before .before .before .before .before .before .before .before .before .before .before .before .before .loop .inv .3) _ _ (c .before .before .before .before .before .before .before .before .before .before .class-of .ensures .0) (c .before .before .before .before .before .before .before .before .before .before .before .size-at .ensures .0) _ (c .before .before .before .before .before .before .before .keep .ensures),
-)
+loop-again c =
+    (
+      omega arith,
+      c .before .unit-before .ensures .long ∙ c .before .before .before .before .before .before .before .before .before .before .before .before .before .before .before .loop .inv .1,
+      turn-known _ _ _ _ _ _ _ _ _ (omega arith) (c .before .before .before .before .before .before .before .before .before .before .before .before .before .before .before .loop .inv .0) (c .before .before .before .before .before .before .before .before .before .before .before .before .before .before .before .loop .inv .2) (c .before .before .before .before .before .before .before .before .before .before .before .before .before .before .before .loop .inv .3) _ _ (c .before .before .before .before .before .before .before .before .before .before .class-of .ensures .0) (c .before .before .before .before .before .before .before .before .before .before .before .before .size-from .ensures .0) _ _ _ (c .before .unit-before .ensures),
+      turn-planned _ _ _ _ _ _ _ _ _ (omega arith) (c .before .before .before .before .before .before .before .before .before .before .before .before .before .before .before .loop .inv .0) (c .before .before .before .before .before .before .before .before .before .before .before .before .before .before .before .loop .inv .2) (c .before .before .before .before .before .before .before .before .before .before .before .before .before .before .before .loop .inv .3) _ _ (c .before .before .before .before .before .before .before .before .before .before .class-of .ensures .0) (c .before .before .before .before .before .before .before .before .before .before .before .before .size-from .ensures .0) _ (c .before .before .before .before .before .before .before .keep .ensures),
+    )
 
 array-read-result : tie.Need-array-read-result Inv-loop μ-loop
 array-read-result c = search needs
@@ -106,9 +108,9 @@ plan-spec =
     loop-holds
     sub-i
     mul-row
-    add-tag
-    slice-read-tag
-    size-at-requires
+    size-from-requires
+    add-class-of
+    slice-read-class-of
     class-of-requires
     keep-requires
     unit-before-requires

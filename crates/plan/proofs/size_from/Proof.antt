@@ -1,15 +1,19 @@
--- `plan::size_at` meets its contract, tag by tag.
-use Prim.Native.Nat.{_+_}
-use Rattle.base.proofs.Ladder.{on-lt, on-ge}
-use Prim.Native.Nat.{ℕ}
-use Rattle.rows.specs.Rows.{partOf}
+-- `plan::size_from` meets its contract, tag by tag.
 use native.Mathlib.Omega.{arith}
+use Prim.Native.Nat.{ℕ, _+_}
 use mathlib.Core.Path.{ap, ap₂, _∙_}
-use Rattle.base.proofs.Ladder.{ladder}
+use Rattle.base.proofs.Ladder.{ladder, on-lt, on-ge}
+use Rattle.rows.specs.Rows.{partOf}
 use Rattle.plan.specs.Costs.{sizeOf}
 use borrow.Author.Needs.{needs}
-use Rattle.plan.proofs.size_at.Statement.{statement}
-use Rattle.plan.proofs.size_at.Tie as tie
+use Rattle.plan.proofs.size_from.Statement.{statement}
+use Rattle.plan.proofs.size_from.Tie as tie
+
+add-tag : tie.Need-add-tag
+add-tag c = search needs
+
+shared-slice-read-tag : tie.Need-shared-slice-read-tag
+shared-slice-read-tag c = search needs
 
 returns : tie.Need-returns
 unfolding sizeOf
@@ -82,17 +86,20 @@ add-result c = search needs
 returns-6 : tie.Need-returns-6
 unfolding sizeOf
 returns-6 c =
-    let e = c .part-of .ensures ∙ ap₂ (λ (n s : ℕ). partOf n s (c .before .before .before .before .before .before .before .before .before .before .before .before .before .before .before .before .args .m)) (c .before .before .before .before .before .before .count-of .ensures .0) (c .before .four-octets .ensures) in
-    (on-ge _ _ _ _ _ (c .before .before .before .before .before .before .before .before .before .before .before .before .before .before .if1 .left) (on-ge _ _ _ _ _ (c .before .before .before .before .before .before .before .before .before .before .before .before .before .if2 .left) (on-ge _ _ _ _ _ (c .before .before .before .before .before .before .before .before .before .before .before .before .if3 .left) (on-ge _ _ _ _ _ (c .before .before .before .before .before .before .before .before .before .before .before .if4 .left) (on-ge _ _ _ _ _ (c .before .before .before .before .before .before .before .before .before .before .if5 .left) (on-lt _ _ _ _ _ (c .before .before .before .before .before .before .before .before .before .if6 .taken) (ap (λ (p : ℕ). 6 + p) e)))))), omega (arith, c .part-of .ensures, c .before .before .before .before .before .before .count-of .ensures .1))
+    let e = c .part-of .ensures ∙ ap₂ (λ (n s : ℕ). partOf n s (c .before .before .before .before .before .before .before .before .before .before .before .before .before .before .before .before .before .args .m)) (c .before .before .before .before .before .before .count-of .ensures .0) (c .before .four-octets .ensures) in
+    let six = on-ge _ _ _ _ _ (c .before .before .before .before .before .before .before .before .before .before .if5 .left) (on-lt _ _ _ _ _ (c .before .before .before .before .before .before .before .before .before .if6 .taken) (ap (λ (p : ℕ). 6 + p) e)) in
+    (on-ge _ _ _ _ _ (c .before .before .before .before .before .before .before .before .before .before .before .before .before .before .if1 .left) (on-ge _ _ _ _ _ (c .before .before .before .before .before .before .before .before .before .before .before .before .before .if2 .left) (on-ge _ _ _ _ _ (c .before .before .before .before .before .before .before .before .before .before .before .before .if3 .left) (on-ge _ _ _ _ _ (c .before .before .before .before .before .before .before .before .before .before .before .if4 .left) six))), omega (arith, c .part-of .ensures, c .before .before .before .before .before .before .count-of .ensures .1))
 
 returns-7 : tie.Need-returns-7
 unfolding sizeOf
 returns-7 c = (search ladder depth 9, omega arith)
 
-pub size-at-spec : {M : Type 1} → statement M
-size-at-spec =
+pub size-from-spec : {M : Type 1} → statement M
+size-from-spec =
     tie.close
     (tie.spec
+    add-tag
+    shared-slice-read-tag
     returns
     returns-2
     returns-3
