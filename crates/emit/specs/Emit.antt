@@ -1,10 +1,10 @@
 -- Writing the units of the rows by their plan: the answer and the output, and what the steps of it give.
-use Prim.Native.Nat.{ℕ, suc, _+_, _*_, _/_, _%_, _≤_, _<_}
+use Prim.Native.Nat.{ℕ, _+_, _<_}
 use mathlib.Core.Path.{_≡_}
-use mathlib.Core.Bool.{Bool, cond, _&&_}
+use mathlib.Core.Bool.{Bool, cond}
 use mathlib.Core.List.{List, [], _∷_}
-use lib.Dec.{eqb, leb, ltb}
-use lib.ListN.{length, getD}
+use lib.Dec.{eqb, ltb}
+use lib.ListN.{length}
 use lib.Seq.{sets}
 use Rattle.base.specs.Answers.{refusedAt}
 use Rattle.base.specs.Choice.{pick}

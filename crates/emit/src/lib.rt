@@ -8,7 +8,7 @@ ghost use Rattle.writing.specs.Writing.{writing, designated};
 ghost use Rattle.rows.specs.Rows.{unitsIn};
 ghost use Rattle.plan.specs.Numbers.{setsInGL, setsInGR, placesInGL, placesInGR, afterFirst, afterSecond, chosenBy, change};
 ghost use Rattle.plan.specs.Costs.{secondSlot};
-ghost use Rattle.emit.specs.Emit.{rowsAnswer, rowsOutput, Written, sideOf, Ready};
+ghost use Rattle.emit.specs.Emit.{rowsAnswer, rowsOutput, Written, Ready};
 use base::Answer;
 use base::limit;
 use base::refusal;

@@ -2,7 +2,7 @@
 ghost use mathlib.Core.Path.{_≡_};
 ghost use mathlib.Core.List.{[], _∷_};
 ghost use Prim.Native.Nat.{_+_, _-_, _%_, _≤_, _<_};
-ghost use lib.ListN.{length, getD, take, drop};
+ghost use lib.ListN.{length, take, drop};
 ghost use Rattle.charset.specs.Charsets.{rowOf};
 ghost use Rattle.state.specs.State.{on};
 ghost use Rattle.charset.specs.declared.Side.the-variants.{GL};
@@ -15,23 +15,8 @@ fn final_of(set: usize) -> u8
     requires { ⌜ set < 15 ⌝ }
     ensures { λ r. ⌜ r ≡ rowOf set .last ⌝ }
 {
-    match set {
-        0 => 0x42,
-        1 => 0x49,
-        2 => 0x4A,
-        3 => 0x41,
-        4 => 0x42,
-        5 => 0x43,
-        6 => 0x44,
-        7 => 0x46,
-        8 => 0x47,
-        9 => 0x48,
-        10 => 0x4C,
-        11 => 0x4D,
-        12 => 0x41,
-        13 => 0x42,
-        _ => 0x43,
-    }
+    let finals = b"BIJABCDFGHLMABC";
+    finals[set]
 }
 
 // The octet of a designation that says the side and the form.

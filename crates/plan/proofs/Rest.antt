@@ -20,7 +20,7 @@ use Rattle.grammar.proofs.Sound.{lead-size}
 use Rattle.writing.specs.Writing.{Need, least, choose, after, price, cost}
 use Rattle.writing.proofs.Needs.{spent, least-chosen}
 use Rattle.writing.proofs.Costs.{cost-steady}
-use Rattle.rows.specs.Rows.{tagAt, startFrom, countOf, partOf, unitTagged, unitFrom, unitsIn}
+use Rattle.rows.specs.Rows.{tagAt, startFrom, countOf, partOf, unitsIn}
 use Rattle.plan.specs.Numbers.{numbered, classOf, needOfClass, afterFirst, afterSecond, afterChoice, surcharge}
 use Rattle.plan.specs.Costs.{sizeOf, sizeAt, restFrom, leastBy, Smooth, changes, Turned, TwoStandings, secondSlot, RowKept, CostsKept, Planned}
 use Rattle.plan.proofs.Numbers.{choice-at, chosen-base, below, steady-at}
@@ -89,7 +89,7 @@ CostsAre o before n i base cur = (k : ℕ) → k < 80 → base + getD cur k 0 �
 abbrev Settled : List ℕ → List ℕ → ℕ → ℕ → ℕ → Type 0
 Settled o before n i x = (s : Sets) → least (needOfClass x) (restFrom o before n i) s ≡ restFrom o before n i s
 
-class-below : (t : ℕ) → classOf t < 17
+pub class-below : (t : ℕ) → classOf t < 17
 unfolding classOf pick
 class-below t = go (ltb t 16) refl
   where
@@ -317,7 +317,7 @@ module _ (o before : List ℕ) (n i j base last : ℕ) (cur room : List ℕ) (e 
           }
 
 -- the sets of the fresh state have number 1
-fresh-number : numbered 1 ≡ fresh .sets
+pub fresh-number : numbered 1 ≡ fresh .sets
 unfolding numbered
 fresh-number = refl
 

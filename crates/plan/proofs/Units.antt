@@ -14,7 +14,7 @@ use Rattle.grammar.specs.Units.{revert, ext, wide, octets}
 use Rattle.grammar.proofs.Complete.{and-left, and-right}
 use Rattle.writing.specs.Writing.{Need, free, either, need, least, size, cost}
 use Rattle.writing.proofs.Sets.{up-to}
-use Rattle.rows.specs.Rows.{tagAt, startFrom, countOf, partOf, unitTagged, unitFrom, unitsIn}
+use Rattle.rows.specs.Rows.{tagAt, startFrom, countOf, partOf, unitTagged, unitsIn}
 use Rattle.plan.specs.Numbers.{classOf, needOfClass}
 use Rattle.plan.specs.Costs.{sizeOf, sizeAt, restFrom}
 use Rattle.plan.proofs.Numbers.{sameStanding, sameStanding-eq}

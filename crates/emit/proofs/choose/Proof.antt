@@ -1,96 +1,72 @@
+-- `emit::choose` meets its contract, by the two numbers and what the row keeps.
+use Rattle.plan.proofs.Numbers.{chosen-only}
+use Rattle.emit.proofs.Chosen.{first-stays, second-stays, character-first, character-second, space-first, space-second}
 use borrow.Author.Needs.{needs}
 use Rattle.emit.proofs.choose.Statement.{statement}
 use Rattle.emit.proofs.choose.Tie as tie
-use Rattle.emit.proofs.choose.Reads as reads
-use Rattle.emit.proofs.choose.Lts as lts
-use Rattle.emit.proofs.after_first.Reads as after-first-reads
-use Rattle.emit.proofs.after_second.Reads as after-second-reads
-use Rattle.plan.proofs.place_in_gl.Reads as place-in-gl-reads
-use Rattle.plan.proofs.place_in_gr.Reads as place-in-gr-reads
 
--- src/lib.rt:57:9
 place-in-gl-requires : tie.Need-place-in-gl-requires
 place-in-gl-requires c κs = search needs
 
--- src/lib.rt:58:9
 place-in-gr-requires : tie.Need-place-in-gr-requires
 place-in-gr-requires c κs = search needs
 
--- src/lib.rt:59:9
 after-first-requires : tie.Need-after-first-requires
 after-first-requires c κs = search needs
 
--- src/lib.rt:61:9
 returns : tie.Need-returns
-returns c = ?
+returns c = first-stays _ _ _ _ _ (c .before .after-first .ensures) (c .if1 .taken)
 
--- src/lib.rt:64:9
 returns-2 : tie.Need-returns-2
-returns-2 c = ?
+returns-2 c = chosen-only _ _ _ _ _ (c .before .before .after-first .ensures) (c .before .if1 .left) (c .if2 .taken) (search needs)
 
--- src/lib.rt:66:9
 after-second-requires : tie.Need-after-second-requires
 after-second-requires c κs = search needs
 
--- src/lib.rt:68:9
 returns-3 : tie.Need-returns-3
-returns-3 c = ?
+returns-3 c = second-stays _ _ _ _ (c .before .before .before .before .before .before .before .before .args .work .now) (c .before .before .before .before .before .before .before .before .args .row) (c .before .before .before .before .after-first .ensures) (c .before .after-second .ensures) (c .if3 .taken)
 
--- src/lib.rt:71:17
 add-if5 : tie.Need-add-if5
 add-if5 c = search needs
 
--- src/lib.rt:71:12
 shared-slice-read-if5 : tie.Need-shared-slice-read-if5
 shared-slice-read-if5 c = search needs
 
--- src/lib.rt:71:46
 add-if5-2 : tie.Need-add-if5-2
 add-if5-2 c = search needs
 
--- src/lib.rt:71:39
 add-if5-3 : tie.Need-add-if5-3
 add-if5-3 c = search needs
 
--- src/lib.rt:71:34
 shared-slice-read-if5-2 : tie.Need-shared-slice-read-if5-2
 shared-slice-read-if5-2 c = search needs
 
--- src/lib.rt:72:13
 returns-4 : tie.Need-returns-4
-returns-4 c = ?
+returns-4 c = character-first _ _ _ _ (c .before .before .before .before .before .before .before .before .before .before .before .before .args .work .now) (c .before .before .before .before .before .before .before .before .before .before .before .before .args .row) (c .before .before .before .before .before .before .before .before .after-first .ensures) (c .before .before .before .before .before .after-second .ensures) (c .before .before .before .before .before .before .before .if1 .left) (c .before .before .before .before .if3 .left) (c .before .before .before .if4 .taken) (c .if5 .taken)
 
--- src/lib.rt:74:9
 returns-5 : tie.Need-returns-5
-returns-5 c = ?
+returns-5 c = character-second _ _ _ _ (c .before .before .before .before .before .before .before .before .before .before .before .before .args .work .now) (c .before .before .before .before .before .before .before .before .before .before .before .before .args .row) (c .before .before .before .before .before .before .before .before .after-first .ensures) (c .before .before .before .before .before .after-second .ensures) (c .before .before .before .before .before .before .before .if1 .left) (c .before .before .before .before .if3 .left) (c .before .before .before .if4 .taken) (c .if5 .left)
 
--- src/lib.rt:76:13
 add-if6 : tie.Need-add-if6
 add-if6 c = search needs
 
--- src/lib.rt:76:8
 shared-slice-read-if6 : tie.Need-shared-slice-read-if6
 shared-slice-read-if6 c = search needs
 
--- src/lib.rt:76:42
 add-if6-2 : tie.Need-add-if6-2
 add-if6-2 c = search needs
 
--- src/lib.rt:76:35
 add-if6-3 : tie.Need-add-if6-3
 add-if6-3 c = search needs
 
--- src/lib.rt:76:30
 shared-slice-read-if6-2 : tie.Need-shared-slice-read-if6-2
 shared-slice-read-if6-2 c = search needs
 
--- src/lib.rt:77:9
 returns-6 : tie.Need-returns-6
-returns-6 c = ?
+returns-6 c = space-first _ _ _ _ (c .before .before .before .before .before .before .before .before .before .before .before .before .args .work .now) (c .before .before .before .before .before .before .before .before .before .before .before .before .args .row) (c .before .before .before .before .before .before .before .before .after-first .ensures) (c .before .before .before .before .before .after-second .ensures) (c .before .before .before .before .before .before .before .if1 .left) (c .before .before .before .before .if3 .left) (c .before .before .before .if4 .left) (c .if6 .taken)
 
--- src/lib.rt:53:1
 returns-7 : tie.Need-returns-7
-returns-7 c = ?
+returns-7 c = space-second _ _ _ _ (c .before .before .before .before .before .before .before .before .before .before .before .before .args .work .now) (c .before .before .before .before .before .before .before .before .before .before .before .before .args .row) (c .before .before .before .before .before .before .before .before .after-first .ensures) (c .before .before .before .before .before .after-second .ensures) (c .before .before .before .before .before .before .before .if1 .left) (c .before .before .before .before .if3 .left) (c .before .before .before .if4 .left) (c .if6 .left)
 
 pub choose-spec : {M : Type 1} → statement M
 choose-spec =

@@ -1,47 +1,46 @@
+-- `emit::put_change` meets its contract, by where the two numbers differ.
+use native.Mathlib.Omega.{arith}
+use mathlib.Core.Path.{ap}
+use lib.ListN.{length}
+use Rattle.emit.proofs.Stores.{written-none, written-as, change-none, change-gr, change-gl}
 use borrow.Author.Needs.{needs}
 use Rattle.emit.proofs.put_change.Statement.{statement}
 use Rattle.emit.proofs.put_change.Tie as tie
-use Rattle.emit.proofs.put_change.Reads as reads
-use Rattle.emit.proofs.put_change.Lts as lts
-use Rattle.emit.proofs.octets.put_designation.Reads as put-designation-reads
-use Rattle.emit.proofs.set_in_gl.Reads as set-in-gl-reads
-use Rattle.emit.proofs.set_in_gr.Reads as set-in-gr-reads
 
--- src/lib.rt:116:9
 returns : tie.Need-returns
-returns c = ?
+returns c = written-as (change-none _ _ (c .if1 .taken)) (written-none _ _)
 
--- src/lib.rt:119:47
 set-in-gr-requires : tie.Need-set-in-gr-requires
 set-in-gr-requires c κs = search needs
 
--- src/lib.rt:119:9
 put-designation-requires : tie.Need-put-designation-requires
-put-designation-requires c κs = ?
+put-designation-requires c κs =
+    let e = change-gr (c .before .before .before .before .before .args .k) (c .before .before .before .before .before .args .j) _ (c .before .before .before .if1 .left) (c .before .before .if2 .taken) (c .before .set-in-gr .ensures .0) in
+    (c .before .set-in-gr .ensures .1, omega (arith, ap length e, c .before .before .before .before .before .pre .2))
 
--- src/lib.rt:119:9
 same-length : tie.Need-same-length
 same-length c = search needs
 
--- src/lib.rt:119:9
 returns-2 : tie.Need-returns-2
-returns-2 c = ?
+returns-2 c =
+    let e = change-gr (c .before .before .before .before .before .before .before .before .args .k) (c .before .before .before .before .before .before .before .before .args .j) _ (c .before .before .before .before .before .before .if1 .left) (c .before .before .before .before .before .if2 .taken) (c .before .before .before .before .set-in-gr .ensures .0) in
+    written-as e (c .before .before .put-designation .ensures)
 
--- src/lib.rt:121:35
 set-in-gl-requires : tie.Need-set-in-gl-requires
 set-in-gl-requires c κs = search needs
 
--- src/lib.rt:121:5
 put-designation-requires-2 : tie.Need-put-designation-requires-2
-put-designation-requires-2 c κs = ?
+put-designation-requires-2 c κs =
+    let e = change-gl (c .before .before .before .before .before .args .k) (c .before .before .before .before .before .args .j) _ (c .before .before .before .if1 .left) (c .before .before .if2 .left) (c .before .set-in-gl .ensures .0) in
+    (c .before .set-in-gl .ensures .1, omega (arith, ap length e, c .before .before .before .before .before .pre .2))
 
--- src/lib.rt:111:1
 same-length-2 : tie.Need-same-length-2
 same-length-2 c = search needs
 
--- src/lib.rt:111:1
 returns-3 : tie.Need-returns-3
-returns-3 c = ?
+returns-3 c =
+    let e = change-gl (c .before .before .before .before .before .before .before .before .args .k) (c .before .before .before .before .before .before .before .before .args .j) _ (c .before .before .before .before .before .before .if1 .left) (c .before .before .before .before .before .if2 .left) (c .before .before .before .before .set-in-gl .ensures .0) in
+    written-as e (c .before .before .put-designation2 .ensures)
 
 pub put-change-spec : {M : Type 1} → statement M
 put-change-spec =

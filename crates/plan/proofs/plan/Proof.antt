@@ -52,16 +52,15 @@ keep-requires : tie.Need-keep-requires Inv-loop μ-loop
 keep-requires c κs = (c .before .before .class-of .ensures .1, omega (arith, c .before .before .before .before .before .before .before .before .rows-of .ensures .0, c .before .before .before .before .before .before .before .before .rows-of .ensures .1, c .before .before .before .before .before .before .before .before .rows-of .ensures .2, c .before .before .before .before .before .before .before .loop .inv .0, c .before .before .before .before .before .before .before .loop .inv .3 .long))
 
 unit-before-requires : tie.Need-unit-before-requires Inv-loop μ-loop
-unit-before-requires c κs =
-    (
-      c .before .before .before .before .before .before .before .before .class-of .ensures .1,
-      c .before .before .before .before .before .before .before .before .before .before .before .before .before .loop .inv .2 .low,
-      known-smooth _ (c .before .before .before .before .before .before .before .before .before .before .before .before .before .loop .inv .1) (c .before .before .before .before .before .before .before .before .before .before .before .before .before .loop .inv .2) (c .before .before .before .before .before .before .before .before .class-of .ensures .1),
-      refl,
-      refl,
-      turn-near _ _ _ _ _ _ _ _ _ (omega arith) (c .before .before .before .before .before .before .before .before .before .before .before .before .before .loop .inv .0) (c .before .before .before .before .before .before .before .before .before .before .before .before .before .loop .inv .2) (c .before .before .before .before .before .before .before .before .before .before .before .before .before .loop .inv .3) _ _ (c .before .before .before .before .before .before .before .before .class-of .ensures .0) (c .before .before .before .before .before .before .before .before .before .before .size-from .ensures .0),
-      c .before .before .before .before .before .before .before .before .before .before .before .before .before .loop .inv .1,
-    )
+unit-before-requires c κs = (
+  c .before .before .before .before .before .before .before .before .class-of .ensures .1,
+  c .before .before .before .before .before .before .before .before .before .before .before .before .before .loop .inv .2 .low,
+  known-smooth _ (c .before .before .before .before .before .before .before .before .before .before .before .before .before .loop .inv .1) (c .before .before .before .before .before .before .before .before .before .before .before .before .before .loop .inv .2) (c .before .before .before .before .before .before .before .before .class-of .ensures .1),
+  refl,
+  refl,
+  turn-near _ _ _ _ _ _ _ _ _ (omega arith) (c .before .before .before .before .before .before .before .before .before .before .before .before .before .loop .inv .0) (c .before .before .before .before .before .before .before .before .before .before .before .before .before .loop .inv .2) (c .before .before .before .before .before .before .before .before .before .before .before .before .before .loop .inv .3) _ _ (c .before .before .before .before .before .before .before .before .class-of .ensures .0) (c .before .before .before .before .before .before .before .before .before .before .size-from .ensures .0),
+  c .before .before .before .before .before .before .before .before .before .before .before .before .before .loop .inv .1,
+)
 
 add-base : tie.Need-add-base Inv-loop μ-loop
 add-base c = omega (arith, known-bound (λ q. c .before .before .before .before .before .before .before .before .before .before .before .before .before .before .before .before .before .slice-known .given q .fits) (omega (arith, c .before .before .before .before .before .before .before .before .before .before .before .before .before .before .before .rows-of .ensures .0, c .before .before .before .before .before .before .before .before .before .before .before .before .before .before .before .rows-of .ensures .1)) (c .before .before .before .before .before .before .before .before .before .before .before .before .before .before .loop .inv .0) (c .before .before .before .before .before .before .before .before .before .before .before .before .before .before .loop .inv .2), c .before .before .before .before .before .before .before .before .before .before .before .size-from .ensures .1)
@@ -73,13 +72,12 @@ loop-less : tie.Need-loop-less Inv-loop μ-loop
 loop-less c = search needs
 
 loop-again : tie.Need-loop-again Inv-loop μ-loop
-loop-again c =
-    (
-      omega arith,
-      c .before .unit-before .ensures .long ∙ c .before .before .before .before .before .before .before .before .before .before .before .before .before .before .before .loop .inv .1,
-      turn-known _ _ _ _ _ _ _ _ _ (omega arith) (c .before .before .before .before .before .before .before .before .before .before .before .before .before .before .before .loop .inv .0) (c .before .before .before .before .before .before .before .before .before .before .before .before .before .before .before .loop .inv .2) (c .before .before .before .before .before .before .before .before .before .before .before .before .before .before .before .loop .inv .3) _ _ (c .before .before .before .before .before .before .before .before .before .before .class-of .ensures .0) (c .before .before .before .before .before .before .before .before .before .before .before .before .size-from .ensures .0) _ _ _ (c .before .unit-before .ensures),
-      turn-planned _ _ _ _ _ _ _ _ _ (omega arith) (c .before .before .before .before .before .before .before .before .before .before .before .before .before .before .before .loop .inv .0) (c .before .before .before .before .before .before .before .before .before .before .before .before .before .before .before .loop .inv .2) (c .before .before .before .before .before .before .before .before .before .before .before .before .before .before .before .loop .inv .3) _ _ (c .before .before .before .before .before .before .before .before .before .before .class-of .ensures .0) (c .before .before .before .before .before .before .before .before .before .before .before .before .size-from .ensures .0) _ (c .before .before .before .before .before .before .before .keep .ensures),
-    )
+loop-again c = (
+  omega arith,
+  c .before .unit-before .ensures .long ∙ c .before .before .before .before .before .before .before .before .before .before .before .before .before .before .before .loop .inv .1,
+  turn-known _ _ _ _ _ _ _ _ _ (omega arith) (c .before .before .before .before .before .before .before .before .before .before .before .before .before .before .before .loop .inv .0) (c .before .before .before .before .before .before .before .before .before .before .before .before .before .before .before .loop .inv .2) (c .before .before .before .before .before .before .before .before .before .before .before .before .before .before .before .loop .inv .3) _ _ (c .before .before .before .before .before .before .before .before .before .before .class-of .ensures .0) (c .before .before .before .before .before .before .before .before .before .before .before .before .size-from .ensures .0) _ _ _ (c .before .unit-before .ensures),
+  turn-planned _ _ _ _ _ _ _ _ _ (omega arith) (c .before .before .before .before .before .before .before .before .before .before .before .before .before .before .before .loop .inv .0) (c .before .before .before .before .before .before .before .before .before .before .before .before .before .before .before .loop .inv .2) (c .before .before .before .before .before .before .before .before .before .before .before .before .before .before .before .loop .inv .3) _ _ (c .before .before .before .before .before .before .before .before .before .before .class-of .ensures .0) (c .before .before .before .before .before .before .before .before .before .before .before .before .size-from .ensures .0) _ (c .before .before .before .before .before .before .before .keep .ensures),
+)
 
 array-read-result : tie.Need-array-read-result Inv-loop μ-loop
 array-read-result c = search needs

@@ -1,57 +1,52 @@
+-- `emit::octets::copy` meets its contract. The invariant: the first k octets are stored.
+use borrow.Author.Needs.{needs}
+use native.Mathlib.Omega.{arith}
+use mathlib.Core.Path.{_≡_, refl}
+use Prim.Native.Nat.{_-_, _≤_}
+use lib.ListN.{length, take, drop, length-set}
+use lib.Seq.{sets}
+use Rattle.emit.proofs.Stores.{copy-more, copy-done}
 use Rattle.emit.proofs.octets.copy.Statement.{statement}
 use Rattle.emit.proofs.octets.copy.Tie as tie
-use Rattle.emit.proofs.octets.copy.Reads as reads
-use Rattle.emit.proofs.octets.copy.Lts as lts
 
 abbrev Inv-loop : tie.InvT-loop
-Inv-loop src from n out₀ at k₀ out k = ?
+Inv-loop src from n out₀ at k₀ out k = (k ≤ n) × (length out ≡ length out₀) × (out ≡ sets out₀ at (take k (drop from src)))
 
 abbrev μ-loop : tie.MeasureT-loop
-μ-loop src from n out₀ at k₀ out k = ?
+μ-loop src from n out₀ at k₀ out k = n - k
 
--- src/octets.rt:85:5
 loop-holds : tie.Need-loop-holds Inv-loop μ-loop
-loop-holds c = ?
+loop-holds c = (search needs, refl, refl)
 
--- src/octets.rt:86:27
 add-out : tie.Need-add-out Inv-loop μ-loop
-add-out c = ?
+add-out c = search needs
 
--- src/octets.rt:86:23
 shared-slice-read-out : tie.Need-shared-slice-read-out Inv-loop μ-loop
-shared-slice-read-out c = ?
+shared-slice-read-out c = search needs
 
--- src/octets.rt:86:13
 add-out-2 : tie.Need-add-out-2 Inv-loop μ-loop
-add-out-2 c = ?
+add-out-2 c = search needs
 
--- src/octets.rt:86:9
 slice-write-out : tie.Need-slice-write-out Inv-loop μ-loop
-slice-write-out c = ?
+slice-write-out c = search needs
 
--- src/octets.rt:87:9
 add-k : tie.Need-add-k Inv-loop μ-loop
-add-k c = ?
+add-k c = search needs
 
--- src/octets.rt:85:5
 loop-less : tie.Need-loop-less Inv-loop μ-loop
-loop-less c = ?
+loop-less c = search needs
 
--- src/octets.rt:85:5
 loop-again : tie.Need-loop-again Inv-loop μ-loop
-loop-again c = ?
+loop-again c = (omega arith, simp length-set (c .before .before .loop .inv .1), copy-more (c .before .before .before .args .out .now) _ (c .before .before .before .args .src .now) _ (c .before .before .before .args .from) _ _ (c .before .loop-test .taken) (c .before .before .before .pre .0) (c .before .before .loop .inv .2))
 
--- src/octets.rt:89:5
 add-result : tie.Need-add-result Inv-loop μ-loop
-add-result c = ?
+add-result c = search needs
 
--- src/octets.rt:80:1
 same-length : tie.Need-same-length Inv-loop μ-loop
-same-length c = ?
+same-length c = search needs
 
--- src/octets.rt:80:1
 returns : tie.Need-returns Inv-loop μ-loop
-returns c = ?
+returns c = copy-done _ _ (c .before .before .args .src .now) _ (c .before .before .args .from) _ _ (c .before .loop .inv .0) (search needs) (c .before .before .pre .0) (c .before .loop .inv .2)
 
 pub copy-spec : {M : Type 1} → statement M
 copy-spec =

@@ -1,85 +1,24 @@
+-- `emit::octets::final_of` meets its contract: one test of all fifteen.
+use mathlib.Core.Path.{refl}
+use lib.Dec.{eqb}
+use lib.ListN.{getD}
+use mathlib.Core.List.{List, [], _∷_}
+use Prim.Native.Nat.{ℕ}
+use borrow.Author.Tests.{eqb-true}
+use Rattle.charset.specs.Charsets.{rowOf}
+use Rattle.writing.proofs.Sets.{up-to}
 use borrow.Author.Needs.{needs}
 use Rattle.emit.proofs.octets.final_of.Statement.{statement}
 use Rattle.emit.proofs.octets.final_of.Tie as tie
-use Rattle.emit.proofs.octets.final_of.Reads as reads
-use Rattle.emit.proofs.octets.final_of.Lts as lts
 
--- src/octets.rt:14:1
+abbrev finals : List ℕ
+finals = 0x42 ∷ 0x49 ∷ 0x4A ∷ 0x41 ∷ 0x42 ∷ 0x43 ∷ 0x44 ∷ 0x46 ∷ 0x47 ∷ 0x48 ∷ 0x4C ∷ 0x4D ∷ 0x41 ∷ 0x42 ∷ 0x43 ∷ []
+
+element-copy-out-result : tie.Need-element-copy-out-result
+element-copy-out-result c = search needs
+
 returns : tie.Need-returns
-returns c = search needs
-
--- src/octets.rt:14:1
-returns-2 : tie.Need-returns-2
-returns-2 c = search needs
-
--- src/octets.rt:14:1
-returns-3 : tie.Need-returns-3
-returns-3 c = search needs
-
--- src/octets.rt:14:1
-returns-4 : tie.Need-returns-4
-returns-4 c = search needs
-
--- src/octets.rt:14:1
-returns-5 : tie.Need-returns-5
-returns-5 c = search needs
-
--- src/octets.rt:14:1
-returns-6 : tie.Need-returns-6
-returns-6 c = search needs
-
--- src/octets.rt:14:1
-returns-7 : tie.Need-returns-7
-returns-7 c = search needs
-
--- src/octets.rt:14:1
-returns-8 : tie.Need-returns-8
-returns-8 c = search needs
-
--- src/octets.rt:14:1
-returns-9 : tie.Need-returns-9
-returns-9 c = search needs
-
--- src/octets.rt:14:1
-returns-10 : tie.Need-returns-10
-returns-10 c = search needs
-
--- src/octets.rt:14:1
-returns-11 : tie.Need-returns-11
-returns-11 c = search needs
-
--- src/octets.rt:14:1
-returns-12 : tie.Need-returns-12
-returns-12 c = search needs
-
--- src/octets.rt:14:1
-returns-13 : tie.Need-returns-13
-returns-13 c = search needs
-
--- src/octets.rt:14:1
-returns-14 : tie.Need-returns-14
-returns-14 c = search needs
-
--- src/octets.rt:14:1
-returns-15 : tie.Need-returns-15
-returns-15 c = ?
+returns c = eqb-true _ _ (up-to 15 (λ c. eqb (getD finals c 0) (rowOf c .last)) refl (c .before .before .args .set) (c .before .before .pre))
 
 pub final-of-spec : {M : Type 1} → statement M
-final-of-spec =
-    tie.close
-    (tie.spec
-    returns
-    returns-2
-    returns-3
-    returns-4
-    returns-5
-    returns-6
-    returns-7
-    returns-8
-    returns-9
-    returns-10
-    returns-11
-    returns-12
-    returns-13
-    returns-14
-    returns-15)
+final-of-spec = tie.close (tie.spec element-copy-out-result returns)

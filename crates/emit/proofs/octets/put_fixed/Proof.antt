@@ -1,105 +1,125 @@
+-- `emit::octets::put_fixed` meets its contract, tag by tag.
+use native.Mathlib.Omega.{arith}
+use mathlib.Core.Path.{_≡_, ap}
+use lib.ListN.{length, length-set}
+use mathlib.Core.List.{[], _∷_}
+use Rattle.base.proofs.Ladder.{ladder}
+use Rattle.emit.proofs.Stores.{written-1, written-2, written-is}
+use Rattle.emit.specs.Emit.{fixedOctets}
 use borrow.Author.Needs.{needs}
 use Rattle.emit.proofs.octets.put_fixed.Statement.{statement}
 use Rattle.emit.proofs.octets.put_fixed.Tie as tie
-use Rattle.emit.proofs.octets.put_fixed.Reads as reads
-use Rattle.emit.proofs.octets.put_fixed.Lts as lts
-use Rattle.emit.proofs.octets.put_three.Reads as put-three-reads
 
--- src/octets.rt:98:9
 slice-write-out : tie.Need-slice-write-out
-slice-write-out c = ?
+unfolding fixedOctets
+slice-write-out c =
+    let e : 0x20 ∷ [] ≡ fixedOctets (c .before .before .args .tag) = search ladder depth 9 in
+    omega (arith, ap length e, c .before .before .pre)
 
--- src/octets.rt:99:16
 add-result : tie.Need-add-result
 add-result c = search needs
 
--- src/octets.rt:99:9
 same-length : tie.Need-same-length
 same-length c = search needs
 
--- src/octets.rt:99:9
 returns : tie.Need-returns
-returns c = ?
+unfolding fixedOctets
+returns c =
+    let e : 0x20 ∷ [] ≡ fixedOctets (c .before .before .args .tag) = search ladder depth 9 in
+    written-is e (written-1 _ _ _)
 
--- src/octets.rt:102:9
 slice-write-out-2 : tie.Need-slice-write-out-2
-slice-write-out-2 c = ?
+unfolding fixedOctets
+slice-write-out-2 c =
+    let e : 0x09 ∷ [] ≡ fixedOctets (c .before .before .before .args .tag) = search ladder depth 9 in
+    omega (arith, ap length e, c .before .before .before .pre)
 
--- src/octets.rt:103:16
 add-result-2 : tie.Need-add-result-2
 add-result-2 c = search needs
 
--- src/octets.rt:103:9
 same-length-2 : tie.Need-same-length-2
 same-length-2 c = search needs
 
--- src/octets.rt:103:9
 returns-2 : tie.Need-returns-2
-returns-2 c = ?
+unfolding fixedOctets
+returns-2 c =
+    let e : 0x09 ∷ [] ≡ fixedOctets (c .before .before .before .args .tag) = search ladder depth 9 in
+    written-is e (written-1 _ _ _)
 
--- src/octets.rt:106:9
 slice-write-out-3 : tie.Need-slice-write-out-3
-slice-write-out-3 c = ?
+unfolding fixedOctets
+slice-write-out-3 c =
+    let e : 0x0A ∷ [] ≡ fixedOctets (c .before .before .before .before .args .tag) = search ladder depth 9 in
+    omega (arith, ap length e, c .before .before .before .before .pre)
 
--- src/octets.rt:107:16
 add-result-3 : tie.Need-add-result-3
 add-result-3 c = search needs
 
--- src/octets.rt:107:9
 same-length-3 : tie.Need-same-length-3
 same-length-3 c = search needs
 
--- src/octets.rt:107:9
 returns-3 : tie.Need-returns-3
-returns-3 c = ?
+unfolding fixedOctets
+returns-3 c =
+    let e : 0x0A ∷ [] ≡ fixedOctets (c .before .before .before .before .args .tag) = search ladder depth 9 in
+    written-is e (written-1 _ _ _)
 
--- src/octets.rt:110:9
 put-three-requires : tie.Need-put-three-requires
-put-three-requires c κs = ?
+unfolding fixedOctets
+put-three-requires c κs =
+    let e : 0x9B ∷ 0x31 ∷ 0x5D ∷ [] ≡ fixedOctets (c .before .before .before .before .before .before .args .tag) = search ladder depth 9 in
+    omega (arith, ap length e, c .before .before .before .before .before .before .pre)
 
--- src/octets.rt:110:9
 same-length-4 : tie.Need-same-length-4
 same-length-4 c = search needs
 
--- src/octets.rt:110:9
 returns-4 : tie.Need-returns-4
-returns-4 c = ?
+unfolding fixedOctets
+returns-4 c =
+    let e : 0x9B ∷ 0x31 ∷ 0x5D ∷ [] ≡ fixedOctets (c .before .before .before .before .before .before .before .before .before .args .tag) = search ladder depth 9 in
+    written-is e (c .before .before .put-three .ensures)
 
--- src/octets.rt:113:9
 put-three-requires-2 : tie.Need-put-three-requires-2
-put-three-requires-2 c κs = ?
+unfolding fixedOctets
+put-three-requires-2 c κs =
+    let e : 0x9B ∷ 0x32 ∷ 0x5D ∷ [] ≡ fixedOctets (c .before .before .before .before .before .before .before .args .tag) = search ladder depth 9 in
+    omega (arith, ap length e, c .before .before .before .before .before .before .before .pre)
 
--- src/octets.rt:113:9
 same-length-5 : tie.Need-same-length-5
 same-length-5 c = search needs
 
--- src/octets.rt:113:9
 returns-5 : tie.Need-returns-5
-returns-5 c = ?
+unfolding fixedOctets
+returns-5 c =
+    let e : 0x9B ∷ 0x32 ∷ 0x5D ∷ [] ≡ fixedOctets (c .before .before .before .before .before .before .before .before .before .before .args .tag) = search ladder depth 9 in
+    written-is e (c .before .before .put-three2 .ensures)
 
--- src/octets.rt:115:5
 slice-write-out-4 : tie.Need-slice-write-out-4
-slice-write-out-4 c = ?
+unfolding fixedOctets
+slice-write-out-4 c =
+    let e : 0x9B ∷ 0x5D ∷ [] ≡ fixedOctets (c .before .before .before .before .before .before .args .tag) = search ladder depth 9 in
+    omega (arith, ap length e, c .before .before .before .before .before .before .pre)
 
--- src/octets.rt:116:9
 add-out : tie.Need-add-out
 add-out c = search needs
 
--- src/octets.rt:116:5
 slice-write-out-5 : tie.Need-slice-write-out-5
-slice-write-out-5 c = ?
+unfolding fixedOctets
+slice-write-out-5 c =
+    let e : 0x9B ∷ 0x5D ∷ [] ≡ fixedOctets (c .before .before .before .before .before .before .args .tag) = search ladder depth 9 in
+    simp length-set (omega (arith, ap length e, c .before .before .before .before .before .before .pre))
 
--- src/octets.rt:117:5
 add-result-4 : tie.Need-add-result-4
 add-result-4 c = search needs
 
--- src/octets.rt:93:1
 same-length-6 : tie.Need-same-length-6
 same-length-6 c = search needs
 
--- src/octets.rt:93:1
 returns-6 : tie.Need-returns-6
-returns-6 c = ?
+unfolding fixedOctets
+returns-6 c =
+    let e : 0x9B ∷ 0x5D ∷ [] ≡ fixedOctets (c .before .before .before .before .before .before .args .tag) = search ladder depth 9 in
+    written-is e (written-2 _ _ _ _)
 
 pub put-fixed-spec : {M : Type 1} → statement M
 put-fixed-spec =
