@@ -1,3 +1,5 @@
 pub mod Writing
 pub mod Demand
 pub mod Records
+pub mod Choice
+pub mod Offence

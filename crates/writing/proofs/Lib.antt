@@ -1,0 +1,9 @@
+pub mod Sets
+pub mod Needs
+pub mod Costs
+pub mod Bounds
+pub mod Choice
+pub mod Written
+pub mod Shortest
+pub mod Offence
+pub mod Records
