@@ -7,3 +7,5 @@ pub mod Written
 pub mod Shortest
 pub mod Offence
 pub mod Records
+pub mod Outcome
+pub mod Demand3

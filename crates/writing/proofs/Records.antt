@@ -18,7 +18,7 @@ use Rattle.state.specs.Directions.{undirected}
 use Rattle.state.specs.declared.directions.Directions.{Directions}
 use Rattle.state.specs.declared.directions.Step.{Step}
 use Rattle.state.specs.declared.directions.Step.the-variants.{Goes, Stops}
-use Rattle.grammar.specs.Units.{TextUnit, unitOf, good}
+use Rattle.grammar.specs.Units.{TextUnit, char, space, tab, newline, ltr, rtl, revert, ext, unitOf, good}
 use Rattle.grammar.specs.Reading.{direct, Octets, ReadAs}
 use Rattle.grammar.proofs.Rule.{directed, passes, direction-rule}
 use Rattle.grammar.proofs.Agrees.{fresh-legal}
@@ -112,16 +112,76 @@ take-octets (suc n) (x ∷ xs) o (suc i) = take-octets n xs (λ j. o (suc j)) i
 unit-contents : (k c code : ℕ) (xs : List ℕ) → Octets xs → Contents (unitOf k c code xs)
 unfolding unitOf
 unit-contents k c code xs o =
-    go (eqb k kind.character)
-    (go (eqb k kind.space) tt
-    (go (eqb k kind.tab) tt
-    (go (eqb k kind.newline) tt
-    (go (eqb k kind.left-to-right) tt
-    (go (eqb k kind.right-to-left) tt (go (eqb k kind.revert) tt o))))))
+    go (eqb k kind.character) (char c code) _ tt
+    (go (eqb k kind.space) space _ tt
+    (go (eqb k kind.tab) tab _ tt
+    (go (eqb k kind.newline) newline _ tt
+    (go (eqb k kind.left-to-right) ltr _ tt
+    (go (eqb k kind.right-to-left) rtl _ tt (go (eqb k kind.revert) revert (ext code xs) tt o))))))
   where
-    go : {u v : TextUnit} (b : Bool) → Contents u → Contents v → Contents (cond b u v)
-    go true x y = x
-    go false x y = y
+    go : (b : Bool) (u v : TextUnit) → Contents u → Contents v → Contents (cond b u v)
+    go true u v x y = x
+    go false u v x y = y
 
 pub list-contents : (o : List ℕ) (rs : List UnitRecord) (us : List TextUnit) → Octets o → listReading o rs ≡ some us → Every Contents us
-list-contents o rs us h e = ?
+unfolding listReading unitRead
+list-contents o [] us h e = subst (Every Contents) (Option·some-injective [] us e) tt
+list-contents o (r ∷ rs) us h e = go (readable o r) (listReading o rs) refl e (λ vs q. list-contents o rs vs h q)
+  where
+    u : TextUnit
+    u = unitOf (r .kind) (r .set) (r .code) (take (r .length) (drop (r .start) o))
+
+    go : (b : Bool) (y : Option (List TextUnit)) → listReading o rs ≡ y → prepend (cond b (some u) none) y ≡ some us
+        → ((vs : List TextUnit) → listReading o rs ≡ some vs → Every Contents vs) → Every Contents us
+    go false y q e k = absurd (Option·none-ne-some us e)
+    go true none q e k = absurd (Option·none-ne-some us e)
+    go true (some vs) q e k =
+        subst (Every Contents) (Option·some-injective (u ∷ vs) us e)
+        (
+          unit-contents (r .kind) (r .set) (r .code) (take (r .length) (drop (r .start) o)) (take-octets (r .length) (drop (r .start) o) (drop-octets (r .start) o h)),
+          k vs q,
+        )
+
+-- ---- the theorems
+
+-- the writing of a list with no offending record is accepted and reads as the list, where it is not over the limit
+pub list-written : (o : List ℕ) (rs : List UnitRecord) (us : List TextUnit) → Octets o → checkRecords o rs 0 undirected ≡ fine → listReading o rs ≡ some us
+    → cost us (fresh .sets) ≤ limit.octets → ReadAs (writing us (fresh .sets)) us
+list-written o rs us h c e l =
+    let f = fine-units o rs 0 undirected c in
+    let s : f .units ≡ us = Option·some-injective (f .units) us (sym (f .reading) ∙ e) in
+    writing-read us (subst Good s (f .good-ones)) (list-contents o rs us h e)
+    (direction-rule us .0 (subst (λ (w : List TextUnit). directed w undirected ≡ true) s (f .rule))) l
+
+abbrev pub SomeString : List ℕ → List UnitRecord → Type 0
+SomeString o rs = (us : List TextUnit) × (t : List ℕ) × (listReading o rs ≡ some us) × Grammatical t us
+
+fine-read : (o : List ℕ) (rs : List UnitRecord) → Octets o → (checkRecords o rs 0 undirected ≡ fine) ↔ SomeString o rs
+fine-read o rs h = (
+  λ c. let f = fine-units o rs 0 undirected c in
+  (
+    f .units,
+    writing (f .units) (fresh .sets),
+    f .reading,
+    record {
+      octets = writing-octets (f .units) (fresh .sets) (f .good-ones) (list-contents o rs (f .units) h (f .reading));
+      reads = upper (f .units) (fresh .sets) fresh-legal (f .good-ones);
+      rule = direction-rule (f .units) .0 (f .rule);
+    },
+  ),
+  λ w. units-fine o rs (w .0) 0 undirected (w .2) (good-all (w .3 .reads)) (direction-rule (w .0) .1 (w .3 .rule)),
+)
+
+-- no record offends exactly where some string, its length aside, reads as the list
+pub no-offence-read : (o : List ℕ) (rs : List UnitRecord) → Octets o → NoneOffends o rs ↔ SomeString o rs
+no-offence-read o rs h = (λ n. fine-read o rs h .0 (no-offence o rs .1 n), λ w. no-offence o rs .0 (fine-read o rs h .1 w))
+
+-- a list that some accepted string reads as has no offending record, and no writing over the limit
+pub read-list : (o : List ℕ) (rs : List UnitRecord) (us : List TextUnit) (t : List ℕ) → listReading o rs ≡ some us → ReadAs t us
+    → NoneOffends o rs × (cost us (fresh .sets) ≤ limit.octets)
+read-list o rs us t e r =
+    let a = accepted r in
+    (
+      no-offence o rs .0 (units-fine o rs us 0 undirected e (good-all (a .reads)) (direction-rule us .1 (a .rule))),
+      omega (arith, no-shorter r, a .short),
+    )

@@ -3,3 +3,5 @@ pub mod Demand
 pub mod Records
 pub mod Choice
 pub mod Offence
+pub mod Outcome
+pub mod Demand3
