@@ -118,8 +118,11 @@ abbrev pub Every : (TextUnit → Type 0) → List TextUnit → Type 0
 Every P [] = Unit {0}
 Every P (u ∷ us) = P u × Every P us
 
+abbrev pub Good : List TextUnit → Type 0
+Good us = Every (λ u. good u ≡ true) us
+
 -- what is written reads as the units
-pub upper : (us : List TextUnit) (s : Sets) → Legal s → Every (λ u. good u ≡ true) us → Reads s (writing us s) us
+pub upper : (us : List TextUnit) (s : Sets) → Legal s → Good us → Reads s (writing us s) us
 unfolding writing
 upper [] s l g = done
 upper (u ∷ us) s l g =

@@ -24,7 +24,7 @@ use Rattle.writing.specs.Writing.{Need, free, either, stands, met, price
 use Rattle.writing.specs.Choice.{Serves, MayPrecede, LeftFirst, Lazy, nil, next, Preferred, Before, here, later, Chosen}
 use Rattle.writing.proofs.Needs.{spent, or-none, chosen-met}
 use Rattle.writing.proofs.Costs.{spent-length, size-side, writing-length}
-use Rattle.writing.proofs.Bounds.{Every, good-side, shows-met, met-shows, lower}
+use Rattle.writing.proofs.Bounds.{Good, good-side, shows-met, met-shows, lower}
 
 -- ---- a unit's need
 
@@ -229,7 +229,7 @@ used-left rtl s m l = tt
 used-left revert s m l = tt
 used-left (ext e xs) s m l = tt
 
-pub writing-lazy : (us : List TextUnit) (s : Sets) → Legal s → Every (λ u. good u ≡ true) us → Lazy s us (choices us s) (writing us s)
+pub writing-lazy : (us : List TextUnit) (s : Sets) → Legal s → Good us → Lazy s us (choices us s) (writing us s)
 unfolding choices writing
 writing-lazy [] s l g = nil
 writing-lazy (u ∷ us) s l g =
@@ -247,7 +247,7 @@ writing-lazy (u ∷ us) s l g =
 
 -- ---- that string exists and is one
 
-pub the-choice : (us : List TextUnit) (s : Sets) → Legal s → Every (λ u. good u ≡ true) us → Chosen us s (choices us s) (writing us s)
+pub the-choice : (us : List TextUnit) (s : Sets) → Legal s → Good us → Chosen us s (choices us s) (writing us s)
 the-choice us s l g =
     record {
       lazy = writing-lazy us s l g;
@@ -300,7 +300,7 @@ one-way (here u a b p) (later _ o q) = not-both u a a p p
 one-way (later u o p) (here _ a b q) = not-both u a a q q
 one-way (later u o p) (later _ _ q) = one-way p q
 
-pub one-choice : (us : List TextUnit) (s : Sets) (os : List (Option Standing)) (t : List ℕ) → Legal s → Every (λ u. good u ≡ true) us → Chosen us s os t
+pub one-choice : (us : List TextUnit) (s : Sets) (os : List (Option Standing)) (t : List ℕ) → Legal s → Good us → Chosen us s os t
     → t ≡ writing us s
 one-choice us s os t l g c = go (first l (c .lazy) (same ∙ writing-length us s)) (c .first (choices us s) (writing us s) w (sym same))
   where

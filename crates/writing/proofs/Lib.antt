@@ -8,4 +8,5 @@ pub mod Shortest
 pub mod Offence
 pub mod Records
 pub mod Outcome
+pub mod Output
 pub mod Demand3

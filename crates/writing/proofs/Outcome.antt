@@ -88,11 +88,11 @@ module _ (rs : List UnitRecord) (o : List ℕ) (work m : ℕ) where
       list false e = check (ltb-false limit.units (length rs) e) (checkRecords o rs 0 undirected) refl
 
   -- an outcome is the answer
-  served : (us : List TextUnit) → Served rs o work us → writerAnswer rs o work m ≡ writeAnswer us m
+  pub served : (us : List TextUnit) → Served rs o work us → writerAnswer rs o work m ≡ writeAnswer us m
   unfolding writerAnswer
   served us v = rw (le-ltb limit.units (length rs) (v .list), no-offence o rs .1 (v .none), le-ltb work (workRoom (length rs)) (v .room), v .reading)
 
-  outcome-is : {n p c : ℕ} → Outcome rs o work m n p c → writerAnswer rs o work m ≡ answer n p c
+  pub outcome-is : {n p c : ℕ} → Outcome rs o work m n p c → writerAnswer rs o work m ≡ answer n p c
   unfolding writerAnswer writeAnswer
   outcome-is (long-list h) = rw (lt-ltb limit.units (length rs) h)
   outcome-is (offending {n} {i} h f) = rw (le-ltb limit.units (length rs) h, offence o rs n i .1 f)

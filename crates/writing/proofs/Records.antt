@@ -21,17 +21,14 @@ use Rattle.state.specs.declared.directions.Step.the-variants.{Goes, Stops}
 use Rattle.grammar.specs.Units.{TextUnit, char, space, tab, newline, ltr, rtl, revert, ext, unitOf, good}
 use Rattle.grammar.specs.Reading.{direct, Octets, ReadAs}
 use Rattle.grammar.proofs.Rule.{directed, passes, direction-rule}
-use Rattle.grammar.proofs.Agrees.{fresh-legal}
 use Rattle.writing.specs.Writing.{cost, writing}
 use Rattle.writing.specs.Records.{readable, unitRead, prepend, listReading, fault, own, Checked, fine, faulty, onStep, checkRecords}
 use Rattle.writing.specs.Offence.{NoneOffends, Grammatical}
-use Rattle.writing.proofs.Bounds.{upper, Every}
-use Rattle.writing.proofs.Written.{Contents, reads-contents, writing-octets}
-use Rattle.writing.proofs.Shortest.{good-all, accepted, writing-read, no-shorter}
+use Rattle.writing.proofs.Costs.{writing-length}
+use Rattle.writing.proofs.Bounds.{Every, Good}
+use Rattle.writing.proofs.Written.{Contents}
+use Rattle.writing.proofs.Shortest.{good-all, accepted, writing-grammatical, within-limit, no-shorter}
 use Rattle.writing.proofs.Offence.{no-offence}
-
-abbrev pub Good : List TextUnit → Type 0
-Good us = Every (λ u. good u ≡ true) us
 
 -- ---- good units that keep the direction rule, and lists with no offending record
 
@@ -144,14 +141,19 @@ list-contents o (r ∷ rs) us h e = go (readable o r) (listReading o rs) refl e 
 
 -- ---- the theorems
 
--- the writing of a list with no offending record is accepted and reads as the list, where it is not over the limit
-pub list-written : (o : List ℕ) (rs : List UnitRecord) (us : List TextUnit) → Octets o → checkRecords o rs 0 undirected ≡ fine → listReading o rs ≡ some us
-    → cost us (fresh .sets) ≤ limit.octets → ReadAs (writing us (fresh .sets)) us
-list-written o rs us h c e l =
+-- the writing of a list with no offending record reads as the list
+pub list-grammatical : (o : List ℕ) (rs : List UnitRecord) (us : List TextUnit) → Octets o → checkRecords o rs 0 undirected ≡ fine → listReading o rs ≡ some us
+    → Grammatical (writing us (fresh .sets)) us
+list-grammatical o rs us h c e =
     let f = fine-units o rs 0 undirected c in
     let s : f .units ≡ us = Option·some-injective (f .units) us (sym (f .reading) ∙ e) in
-    writing-read us (subst Good s (f .good-ones)) (list-contents o rs us h e)
-    (direction-rule us .0 (subst (λ (w : List TextUnit). directed w undirected ≡ true) s (f .rule))) l
+    writing-grammatical us (subst Good s (f .good-ones)) (list-contents o rs us h e)
+    (direction-rule us .0 (subst (λ (w : List TextUnit). directed w undirected ≡ true) s (f .rule)))
+
+-- and is accepted, where it is not over the limit
+pub list-written : (o : List ℕ) (rs : List UnitRecord) (us : List TextUnit) → Octets o → checkRecords o rs 0 undirected ≡ fine → listReading o rs ≡ some us
+    → cost us (fresh .sets) ≤ limit.octets → ReadAs (writing us (fresh .sets)) us
+list-written o rs us h c e l = within-limit (list-grammatical o rs us h c e) (omega (arith, writing-length us (fresh .sets)))
 
 abbrev pub SomeString : List ℕ → List UnitRecord → Type 0
 SomeString o rs = (us : List TextUnit) × (t : List ℕ) × (listReading o rs ≡ some us) × Grammatical t us
@@ -159,16 +161,7 @@ SomeString o rs = (us : List TextUnit) × (t : List ℕ) × (listReading o rs �
 fine-read : (o : List ℕ) (rs : List UnitRecord) → Octets o → (checkRecords o rs 0 undirected ≡ fine) ↔ SomeString o rs
 fine-read o rs h = (
   λ c. let f = fine-units o rs 0 undirected c in
-  (
-    f .units,
-    writing (f .units) (fresh .sets),
-    f .reading,
-    record {
-      octets = writing-octets (f .units) (fresh .sets) (f .good-ones) (list-contents o rs (f .units) h (f .reading));
-      reads = upper (f .units) (fresh .sets) fresh-legal (f .good-ones);
-      rule = direction-rule (f .units) .0 (f .rule);
-    },
-  ),
+  (f .units, writing (f .units) (fresh .sets), f .reading, list-grammatical o rs (f .units) h c (f .reading)),
   λ w. units-fine o rs (w .0) 0 undirected (w .2) (good-all (w .3 .reads)) (direction-rule (w .0) .1 (w .3 .rule)),
 )
 

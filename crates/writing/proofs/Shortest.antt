@@ -21,11 +21,12 @@ use Rattle.grammar.specs.Reading.{ReadAs}
 use Rattle.grammar.proofs.Agrees.{agrees, fresh-legal}
 use Rattle.writing.specs.Writing.{cost, writing}
 use Rattle.writing.specs.Demand.{writeAnswer, outputAfter, Least, Demand3}
+use Rattle.writing.specs.Offence.{Grammatical}
 use Rattle.writing.proofs.Costs.{writing-length}
-use Rattle.writing.proofs.Bounds.{lower, upper, Every}
+use Rattle.writing.proofs.Bounds.{lower, upper, Every, Good}
 use Rattle.writing.proofs.Written.{Contents, reads-contents, writing-octets}
 
-pub good-all : {s : Sets} {t : List ℕ} {us : List TextUnit} → Reads s t us → Every (λ u. good u ≡ true) us
+pub good-all : {s : Sets} {t : List ℕ} {us : List TextUnit} → Reads s t us → Good us
 good-all done = tt
 good-all (designate p a r) = good-all r
 good-all (show u d g h r) = (g, good-all r)
@@ -33,16 +34,19 @@ good-all (show u d g h r) = (g, good-all r)
 pub accepted : {t : List ℕ} {us : List TextUnit} → ReadAs t us → Accepted t us
 accepted {t} {us} r = agrees t us (r .octets) .0 r
 
+-- the writing is of the grammar and reads as the units, its length aside
+pub writing-grammatical : (us : List TextUnit) → Good us → Every Contents us → Lawful us 0 0 0 → Grammatical (writing us (fresh .sets)) us
+writing-grammatical us g c l =
+    record { octets = writing-octets us (fresh .sets) g c; reads = upper us (fresh .sets) fresh-legal g; rule = l }
+
+-- within the limit it is accepted
+pub within-limit : {t : List ℕ} {us : List TextUnit} → Grammatical t us → length t ≤ limit.octets → ReadAs t us
+within-limit {t} {us} g h = agrees t us (g .octets) .1 (record { reads = g .reads; rule = g .rule; short = h })
+
 -- the writing is accepted and reads as the units
-pub writing-read : (us : List TextUnit) → Every (λ u. good u ≡ true) us → Every Contents us → Lawful us 0 0 0 → cost us (fresh .sets) ≤ limit.octets
+pub writing-read : (us : List TextUnit) → Good us → Every Contents us → Lawful us 0 0 0 → cost us (fresh .sets) ≤ limit.octets
     → ReadAs (writing us (fresh .sets)) us
-writing-read us g c l h =
-    agrees (writing us (fresh .sets)) us (writing-octets us (fresh .sets) g c) .1
-    (record {
-      reads = upper us (fresh .sets) fresh-legal g;
-      rule = l;
-      short = omega (arith, writing-length us (fresh .sets));
-    })
+writing-read us g c l h = within-limit (writing-grammatical us g c l) (omega (arith, writing-length us (fresh .sets)))
 
 -- every string of that reading, with designations anywhere, is at least as long: by the grammar, and by the reader
 pub no-shorter-accepted : {t : List ℕ} {us : List TextUnit} → Accepted t us → cost us (fresh .sets) ≤ length t

@@ -22,7 +22,7 @@ use Rattle.grammar.proofs.Sound.{graphic-low}
 use Rattle.grammar.proofs.Complete.{and-left, and-right}
 use Rattle.writing.proofs.Sets.{up-to}
 use Rattle.writing.specs.Writing.{need, cost, choose, after, designated, used, writing}
-use Rattle.writing.proofs.Bounds.{Every}
+use Rattle.writing.proofs.Bounds.{Every, Good}
 
 -- each number of a list is below 256
 abbrev Small : List ℕ → Type 0
@@ -141,7 +141,7 @@ designated-octets : (o : Option Standing) → Octets (designated o)
 designated-octets none i = omega arith
 designated-octets (some p) i = designation-octets p i
 
-pub writing-octets : (us : List TextUnit) (s : Sets) → Every (λ u. good u ≡ true) us → Every Contents us → Octets (writing us s)
+pub writing-octets : (us : List TextUnit) (s : Sets) → Good us → Every Contents us → Octets (writing us s)
 unfolding writing
 writing-octets [] s g o = small [] tt
 writing-octets (u ∷ us) s g o =
