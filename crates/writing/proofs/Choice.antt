@@ -123,8 +123,7 @@ precedes u s (some p) g m = go (need u) (split u g) m
     go : (n : Need) → Split u n → Permitted n s (some p) → MayPrecede u s (some p)
     go free (none-serves k) m = absurd m
     go (either a b) (two-serve x y k z) m =
-        let off = or-none (stands a s) (stands b s) (m .0) in
-        (
+        let off = or-none (stands a s) (stands b s) (m .0) in (
           ⊎-elim (λ e. subst (Serves u) (sym e) x) (λ e. subst (Serves u) (sym e) y) (m .1),
           λ q h. ⊎-elim (λ e. subst (λ (r : Standing). stands r s ≡ false) (sym e) (off .0)) (λ e. subst (λ (r : Standing). stands r s ≡ false) (sym e) (off .1)) (k q h),
         )

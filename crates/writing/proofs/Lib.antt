@@ -10,3 +10,5 @@ pub mod Records
 pub mod Outcome
 pub mod Output
 pub mod Demand3
+pub mod Unused
+pub mod CheckedStrings

@@ -98,9 +98,9 @@ tells o (r ∷ rs) k d n i f = go (fault (unitRead o r) d) refl i f (λ next j g
 pub offence : (o : List ℕ) (rs : List UnitRecord) (n i : ℕ) → (checkRecords o rs 0 undirected ≡ faulty n i) ↔ FirstOffends o rs n i
 offence o rs n i = (
   λ e. let w = told o rs 0 undirected n i e in
-  let h : i ≡ 0 + w .0 = w .1 in
-  let q : w .0 ≡ i = omega arith in
-  subst (FirstFrom o rs undirected n) q (w .2),
+      let h : i ≡ 0 + w .0 = w .1 in
+      let q : w .0 ≡ i = omega arith in
+      subst (FirstFrom o rs undirected n) q (w .2),
   λ f. let q : 0 + i ≡ i = omega arith in tells o rs 0 undirected n i f ∙ ap (faulty n) q,
 )
 

@@ -97,8 +97,7 @@ module _ (rs : List UnitRecord) (o : List ℕ) (work : ℕ) (out : List ℕ) whe
       → (us : List TextUnit) × (os : List (Option Standing)) × (listReading o rs ≡ some us)
       × Chosen us (fresh .sets) os (take (writerAnswer rs o work (length out) .count) (writerOutput rs o work out))
   output-chosen e =
-      let g = accepted-output e in
-      (
+      let g = accepted-output e in (
         g .units,
         choices (g .units) (fresh .sets),
         g .reading,
@@ -117,12 +116,11 @@ module _ (rs : List UnitRecord) (o : List ℕ) (work : ℕ) (out : List ℕ) whe
       → (us : List TextUnit) × (listReading o rs ≡ some us) × ReadAs (take (writerAnswer rs o work (length out) .count) (writerOutput rs o work out)) us
   output-read h e =
       let g = accepted-output e in
-      let w = accepted-where rs o work (length out) .0 e in
-      (
+      let w = accepted-where rs o work (length out) .0 e in (
         g .units,
         g .reading,
         subst (λ (t : List ℕ). ReadAs t (g .units)) (sym (output-string g))
-        (list-written o rs (g .units) h (no-offence o rs .1 (w .1 .none)) (g .reading) (g .short)),
+            (list-written o rs (g .units) h (no-offence o rs .1 (w .1 .none)) (g .reading) (g .short)),
       )
 
   -- the output keeps its length

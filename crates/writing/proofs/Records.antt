@@ -133,8 +133,7 @@ list-contents o (r ∷ rs) us h e = go (readable o r) (listReading o rs) refl e 
     go false y q e k = absurd (Option·none-ne-some us e)
     go true none q e k = absurd (Option·none-ne-some us e)
     go true (some vs) q e k =
-        subst (Every Contents) (Option·some-injective (u ∷ vs) us e)
-        (
+        subst (Every Contents) (Option·some-injective (u ∷ vs) us e) (
           unit-contents (r .kind) (r .set) (r .code) (take (r .length) (drop (r .start) o)) (take-octets (r .length) (drop (r .start) o) (drop-octets (r .start) o h)),
           k vs q,
         )
@@ -161,7 +160,7 @@ SomeString o rs = (us : List TextUnit) × (t : List ℕ) × (listReading o rs �
 fine-read : (o : List ℕ) (rs : List UnitRecord) → Octets o → (checkRecords o rs 0 undirected ≡ fine) ↔ SomeString o rs
 fine-read o rs h = (
   λ c. let f = fine-units o rs 0 undirected c in
-  (f .units, writing (f .units) (fresh .sets), f .reading, list-grammatical o rs (f .units) h c (f .reading)),
+      (f .units, writing (f .units) (fresh .sets), f .reading, list-grammatical o rs (f .units) h c (f .reading)),
   λ w. units-fine o rs (w .0) 0 undirected (w .2) (good-all (w .3 .reads)) (direction-rule (w .0) .1 (w .3 .rule)),
 )
 
@@ -173,8 +172,7 @@ no-offence-read o rs h = (λ n. fine-read o rs h .0 (no-offence o rs .1 n), λ w
 pub read-list : (o : List ℕ) (rs : List UnitRecord) (us : List TextUnit) (t : List ℕ) → listReading o rs ≡ some us → ReadAs t us
     → NoneOffends o rs × (cost us (fresh .sets) ≤ limit.octets)
 read-list o rs us t e r =
-    let a = accepted r in
-    (
+    let a = accepted r in (
       no-offence o rs .0 (units-fine o rs us 0 undirected e (good-all (a .reads)) (direction-rule us .1 (a .rule))),
       omega (arith, no-shorter r, a .short),
     )

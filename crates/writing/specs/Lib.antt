@@ -5,3 +5,5 @@ pub mod Choice
 pub mod Offence
 pub mod Outcome
 pub mod Demand3
+pub mod Unused
+pub mod CheckedStrings
