@@ -6,6 +6,7 @@ pub mod Choice
 pub mod Written
 pub mod Shortest
 pub mod Offence
+pub mod Bad
 pub mod Records
 pub mod Outcome
 pub mod Output
