@@ -1,11 +1,11 @@
 -- A record that offends by itself has the number that document 01 says, whatever directions are open (`bad-stops`); one that does not
 -- stands for a good unit, whose step is that of the direction rule (`not-bad`). By its kind, its unit and the tests of it are computed.
-use Prim.Native.Nat.{ℕ, suc, _+_, _≤_, _<_}
+use Prim.Native.Nat.{ℕ, _+_, _≤_, _<_}
 use native.Mathlib.Omega.{arith}
 use mathlib.Core.Path.{_≡_, refl, sym, ap, ap₂, _∙_, subst}
-use mathlib.Core.Bool.{Bool, true, false, cond, _&&_}
-use mathlib.Core.List.{List, [], _∷_}
-use mathlib.Core.Option.{Option, none, some}
+use mathlib.Core.Bool.{Bool, true, false, cond, _&&_, true≢false}
+use mathlib.Core.List.{List}
+use mathlib.Core.Option.{none, some}
 use mathlib.Core.Logic.{_⊎_, inl, inr, ⊎-elim}
 use lib.ListN.{length, take, drop, length-take, length-drop}
 use lib.Dec.{eqb, leb, ltb}
@@ -15,15 +15,14 @@ use Rattle.base.specs.Refusal as refusal
 use Rattle.base.specs.declared.Unit.{Unit as UnitRecord}
 use Rattle.charset.specs.Charsets.{no-set, formOf}
 use Rattle.state.specs.declared.directions.Directions.{Directions}
-use Rattle.state.specs.declared.directions.Step.{Step}
-use Rattle.state.specs.declared.directions.Step.the-variants.{Goes, Stops}
+use Rattle.state.specs.declared.directions.Step.the-variants.{Stops}
 use Rattle.grammar.specs.Units.{TextUnit, char, space, tab, newline, ltr, rtl, revert, ext, unitOf, codeUsed, segment, mostOfSegment, good}
 use Rattle.grammar.specs.Reading.{direct}
 use Rattle.writing.specs.Records.{readable, unitRead, own, fault}
 use Rattle.writing.specs.Offence.{Placed, Bad, bad-kind, bad-set, bad-code, bad-part, bad-d, bad-length, bad-content}
 
 and-first : (a b : Bool) → a ≡ false → (a && b) ≡ false
-and-first true b e = absurd (mathlib.Core.Bool.true≢false e)
+and-first true b e = absurd (true≢false e)
 and-first false b e = refl
 
 and-second : (a b : Bool) → b ≡ false → (a && b) ≡ false

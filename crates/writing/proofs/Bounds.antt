@@ -1,10 +1,12 @@
--- No string of a reading is shorter than its cost, and the writing reads as the units.
+-- No string of a reading is shorter than its cost (`lower`): by induction on how it reads, since a designation saves no more than its
+-- price and a unit that is shown has its need met. The writing reads as the units (`upper`): what it designates may stand there, and
+-- once a need is met its unit may be shown on the side that is used.
 use mathlib.Core.Path.{_≡_, refl, sym, ap, _∙_, subst}
 use mathlib.Core.Bool.{Bool, true, false, cond, _||_, true≢false}
 use mathlib.Core.List.{List, [], _∷_, _++_}
 use mathlib.Core.Option.{Option, none, some}
 use mathlib.Core.Logic.{_⊎_, ⊎-elim}
-use Prim.Native.Nat.{ℕ, _+_, _≤_, _<_}
+use Prim.Native.Nat.{ℕ, _+_, _≤_}
 use native.Mathlib.Omega.{arith}
 use lib.ListN.{length, length-append}
 use Rattle.charset.specs.Charsets.{no-set, formOf, allowed, mayUse}

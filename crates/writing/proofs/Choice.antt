@@ -9,17 +9,17 @@ use mathlib.Core.List.{List, [], _∷_, _++_}
 use mathlib.Core.Option.{Option, none, some}
 use mathlib.Core.Logic.{_⊎_, inl, inr, ⊎-elim}
 use lib.ListN.{length, length-append}
-use lib.Dec.{leb, eqb}
+use lib.Dec.{leb}
 use borrow.Author.Tests.{leb-false, eq-eqb}
 use Rattle.charset.specs.declared.Side.{Side}
 use Rattle.charset.specs.declared.Side.the-variants.{GL, GR}
-use Rattle.charset.specs.Charsets.{no-set, allowed, mayUse, formOf}
-use Rattle.state.specs.State.{Standing, on, get, put, fresh}
+use Rattle.charset.specs.Charsets.{allowed, mayUse}
+use Rattle.state.specs.State.{Standing, on, put}
 use Rattle.state.specs.declared.Sets.{Sets}
-use Rattle.grammar.specs.Units.{TextUnit, char, space, tab, newline, ltr, rtl, revert, ext, octets, good, codeUsed}
+use Rattle.grammar.specs.Units.{TextUnit, char, space, tab, newline, ltr, rtl, revert, ext, octets, good}
 use Rattle.grammar.specs.Grammar.{Shows, Reads, done, designate, show}
 use Rattle.grammar.proofs.Sound.{Legal}
-use Rattle.grammar.proofs.Agrees.{put-legal, fresh-legal}
+use Rattle.grammar.proofs.Agrees.{put-legal}
 use Rattle.writing.specs.Writing.{Need, free, either, stands, met, price, least, choose, after, designated, size, need, placesOf, used, cost, writing}
 use Rattle.writing.specs.Choice.{Serves, MayPrecede, LeftFirst, Lazy, nil, next, Preferred, Before, here, later, Chosen}
 use Rattle.writing.proofs.Needs.{spent, or-none, chosen-met}

@@ -33,8 +33,9 @@ output-once us out = go (eqb (writeAnswer us (length out) .number) refusal.accep
 pub writer-demand3 : (rs : List UnitRecord) (o : List ℕ) (work : ℕ) (out : List ℕ)
     → Demand3For rs o work out (writerAnswer rs o work (length out)) (writerOutput rs o work out)
 unfolding Demand3For writerAnswer writerOutput
-writer-demand3 rs o work out us t₀ e r h w =
-    let l = le-ltb limit.units (length rs) h in
+writer-demand3 rs o work out us t₀ e r w =
+    let f = read-list o rs us t₀ e r in
+    let l = le-ltb limit.units (length rs) (f .short) in
     let m = le-ltb work (workRoom (length rs)) w in
-    let c = no-offence o rs .1 (read-list o rs us t₀ e r .0) in
+    let c = no-offence o rs .1 (f .none) in
     rw (l, c, m, e) (subst (Demand3 us out (writeAnswer us (length out))) (sym (output-once us out)) (demand3 us t₀ out r))

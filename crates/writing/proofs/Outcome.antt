@@ -1,17 +1,16 @@
 -- The writer's answer is that of document 01's order, exactly (`outcome`): each test of `writerAnswer` is one case. From it: what each
 -- number means (`accepted-where`, `work-room-where`, `too-long-where`, `no-room-where`), the counts and places (`accepted-answer`,
 -- `refused-count`, `refused-place`), and what the output holds (`refused-output`, `accepted-output`).
-use Prim.Native.Nat.{ℕ, suc, _+_, _≤_, _<_}
+use Prim.Native.Nat.{ℕ, _≤_, _<_}
 use native.Mathlib.Omega.{arith}
 use mathlib.Core.Path.{_≡_, refl, sym, ap, _∙_, subst}
 use mathlib.Core.Bool.{Bool, true, false, cond}
-use mathlib.Core.List.{List, [], _∷_, _++_}
-use mathlib.Core.Option.{Option, none, some, Option·none-ne-some, Option·some-injective}
+use mathlib.Core.List.{List}
+use mathlib.Core.Option.{Option, none, some, Option·none-ne-some}
 use mathlib.Core.Logic.{_↔_, _⊎_, inl, inr, ⊎-elim}
-use lib.ListN.{length, getD, take, drop, length-append, length-drop}
-use lib.Seq.{take-append-seam}
-use lib.Dec.{eqb, ltb}
-use borrow.Author.Tests.{ltb-true, ltb-false, le-ltb, lt-ltb, ne-eqb}
+use lib.ListN.{length, getD, take}
+use lib.Dec.{ltb}
+use borrow.Author.Tests.{ltb-true, ltb-false, le-ltb, lt-ltb}
 use Rattle.base.specs.Answers.{answer, refusedAt}
 use Rattle.base.specs.Limit as limit
 use Rattle.base.specs.Refusal as refusal
@@ -20,26 +19,13 @@ use Rattle.base.specs.declared.Unit.{Unit as UnitRecord}
 use Rattle.state.specs.State.{fresh}
 use Rattle.state.specs.Directions.{undirected}
 use Rattle.grammar.specs.Units.{TextUnit}
-use Rattle.writing.specs.Writing.{cost, writing}
-use Rattle.writing.specs.Demand.{writeAnswer, outputAfter}
-use Rattle.writing.specs.Records.{unitRead, prepend, listReading, Checked, fine, faulty, checkRecords, afterCheck, ofReading, workRoom, writerAnswer, outputOf, writerOutput}
-use Rattle.writing.specs.Offence.{directionsAfter, noRecord, faultAt, FirstOffends, NoneOffends, Grammatical}
+use Rattle.writing.specs.Writing.{cost}
+use Rattle.writing.specs.Demand.{writeAnswer}
+use Rattle.writing.specs.Records.{unitRead, listReading, Checked, fine, faulty, checkRecords, afterCheck, ofReading, workRoom, writerAnswer}
+use Rattle.writing.specs.Offence.{directionsAfter, noRecord, faultAt, FirstOffends, NoneOffends}
 use Rattle.writing.specs.Outcome.{Served, Outcome, long-list, offending, short-work, long-writing, short-output, written}
-use Rattle.writing.proofs.Costs.{writing-length}
 use Rattle.writing.proofs.Offence.{offence, no-offence, Number, numbers}
-use Rattle.writing.proofs.Records.{fine-units}
-
--- a reading has a unit for each record
-pub reading-length : (o : List ℕ) (rs : List UnitRecord) (us : List TextUnit) → listReading o rs ≡ some us → length us ≡ length rs
-unfolding listReading
-reading-length o [] us e = ap length (sym (Option·some-injective [] us e))
-reading-length o (r ∷ rs) us e = go (unitRead o r) (listReading o rs) refl e (λ vs q. reading-length o rs vs q)
-  where
-    go : (x : Option TextUnit) (y : Option (List TextUnit)) → listReading o rs ≡ y → prepend x y ≡ some us
-        → ((vs : List TextUnit) → listReading o rs ≡ some vs → length vs ≡ length rs) → length us ≡ suc (length rs)
-    go none y q e k = absurd (Option·none-ne-some us e)
-    go (some u) none q e k = absurd (Option·none-ne-some us e)
-    go (some u) (some vs) q e k = ap length (sym (Option·some-injective (u ∷ vs) us e)) ∙ ap suc (k vs q)
+use Rattle.writing.proofs.Records.{fine-units, reading-length}
 
 -- number, place and count of an answer
 abbrev Of : (ℕ → ℕ → ℕ → Type 0) → Answer → Type 0

@@ -5,7 +5,7 @@
 use Prim.Native.Nat.{ℕ, _+_, _-_, _≤_, _<_}
 use native.Mathlib.Omega.{arith}
 use mathlib.Core.Path.{_≡_, refl, sym, ap, ap₂, _∙_, subst}
-use mathlib.Core.Bool.{Bool, true, false, cond}
+use mathlib.Core.Bool.{Bool, true, false}
 use mathlib.Core.List.{List, _++_}
 use mathlib.Core.Option.{Option, none, some, Option·some-injective}
 use mathlib.Core.Logic.{_↔_}
@@ -25,7 +25,7 @@ use Rattle.grammar.specs.Reading.{Octets, ReadAs}
 use Rattle.grammar.proofs.Agrees.{fresh-legal}
 use Rattle.writing.specs.Writing.{cost, writing}
 use Rattle.writing.specs.Demand.{writeAnswer, outputAfter}
-use Rattle.writing.specs.Records.{listReading, writerAnswer, outputOf, writerOutput}
+use Rattle.writing.specs.Records.{listReading, writerAnswer, writerOutput}
 use Rattle.writing.specs.Choice.{Chosen}
 use Rattle.writing.specs.Offence.{Grammatical}
 use Rattle.writing.specs.Outcome.{Served, written}

@@ -1,10 +1,10 @@
 -- A list of records has no offending record exactly where some string, its length aside, reads as it (`no-offence-read`): the units of
 -- such a list are good and keep the direction rule (`fine-units`, `units-fine`), so that their writing is such a string. Where its
 -- cost is within the limit it is accepted (`list-written`), and a list that some accepted string reads as is such a list (`read-list`).
-use Prim.Native.Nat.{ℕ, zero, suc, _+_, _≤_}
+use Prim.Native.Nat.{ℕ, zero, suc, _≤_}
 use native.Mathlib.Omega.{arith}
 use mathlib.Core.Path.{_≡_, refl, sym, ap, _∙_, subst}
-use mathlib.Core.Bool.{Bool, true, false, cond, false≢true, true≢false}
+use mathlib.Core.Bool.{Bool, true, false, cond, false≢true}
 use mathlib.Core.List.{List, [], _∷_}
 use mathlib.Core.Option.{Option, none, some, Option·none-ne-some, Option·some-injective}
 use mathlib.Core.Logic.{_↔_}
@@ -22,13 +22,25 @@ use Rattle.grammar.specs.Units.{TextUnit, char, space, tab, newline, ltr, rtl, 
 use Rattle.grammar.specs.Reading.{direct, Octets, ReadAs}
 use Rattle.grammar.proofs.Rule.{directed, passes, direction-rule}
 use Rattle.writing.specs.Writing.{cost, writing}
-use Rattle.writing.specs.Records.{readable, unitRead, prepend, listReading, fault, own, Checked, fine, faulty, onStep, checkRecords}
+use Rattle.writing.specs.Records.{readable, unitRead, prepend, listReading, fault, own, fine, faulty, onStep, checkRecords}
 use Rattle.writing.specs.Offence.{NoneOffends, Grammatical}
 use Rattle.writing.proofs.Costs.{writing-length}
 use Rattle.writing.proofs.Bounds.{Every, Good}
 use Rattle.writing.proofs.Written.{Contents}
-use Rattle.writing.proofs.Shortest.{good-all, accepted, writing-grammatical, within-limit, no-shorter}
+use Rattle.writing.proofs.Shortest.{good-all, accepted, writing-grammatical, within-limit, no-shorter, units-within}
 use Rattle.writing.proofs.Offence.{no-offence}
+
+-- a reading has a unit for each record
+pub reading-length : (o : List ℕ) (rs : List UnitRecord) (us : List TextUnit) → listReading o rs ≡ some us → length us ≡ length rs
+unfolding listReading
+reading-length o [] us e = ap length (sym (Option·some-injective [] us e))
+reading-length o (r ∷ rs) us e = go (unitRead o r) (listReading o rs) refl e (λ vs q. reading-length o rs vs q)
+  where
+    go : (x : Option TextUnit) (y : Option (List TextUnit)) → listReading o rs ≡ y → prepend x y ≡ some us
+        → ((vs : List TextUnit) → listReading o rs ≡ some vs → length vs ≡ length rs) → length us ≡ suc (length rs)
+    go none y q e k = absurd (Option·none-ne-some us e)
+    go (some u) none q e k = absurd (Option·none-ne-some us e)
+    go (some u) (some vs) q e k = ap length (sym (Option·some-injective (u ∷ vs) us e)) ∙ ap suc (k vs q)
 
 -- ---- good units that keep the direction rule, and lists with no offending record
 
@@ -168,11 +180,17 @@ fine-read o rs h = (
 pub no-offence-read : (o : List ℕ) (rs : List UnitRecord) → Octets o → NoneOffends o rs ↔ SomeString o rs
 no-offence-read o rs h = (λ n. fine-read o rs h .0 (no-offence o rs .1 n), λ w. no-offence o rs .0 (fine-read o rs h .1 w))
 
--- a list that some accepted string reads as has no offending record, and no writing over the limit
-pub read-list : (o : List ℕ) (rs : List UnitRecord) (us : List TextUnit) (t : List ℕ) → listReading o rs ≡ some us → ReadAs t us
-    → NoneOffends o rs × (cost us (fresh .sets) ≤ limit.octets)
+-- a list that some accepted string reads as is not too long, and has no offending record and no writing over the limit
+pub record ReadList (o : List ℕ) (rs : List UnitRecord) (us : List TextUnit) : Type 0 where
+  pub short : length rs ≤ limit.units
+  pub none : NoneOffends o rs
+  pub within : cost us (fresh .sets) ≤ limit.octets
+
+pub read-list : (o : List ℕ) (rs : List UnitRecord) (us : List TextUnit) (t : List ℕ) → listReading o rs ≡ some us → ReadAs t us → ReadList o rs us
 read-list o rs us t e r =
-    let a = accepted r in (
-      no-offence o rs .0 (units-fine o rs us 0 undirected e (good-all (a .reads)) (direction-rule us .1 (a .rule))),
-      omega (arith, no-shorter r, a .short),
-    )
+    let a = accepted r in
+    record {
+      short = omega (arith, units-within r, reading-length o rs us e);
+      none = no-offence o rs .0 (units-fine o rs us 0 undirected e (good-all (a .reads)) (direction-rule us .1 (a .rule)));
+      within = omega (arith, no-shorter r, a .short);
+    }

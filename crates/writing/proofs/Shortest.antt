@@ -1,11 +1,11 @@
 -- The writing of good units that keep the direction rule is accepted and reads as them (`writing-read`), no accepted string of that
 -- reading is shorter than its cost (`no-shorter`), and demand 3 holds of the answer and the output over units (`demand3`).
-use Prim.Native.Nat.{ℕ, _+_, _≤_, _<_}
+use Prim.Native.Nat.{ℕ, _+_, _≤_}
 use native.Mathlib.Omega.{arith}
 use mathlib.Core.Path.{_≡_, refl, sym, ap, _∙_, subst}
 use mathlib.Core.Bool.{Bool, true, false, cond}
-use mathlib.Core.List.{List, [], _∷_, _++_}
-use lib.ListN.{length, take, drop}
+use mathlib.Core.List.{List, _++_}
+use lib.ListN.{length, take, drop, length-append}
 use lib.Seq.{take-append-seam}
 use lib.Dec.{ltb, eqb}
 use borrow.Author.Tests.{ltb-true, ltb-false}
@@ -15,9 +15,10 @@ use Rattle.base.specs.Refusal as refusal
 use Rattle.base.specs.declared.Answer.{Answer}
 use Rattle.state.specs.State.{fresh}
 use Rattle.state.specs.declared.Sets.{Sets}
-use Rattle.grammar.specs.Units.{TextUnit, good}
+use Rattle.grammar.specs.Units.{TextUnit, octets, designation}
 use Rattle.grammar.specs.Grammar.{Reads, done, designate, show, Lawful, Accepted}
 use Rattle.grammar.specs.Reading.{ReadAs}
+use Rattle.grammar.proofs.Complete.{part-size, part-some}
 use Rattle.grammar.proofs.Agrees.{agrees, fresh-legal}
 use Rattle.writing.specs.Writing.{cost, writing}
 use Rattle.writing.specs.Demand.{writeAnswer, outputAfter, Least, Demand3}
@@ -30,6 +31,12 @@ pub good-all : {s : Sets} {t : List ℕ} {us : List TextUnit} → Reads s t us �
 good-all done = tt
 good-all (designate p a r) = good-all r
 good-all (show u d g h r) = (g, good-all r)
+
+-- a string has at least an octet for each unit
+units-short : {s : Sets} {t : List ℕ} {us : List TextUnit} → Reads s t us → length us ≤ length t
+units-short done = omega arith
+units-short (designate {t = t} p a r) = omega (arith, units-short r, length-append (designation p) t)
+units-short (show {t = t} u d g h r) = omega (arith, units-short r, length-append (octets d u) t, part-size u d, part-some u)
 
 pub accepted : {t : List ℕ} {us : List TextUnit} → ReadAs t us → Accepted t us
 accepted {t} {us} r = agrees t us (r .octets) .0 r
@@ -54,6 +61,12 @@ no-shorter-accepted a = lower fresh-legal (a .reads)
 
 pub no-shorter : {t : List ℕ} {us : List TextUnit} → ReadAs t us → cost us (fresh .sets) ≤ length t
 no-shorter r = no-shorter-accepted (accepted r)
+
+-- and has an octet for each unit
+pub units-within : {t : List ℕ} {us : List TextUnit} → ReadAs t us → length us ≤ limit.octets
+units-within r =
+    let a = accepted r in
+    omega (arith, units-short (a .reads), a .short)
 
 -- the writing of a reading is accepted and reads as it, and there is no shorter string
 pub shortest : (us : List TextUnit) (t₀ : List ℕ) → ReadAs t₀ us → Least us (cost us (fresh .sets)) (writing us (fresh .sets))

@@ -1,27 +1,23 @@
 -- Records that are alike in the fields that their kind uses stand for the same unit (`same-unit`), so that lists of such records have the
 -- same reading, answer and output (`same-reading`, `same-answer`, `same-output`).
-use Prim.Native.Nat.{ℕ, suc, _+_, _≤_, _<_}
+use Prim.Native.Nat.{ℕ, suc, _+_, _≤_}
 use native.Mathlib.Omega.{arith}
-use mathlib.Core.Path.{_≡_, refl, sym, ap, ap₂, _∙_, subst}
+use mathlib.Core.Path.{_≡_, refl, sym, ap, ap₂, _∙_}
 use mathlib.Core.Bool.{Bool, true, false, cond}
-use mathlib.Core.List.{List, [], _∷_}
+use mathlib.Core.List.{List}
 use mathlib.Core.Option.{Option, none, some}
 use mathlib.Core.Logic.{inl, inr}
 use lib.ListN.{length, take, drop}
 use lib.Dec.{eqb, leb, ltb}
 use borrow.Author.Tests.{eqb-true, eqb-false, ltb-true}
-use Rattle.base.specs.Answers.{refusedAt}
 use Rattle.base.specs.Kind as kind
-use Rattle.base.specs.Limit as limit
-use Rattle.base.specs.Refusal as refusal
-use Rattle.base.specs.declared.Answer.{Answer}
 use Rattle.base.specs.declared.Unit.{Unit as UnitRecord}
 use Rattle.state.specs.Directions.{undirected}
 use Rattle.state.specs.declared.directions.Directions.{Directions}
 use Rattle.state.specs.declared.directions.Step.{Step}
 use Rattle.state.specs.declared.directions.Step.the-variants.{Goes, Stops}
-use Rattle.grammar.specs.Units.{TextUnit, char, space, tab, newline, ltr, rtl, revert, ext, unitOf}
-use Rattle.writing.specs.Records.{readable, unitRead, prepend, listReading, fault, Checked, onStep, checkRecords, afterCheck, ofReading, workRoom, writerAnswer, outputOf, writerOutput}
+use Rattle.grammar.specs.Units.{TextUnit, char, space, tab, newline, revert, ext, unitOf}
+use Rattle.writing.specs.Records.{readable, unitRead, prepend, listReading, fault, onStep, checkRecords, writerAnswer, writerOutput}
 use Rattle.writing.specs.Unused.{Alike, AllAlike, none, more}
 
 above : (k n : ℕ) → n ≤ k → eqb k n ≡ false → suc n ≤ k

@@ -2,7 +2,7 @@
 -- unit's octets and every designation's.
 use Prim.Native.Nat.{ℕ, zero, suc, _+_, _/_, _%_, _≤_, _<_}
 use native.Mathlib.Omega.{arith}
-use mathlib.Core.Path.{_≡_, refl, sym, _∙_, subst}
+use mathlib.Core.Path.{_≡_, refl, sym, subst}
 use mathlib.Core.Bool.{Bool, true, false, cond, _&&_}
 use mathlib.Core.List.{List, [], _∷_, _++_}
 use mathlib.Core.Option.{Option, none, some}
@@ -50,12 +50,12 @@ back (x ∷ xs) ys o i = back xs ys (λ j. o (suc j)) i
 
 -- the final octet of a set
 last-octet : (c : ℕ) → rowOf c .last < 256
-last-octet c = go (ltb c 15) refl
+last-octet c = go (ltb c no-set) refl
   where
-    go : (b : Bool) → ltb c 15 ≡ b → rowOf c .last < 256
-    go true e = ltb-true (rowOf c .last) 256 (up-to 15 (λ m. ltb (rowOf m .last) 256) refl c (ltb-true c 15 e))
+    go : (b : Bool) → ltb c no-set ≡ b → rowOf c .last < 256
+    go true e = ltb-true (rowOf c .last) 256 (up-to no-set (λ m. ltb (rowOf m .last) 256) refl c (ltb-true c no-set e))
     go false e =
-        subst (λ (w : Row). w .last < 256) (sym (List·getD-eq-default rows (row 0 0 false false) (ltb-false c 15 e)))
+        subst (λ (w : Row). w .last < 256) (sym (List·getD-eq-default rows (row 0 0 false false) (ltb-false c no-set e)))
         (let z : 0 < 256 = omega arith in z)
 
 designation-octets : (p : Standing) → Octets (designation p)

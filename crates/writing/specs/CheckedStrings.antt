@@ -2,8 +2,6 @@
 -- which are their own shortest form.
 use Prim.Native.Nat.{ℕ}
 use mathlib.Core.List.{List, [], _∷_}
-use Rattle.base.specs.declared.Answer.{Answer}
-use Rattle.base.specs.Answers.{answer}
 use Rattle.base.specs.Refusal as refusal
 use Rattle.state.specs.State.{fresh}
 use Rattle.grammar.specs.Units.{TextUnit, char, space, tab, ltr, ext}

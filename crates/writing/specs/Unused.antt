@@ -1,5 +1,4 @@
 -- "Unused fields are ignored, also where readings are compared": which fields a kind uses.
-use Prim.Native.Nat.{ℕ}
 use mathlib.Core.Path.{_≡_}
 use mathlib.Core.List.{List, [], _∷_}
 use mathlib.Core.Logic.{_⊎_}
