@@ -1,9 +1,9 @@
--- Laws of the cost and the writing.
-use Prim.Native.Nat.{ℕ, _+_, _≤_}
+-- The laws of the cost and the writing, by induction on the units: the cost rises by no more than a designation's price (`cost-steady`),
+-- and the writing has as many octets as the cost says (`writing-length`). A unit has as many octets on either side (`size-side`).
 use native.Mathlib.Omega.{arith}
-use mathlib.Core.Path.{_≡_, refl, _∙_}
+use mathlib.Core.Path.{_≡_, refl}
 use mathlib.Core.Bool.{Bool, true, false}
-use mathlib.Core.List.{List, [], _∷_, _++_}
+use mathlib.Core.List.{List, [], _∷_}
 use mathlib.Core.Option.{Option, none, some}
 use lib.ListN.{length, length-append}
 use Rattle.charset.specs.declared.Side.{Side}

@@ -1,20 +1,23 @@
--- Laws of places and needs.
-use Prim.Native.Nat.{ℕ, _+_, _≤_, _<_, min}
+-- The laws of a unit's need. What comes first keeps the cost steady (`least-steady`): one more designation saves no more than its price,
+-- by four cases of whether the need is met before and after it. The choice costs the least (`least-chosen`) and meets the need
+-- (`chosen-met`), and a need that is met costs nothing (`least-met`).
+use Prim.Native.Nat.{ℕ, _+_, _≤_, min}
 use native.Mathlib.Omega.{arith}
 use mathlib.Core.Path.{_≡_, refl, sym, ap, _∙_, subst}
-use mathlib.Core.Bool.{Bool, true, false, cond, _||_}
+use mathlib.Core.Bool.{Bool, true, false, cond, _||_, true≢false}
 use mathlib.Core.Logic.{_⊎_, inl, inr, ⊎-elim}
 use mathlib.Core.Option.{Option, none, some}
 use lib.Dec.{eqb, leb}
 use borrow.Author.Tests.{eqb-true, eqb-false, eq-eqb, leb-true, leb-false}
 use Rattle.charset.specs.declared.Side.{Side}
 use Rattle.charset.specs.declared.Side.the-variants.{GL, GR}
-use Rattle.state.specs.State.{Standing, sets, get, put, put′}
+use Rattle.state.specs.State.{Standing, get, put, put′}
 use Rattle.state.specs.declared.Sets.{Sets}
 use Rattle.writing.specs.Writing.{stands, price, Need, free, either, met, least, choose, after}
 
--- laws of put and stands
+-- ---- sets put on a side
 
+-- once p is put, it stands
 pub put-stands : (p : Standing) (s : Sets) → stands p (put p s) ≡ true
 unfolding put stands
 put-stands p s = go (p .side)
@@ -22,15 +25,6 @@ put-stands p s = go (p .side)
     go : (d : Side) → eqb (get d (put′ d (p .set) s)) (p .set) ≡ true
     go GL = eq-eqb (p .set) (p .set) refl
     go GR = eq-eqb (p .set) (p .set) refl
-
--- where p stands already, putting it changes nothing
-pub stands-put : (p : Standing) (s : Sets) → stands p s ≡ true → put p s ≡ s
-unfolding put stands
-stands-put p s e = go (p .side) (eqb-true (get (p .side) s) (p .set) e)
-  where
-    go : (d : Side) → get d s ≡ p .set → put′ d (p .set) s ≡ s
-    go GL q = λ i. sets (sym q i) (s .gr)
-    go GR q = λ i. sets (s .gl) (sym q i)
 
 -- a place that stands only once p is put is p
 pub stands-new : (a p : Standing) (s : Sets) → stands a s ≡ false → stands a (put p s) ≡ true → a ≡ p
@@ -70,10 +64,10 @@ or-cases true b e = inl refl
 or-cases false b e = inr e
 
 pub or-none : (a b : Bool) → (a || b) ≡ false → (a ≡ false) × (b ≡ false)
-or-none true b e = absurd (mathlib.Core.Bool.true≢false e)
+or-none true b e = absurd (true≢false e)
 or-none false b e = (refl, e)
 
--- what comes first keeps that
+-- a need before what f says keeps that
 pub least-steady : (n : Need) (f : Sets → ℕ) → Steady f → Steady (least n f)
 unfolding least met
 least-steady free f st p s = st p s

@@ -1,13 +1,13 @@
--- What tests say, and rules of all sets by one computed test.
-use Prim.Native.Nat.{ℕ, zero, suc, _+_, _<_}
+-- Rules of all fifteen sets, each by one computed test that is carried to each set (`up-to`).
+use Prim.Native.Nat.{ℕ, zero, suc, _<_}
 use native.Mathlib.Omega.{arith}
 use native.Mathlib.Nat.{not-suc-le-zero}
 use mathlib.Core.Path.{_≡_, refl, sym, ap, subst}
-use mathlib.Core.Bool.{Bool, true, false, _||_, _&&_, not}
+use mathlib.Core.Bool.{Bool, true, false, _||_, _&&_, not, false≢true}
 use lib.Dec.{eqb}
 use borrow.Author.Tests.{eqb-true, eqb-false}
 use Rattle.charset.specs.declared.Side.the-variants.{GL, GR}
-use Rattle.charset.specs.Charsets.{mayUse, allowed, formOf}
+use Rattle.charset.specs.Charsets.{no-set, mayUse, allowed, formOf}
 use Rattle.charset.proofs.Laws.{allowed-below}
 use Rattle.grammar.specs.Units.{wide}
 use Rattle.grammar.proofs.Complete.{and-left, and-right}
@@ -17,7 +17,7 @@ implies a b = not a || b
 
 pub implies-elim : (a b : Bool) → implies a b ≡ true → a ≡ true → b ≡ true
 implies-elim true b e h = e
-implies-elim false b e h = absurd (mathlib.Core.Bool.false≢true h)
+implies-elim false b e h = absurd (false≢true h)
 
 abbrev pub upTo : ℕ → (ℕ → Bool) → Bool
 upTo zero f = true
@@ -37,10 +37,10 @@ unfolding allowed mayUse wide formOf
 space-sets c a w =
     implies-elim (not (wide c)) (eqb c 0 || eqb c 2)
     (implies-elim (allowed GL c) (implies (not (wide c)) (eqb c 0 || eqb c 2))
-    (up-to 15 (λ m. implies (allowed GL m) (implies (not (wide m)) (eqb m 0 || eqb m 2))) refl c (allowed-below GL c a)) a)
+    (up-to no-set (λ m. implies (allowed GL m) (implies (not (wide m)) (eqb m 0 || eqb m 2))) refl c (allowed-below GL c a)) a)
     (ap not w)
 
 -- each of the fifteen may stand somewhere
-pub some-side : (c : ℕ) → c < 15 → (allowed GL c || allowed GR c) ≡ true
+pub some-side : (c : ℕ) → c < no-set → (allowed GL c || allowed GR c) ≡ true
 unfolding allowed mayUse
-some-side c h = up-to 15 (λ m. allowed GL m || allowed GR m) refl c h
+some-side c h = up-to no-set (λ m. allowed GL m || allowed GR m) refl c h
