@@ -20,7 +20,7 @@ use Rattle.writing.specs.Writing.{designated}
 use Rattle.writing.proofs.Sets.{up-to}
 use Rattle.rows.specs.Rows.{countOf, partOf, unitTagged}
 use Rattle.plan.specs.Numbers.{setsInGL, setsInGR, change}
-use Rattle.plan.proofs.Units.{part-length, unit-segment, unit-spare}
+use Rattle.rows.proofs.Units.{part-length, unit-segment, unit-spare}
 use Rattle.emit.specs.Emit.{Written, sideOf, signOf, fixedOctets}
 
 -- ---- stores

@@ -4,16 +4,17 @@ use native.Mathlib.Omega.{arith}
 use mathlib.Core.Path.{_≡_, refl, ap, ap₂, _∙_}
 use mathlib.Core.Bool.{Bool, true, false, _&&_, false≢true}
 use mathlib.Core.List.{List}
-use lib.ListN.{length, getD, take, drop, length-take, length-drop}
+use lib.ListN.{length, getD}
 use lib.Dec.{eqb, ltb}
-use borrow.Author.Tests.{ltb-true, ltb-false, lt-ltb, le-ltb, le-leb, lt-leb, eqb-true, ne-eqb}
+use borrow.Author.Tests.{ltb-true, ltb-false, lt-ltb, eqb-true}
 use Rattle.base.specs.Choice.{pick}
 use Rattle.charset.specs.Charsets.{allowed, mayUse, formOf}
 use Rattle.state.specs.declared.Sets.{Sets}
-use Rattle.grammar.specs.Units.{revert, ext, wide, octets}
+use Rattle.grammar.specs.Units.{wide, octets}
 use Rattle.grammar.proofs.Complete.{and-left, and-right}
 use Rattle.writing.specs.Writing.{Need, free, either, need, least, size, cost}
 use Rattle.writing.proofs.Sets.{up-to}
+use Rattle.rows.proofs.Units.{part-length, ltb-ge, unit-segment, unit-spare}
 use Rattle.rows.specs.Rows.{tagAt, startFrom, countOf, partOf, unitTagged, unitsIn}
 use Rattle.plan.specs.Numbers.{classOf, needOfClass}
 use Rattle.plan.specs.Costs.{sizeOf, sizeAt, restFrom}
@@ -32,47 +33,7 @@ sameNeed-eq (either a b) free e = absurd (false≢true e)
 sameNeed-eq (either a b) (either c d) e =
     ap₂ either (sameStanding-eq a c (and-left (sameStanding a c) (sameStanding b d) e)) (sameStanding-eq b d (and-right (sameStanding a c) (sameStanding b d) e))
 
-pub part-length : (o : List ℕ) (n s : ℕ) → length (take n (drop s o)) ≡ partOf n s (length o)
-part-length o n s = simp (length-take, length-drop) (omega arith)
-
-ltb-ge : (t b c : ℕ) → b ≤ c → c ≤ t → ltb t b ≡ false
-ltb-ge t b c h k = le-ltb t b (omega arith)
-
-eqb-ge : (t b c : ℕ) → b < c → c ≤ t → eqb t b ≡ false
-eqb-ge t b c h k = ne-eqb t b (λ e. omega arith)
-
 module _ (o : List ℕ) (t a b s : ℕ) where
-  -- a segment's tag, and a tag that is none
-  pub unit-segment : 21 ≤ t → t < 26 → unitTagged o t a b s ≡ ext (27 + t) (take (countOf a b) (drop s o))
-  unfolding unitTagged
-  unit-segment h k =
-      simp (
-        ltb-ge t 12 21 (omega arith) h,
-        ltb-ge t 15 21 (omega arith) h,
-        eqb-ge t 15 21 (omega arith) h,
-        eqb-ge t 16 21 (omega arith) h,
-        eqb-ge t 17 21 (omega arith) h,
-        eqb-ge t 18 21 (omega arith) h,
-        eqb-ge t 19 21 (omega arith) h,
-        le-leb 21 t h,
-        le-leb t 25 (omega arith),
-      )
-
-  pub unit-spare : 26 ≤ t → unitTagged o t a b s ≡ revert
-  unfolding unitTagged
-  unit-spare h =
-      simp (
-        ltb-ge t 12 26 (omega arith) h,
-        ltb-ge t 15 26 (omega arith) h,
-        eqb-ge t 15 26 (omega arith) h,
-        eqb-ge t 16 26 (omega arith) h,
-        eqb-ge t 17 26 (omega arith) h,
-        eqb-ge t 18 26 (omega arith) h,
-        eqb-ge t 19 26 (omega arith) h,
-        le-leb 21 t (omega arith),
-        lt-leb t 25 (omega arith),
-      )
-
   need-low : t < 26 → need (unitTagged o t a b s) ≡ needOfClass (classOf t)
   unfolding need unitTagged needOfClass classOf pick allowed mayUse
   need-low h =
@@ -81,7 +42,7 @@ module _ (o : List ℕ) (t a b s : ℕ) where
 
   need-spare : 26 ≤ t → need (unitTagged o t a b s) ≡ needOfClass (classOf t)
   unfolding need needOfClass classOf pick
-  need-spare h = ap need (unit-spare h) ∙ rw (ltb-ge t 16 26 (omega arith) h)
+  need-spare h = ap need (unit-spare o t a b s h) ∙ rw (ltb-ge t 16 26 (omega arith) h)
 
   pub need-tagged : need (unitTagged o t a b s) ≡ needOfClass (classOf t)
   need-tagged = go (ltb t 26) refl
@@ -99,7 +60,7 @@ module _ (o : List ℕ) (t a b s : ℕ) where
   size-segment : 21 ≤ t → t < 26 → size (unitTagged o t a b s) ≡ sizeOf t (partOf (countOf a b) s (length o))
   unfolding size octets sizeOf pick
   size-segment h k =
-      ap size (unit-segment h k)
+      ap size (unit-segment o t a b s h k)
       ∙ simp (
         ltb-ge t 12 21 (omega arith) h,
         ltb-ge t 15 21 (omega arith) h,
@@ -112,7 +73,7 @@ module _ (o : List ℕ) (t a b s : ℕ) where
   size-spare : 26 ≤ t → size (unitTagged o t a b s) ≡ sizeOf t (partOf (countOf a b) s (length o))
   unfolding size octets sizeOf pick
   size-spare h =
-      ap size (unit-spare h)
+      ap size (unit-spare o t a b s h)
       ∙ simp (
         ltb-ge t 12 26 (omega arith) h,
         ltb-ge t 15 26 (omega arith) h,

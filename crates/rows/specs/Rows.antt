@@ -6,11 +6,15 @@
 --   68 to 71 where a segment's n octets start, the highest octet first
 -- Every row holds a unit, whatever its octets are: of a code's octet the top bit is ignored, of n the two highest bits; of a part that
 -- does not lie wholly in the octets of the segments only what lies in them counts; and any other tag is a revert.
-use Prim.Native.Nat.{ℕ, zero, suc, _+_, _-_, _*_, _%_, min}
+use Prim.Native.Nat.{ℕ, zero, suc, _+_, _-_, _*_, _/_, _%_, min}
 use mathlib.Core.Bool.{cond, _&&_}
 use mathlib.Core.List.{List, [], _∷_}
 use lib.Dec.{eqb, leb, ltb}
-use lib.ListN.{getD, take, drop}
+use lib.ListN.{length, getD, take, drop}
+use lib.Seq.{sets}
+use Rattle.base.specs.Choice.{pick}
+use Rattle.base.specs.Kind as kind
+use Rattle.base.specs.declared.Unit.{Unit as UnitRecord}
 use Rattle.grammar.specs.Units.{TextUnit, char, space, tab, newline, ltr, rtl, revert, ext}
 
 -- the tag of row i
@@ -53,3 +57,22 @@ unitFrom o w row = unitTagged o (getD w (row + 65) 0) (getD w (row + 66) 0) (get
 unfoldable pub unitsIn : List ℕ → List ℕ → ℕ → ℕ → List TextUnit
 unitsIn o w i zero = []
 unitsIn o w i (suc m) = unitFrom o w (72 * i) ∷ unitsIn o w (suc i) m
+
+-- ---- a record in its row
+
+-- the tag of a unit record by its kind, set and code; the number beside it: a character's code, or a segment's length
+unfoldable pub tagOf : UnitRecord → ℕ
+tagOf r = pick (eqb (r .kind) kind.character) (r .set) (pick (eqb (r .kind) kind.segment) (r .code - 27) (14 + r .kind))
+
+unfoldable pub numberOf : UnitRecord → ℕ
+numberOf r = pick (eqb (r .kind) kind.segment) (r .length) (r .code)
+
+-- the last seven octets of the row of a record
+abbrev pub sevenOctets : UnitRecord → List ℕ
+sevenOctets r =
+    tagOf r ∷ (numberOf r / 256) ∷ (numberOf r % 256) ∷ (r .start / 16777216) ∷ (r .start / 65536 % 256) ∷ (r .start / 256 % 256)
+    ∷ (r .start % 256) ∷ []
+
+-- the room with a record in row i, where it has that row
+unfoldable pub withRecord : List ℕ → ℕ → UnitRecord → List ℕ
+withRecord w i r = pick (ltb i (length w / 72)) (sets w (72 * i + 65) (sevenOctets r)) w
