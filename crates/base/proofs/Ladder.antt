@@ -1,12 +1,12 @@
 -- Rules that take a chain of tests down to the case that holds, one test at a time, and a list's place to its octet.
-use Prim.Native.Nat.{ℕ, _+_, _<_, _≤_}
+use Prim.Native.Nat.{ℕ, _+_, _-_, _<_, _≤_}
 use native.Mathlib.Numerals.{add-one}
 use mathlib.Core.Path.{_≡_, ap, _∙_, sym}
 use mathlib.Core.Bool.{Bool, true, false}
 use mathlib.Core.List.{List, [], _∷_}
 use lib.Dec.{eqb, leb, ltb}
-use lib.ListN.{length, getD, drop-of-length-le}
-use lib.Seq.{drop-cons}
+use lib.ListN.{length, getD, drop, drop-of-length-le, length-drop}
+use lib.Seq.{drop-cons, drop-drop}
 use borrow.Author.Tests.{lt-ltb, le-ltb, le-leb, lt-leb, eq-eqb, ne-eqb}
 use Rattle.base.specs.Choice.{pick, from}
 
@@ -77,6 +77,14 @@ from-octet s at h = rw (add-one, drop-cons s at 0)
 pub from-end : (s : List ℕ) (at : ℕ) → length s ≤ at → from at s ≡ []
 unfolding from
 from-end s at h = drop-of-length-le s h
+
+pub from-from : (s : List ℕ) (at k : ℕ) → drop k (from at s) ≡ from (at + k) s
+unfolding from
+from-from s at k = drop-drop k at s
+
+pub from-length : (s : List ℕ) (at : ℕ) → length (from at s) ≡ length s - at
+unfolding from
+from-length s at = length-drop at s
 
 -- a function of the octets from a place on, where there is an octet, and where there is none
 pub octet : {X : Type 0} (f : List ℕ → X) (s : List ℕ) (at : ℕ) (r : X) → at < length s → r ≡ f (getD s at 0 ∷ from (at + 1) s) → r ≡ f (from at s)

@@ -1,4 +1,8 @@
 // The numbers that document 01 gives a meaning, each under a name; the answer that every entry point gives; the record of a unit.
+ghost use mathlib.Core.Path.{_≡_};
+ghost use Rattle.base.specs.Answers.{answer, refusedAt};
+ghost use Rattle.base.specs.Refusal.{accepted};
+
 pub mod direction;
 pub mod kind;
 pub mod limit;
@@ -10,6 +14,28 @@ pub struct Answer {
     pub place: usize,
     pub count: usize,
     pub number: u8,
+}
+
+impl Answer {
+    pub fn accepted(place: usize, count: usize) -> Answer
+        ensures { λ r. ⌜ r ≡ answer accepted place count ⌝ }
+    {
+        Answer {
+            place: place,
+            count: count,
+            number: refusal::ACCEPTED,
+        }
+    }
+
+    pub fn refused(number: u8, place: usize) -> Answer
+        ensures { λ r. ⌜ r ≡ refusedAt number place ⌝ }
+    {
+        Answer {
+            place: place,
+            count: 0,
+            number: number,
+        }
+    }
 }
 
 // A unit: kind, set and code, 0 where they mean nothing; start and length name its octets in the string, and of an extended segment

@@ -5,8 +5,8 @@
 use Prim.Native.Nat.{ℕ, zero, suc, _+_, _-_, _<_, _≤_}
 use native.Mathlib.Omega.{arith}
 use native.Mathlib.Nat.{eq-or-lt-of-le}
-use lib.Dec.{eqb, ltb}
-use borrow.Author.Tests.{eqb-true, ne-eqb, eq-eqb, le-ltb, ltb-true, ltb-false}
+use lib.Dec.{eqb, leb, ltb}
+use borrow.Author.Tests.{eqb-true, ne-eqb, le-ltb, leb-true, ltb-true, ltb-false}
 use mathlib.Core.Path.{_≡_, refl, ap, _∙_, sym, subst}
 use mathlib.Core.Bool.{Bool, true, false, not, false≢true}
 use mathlib.Core.Logic.{⊎-elim}
@@ -29,6 +29,19 @@ both-true true b e = (refl, e)
 both-true false b e =
     let z : _≡_ {A = ℕ} 0 1 = cc in
     absurd (omega arith)
+
+-- a test of each number below m, which antt computes, holds of each
+unfoldable every : (ℕ → Bool) → ℕ → Bool
+every f zero = true
+every f (suc m) = pick (f m) (every f m) false
+
+below : (f : ℕ → Bool) (m : ℕ) → every f m ≡ true → (n : ℕ) → n < m → f n ≡ true
+unfolding every
+below f zero t n h = absurd (omega arith)
+below f (suc m) t n h =
+    let e = both-true (f m) (every f m) t in
+    let l : n ≤ m = omega arith in
+    ⊎-elim (λ (q : n ≡ m). rw q (e .0)) (λ (q : n < m). below f m (e .1) n q) (eq-or-lt-of-le l)
 
 -- a row that fits has the designation's form, side and final octet
 pub record Named (w : Row) (f : ℕ) (s : Side) (x : ℕ) : Type 0 where
@@ -79,6 +92,17 @@ set-named f s x h =
     let z : find rows f s x 0 - 0 ≡ find rows f s x 0 = omega arith in
     fits-all _ f s x (rw z at (find-fits f s x (row 0 0 false false) rows 0 (omega arith)))
 
+-- a final octet of the table lies in 40-7E
+last-test : ℕ → Bool
+last-test c = pick (leb 0x40 (rowOf c .last)) (ltb (rowOf c .last) 0x7F) false
+
+pub final-range : (f : ℕ) (s : Side) (x : ℕ) → setOf f s x < 15 → (0x40 ≤ x) × (x < 0x7F)
+unfolding every last-test pick
+final-range f s x h =
+    let n = set-named f s x h in
+    let b = both-true (leb 0x40 (rowOf (setOf f s x) .last)) _ (below last-test 15 refl (setOf f s x) h) in
+    (rw (n .last) at (leb-true 0x40 (rowOf (setOf f s x) .last) (b .0)), rw (n .last) at (ltb-true (rowOf (setOf f s x) .last) 0x7F (b .1)))
+
 -- a set that may stand anywhere is one of the fifteen
 pub allowed-below : (d : Side) (c : ℕ) → allowed d c ≡ true → c < 15
 unfolding allowed mayUse
@@ -93,19 +117,6 @@ allowed-below d c e = go (ltb c 15) refl
     go false q = past d (subst (λ (r : Row). mayUse d r ≡ true) (List·getD-eq-default rows (row 0 0 false false) (ltb-false c 15 q)) e)
 
 -- ---- the code's comparisons
-
--- a test of each number below m, which antt computes, holds of each
-unfoldable every : (ℕ → Bool) → ℕ → Bool
-every f zero = true
-every f (suc m) = pick (f m) (every f m) false
-
-below : (f : ℕ → Bool) (m : ℕ) → every f m ≡ true → (n : ℕ) → n < m → f n ≡ true
-unfolding every
-below f zero t n h = absurd (omega arith)
-below f (suc m) t n h =
-    let e = both-true (f m) (every f m) t in
-    let l : n ≤ m = omega arith in
-    ⊎-elim (λ (q : n ≡ m). rw q (e .0)) (λ (q : n < m). below f m (e .1) n q) (eq-or-lt-of-le l)
 
 -- a test that holds of the fifteen, and past them, holds of each number
 by-rows : (f : ℕ → Bool) → every f 15 ≡ true → ((n : ℕ) → 15 ≤ n → f n ≡ true) → (n : ℕ) → f n ≡ true

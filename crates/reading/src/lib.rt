@@ -4,40 +4,50 @@ ghost use Rattle.grammar.specs.Reading.{checkOf};
 use base::Answer;
 use base::limit;
 use base::refusal;
+use charset::NO_SET;
 use state::State;
 use state::element::Element;
+use stretch::characters::stretch_at;
+use stretch::designation::designation_at;
 
-// Whether a string is accepted, and what of it is refused, with no list lent.
+// Whether a string is accepted, and what of it is refused, with no list lent. Designations and stretches of characters are passed at
+// once, and any other element by itself.
 pub fn check(s: &[u8]) -> Answer
     ensures { λ r. ⌜ r ≡ checkOf (now (s .entry)) ⌝ }
 {
     if limit::OCTETS < s.len() {
-        return Answer {
-            place: 0,
-            count: 0,
-            number: refusal::TOO_LONG,
-        };
+        return Answer::refused(refusal::TOO_LONG, 0);
     }
     let mut at: usize = 0;
     let mut count: usize = 0;
     let mut st = State::FRESH;
-    loop {
+    while at < s.len() {
+        if s[at] == 0x1B {
+            let d = designation_at(s, at);
+            let set = d.set;
+            if set < NO_SET {
+                let side = d.side;
+                at += d.octets;
+                st = st.designated(side, set);
+                continue;
+            }
+        } else {
+            let run = stretch_at(s, at, st);
+            let octets = run.octets;
+            if 0 < octets {
+                at += octets;
+                count += run.units;
+                continue;
+            }
+        }
         let e = element::element(s, at, st);
         match e {
             Element::End => {
-                return Answer {
-                    place: at,
-                    count: count,
-                    number: refusal::ACCEPTED,
-                };
+                return Answer::accepted(at, count);
             }
             Element::Refused(number, offset) => {
                 let place = at + offset;
-                return Answer {
-                    place: place,
-                    count: 0,
-                    number: number,
-                };
+                return Answer::refused(number, place);
             }
             Element::Silent(octets, next) => {
                 at += octets;
@@ -50,4 +60,5 @@ pub fn check(s: &[u8]) -> Answer
             }
         }
     }
+    Answer::accepted(at, count)
 }

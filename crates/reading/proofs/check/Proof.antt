@@ -1,14 +1,13 @@
--- `reading::check` meets its contract: at each turn what is left answers what the whole string does.
--- Assumes nothing.
-use Prim.Native.Nat.{ℕ, _-_, _≤_}
+-- `reading::check` meets its contract: at each turn of the loop what is left answers what the whole string does (`Head`), and the turns are
+-- those of `Turn`.
+use Prim.Native.Nat.{_-_}
 use native.Mathlib.Omega.{arith}
-use mathlib.Core.Path.{_≡_, refl, sym}
+use mathlib.Core.Path.{_∙_}
 use borrow.Author.Needs.{needs}
 use lib.ListN.{length}
-use denote.Ref.{now}
-use Rattle.base.proofs.Ladder.{ladder, on-ge}
+use Rattle.base.proofs.Ladder.{on-lt, on-ge}
 use Rattle.grammar.specs.Reading.{checkOf}
-use Rattle.reading.proofs.Turn.{Head, Next, head-first, whole, turn-end, turn-short, turn-refused, turn-silent, turn-found}
+use Rattle.reading.proofs.Turn.{Head, head-first, turn-done, turn-end, turn-short, turn-refused, turn-silent, turn-found, turn-designation, turn-stretch}
 use Rattle.reading.proofs.check.Statement.{statement}
 use Rattle.reading.proofs.check.Tie as tie
 
@@ -18,12 +17,58 @@ Inv-loop s at₀ count₀ st₀ at count st = Head s at count st
 abbrev μ-loop : tie.MeasureT-loop
 μ-loop s at₀ count₀ st₀ at count st = length s - at
 
+refused-requires : tie.Need-refused-requires Inv-loop μ-loop
+refused-requires c κs = search needs
+
 returns : tie.Need-returns Inv-loop μ-loop
 unfolding checkOf
-returns c = search ladder
+returns c = on-lt _ _ _ _ _ (c .before .if1 .taken) (c .refused .ensures)
 
 loop-holds : tie.Need-loop-holds Inv-loop μ-loop
 loop-holds c = head-first _
+
+shared-slice-read-if2 : tie.Need-shared-slice-read-if2 Inv-loop μ-loop
+shared-slice-read-if2 c = search needs
+
+designation-at-requires : tie.Need-designation-at-requires Inv-loop μ-loop
+designation-at-requires c κs = search needs
+
+add-at : tie.Need-add-at Inv-loop μ-loop
+add-at c =
+    let h = turn-designation _ _ _ _ (c .before .before .before .before .before .before .loop .inv) _ (c .before .before .designation-at .ensures) (c .before .if3 .taken) in
+    omega (arith, h .fits)
+
+designated-requires : tie.Need-designated-requires Inv-loop μ-loop
+designated-requires c κs = search needs
+
+loop-less : tie.Need-loop-less Inv-loop μ-loop
+loop-less c =
+    let h = turn-designation _ _ _ _ (c .before .before .before .before .before .before .before .loop .inv) _ (c .before .before .before .designation-at .ensures) (c .before .before .if3 .taken) in
+    omega (arith, h .fits, h .some)
+
+loop-again : tie.Need-loop-again Inv-loop μ-loop
+loop-again c = rw (c .designated .ensures) (turn-designation _ _ _ _ (c .before .before .before .before .before .before .before .loop .inv) _ (c .before .before .before .designation-at .ensures) (c .before .before .if3 .taken) .head)
+
+stretch-at-requires : tie.Need-stretch-at-requires Inv-loop μ-loop
+stretch-at-requires c κs = search needs
+
+add-at-2 : tie.Need-add-at-2 Inv-loop μ-loop
+add-at-2 c =
+    let h = turn-stretch _ _ _ _ (c .before .before .before .before .before .loop .inv) _ (c .before .stretch-at .ensures) (c .if4 .taken) in
+    omega (arith, h .fits)
+
+add-count : tie.Need-add-count Inv-loop μ-loop
+add-count c =
+    let h = turn-stretch _ _ _ _ (c .before .before .before .before .before .before .loop .inv) _ (c .before .before .stretch-at .ensures) (c .before .if4 .taken) in
+    omega (arith, h .head .few, h .fits)
+
+loop-less-2 : tie.Need-loop-less-2 Inv-loop μ-loop
+loop-less-2 c =
+    let h = turn-stretch _ _ _ _ (c .before .before .before .before .before .before .loop .inv) _ (c .before .before .stretch-at .ensures) (c .before .if4 .taken) in
+    omega (arith, h .fits, h .some)
+
+loop-again-2 : tie.Need-loop-again-2 Inv-loop μ-loop
+loop-again-2 c = turn-stretch _ _ _ _ (c .before .before .before .before .before .before .loop .inv) _ (c .before .before .stretch-at .ensures) (c .before .if4 .taken) .head
 
 element-requires : tie.Need-element-requires Inv-loop μ-loop
 element-requires c κs = search needs
@@ -31,61 +76,74 @@ element-requires c κs = search needs
 enum-told : tie.Need-enum-told Inv-loop μ-loop
 enum-told c = search needs
 
+accepted-requires : tie.Need-accepted-requires Inv-loop μ-loop
+accepted-requires c κs = search needs
+
 returns-2 : tie.Need-returns-2 Inv-loop μ-loop
 unfolding checkOf
-returns-2 c = on-ge _ _ _ _ _ (c .before .before .before .before .if1 .left) (turn-end (now (c .before .before .before .before .before .before .args .s)) (c .before .before .before .loop .at) (c .before .before .before .loop .count) (c .before .before .before .loop .st) (c .before .before .element .result) (c .before .before .element .ensures) (c .before .before .before .loop .inv) (c .enum-told .given .1))
+returns-2 c = on-ge _ _ _ _ _ (c .before .before .before .before .before .before .before .before .if1 .left) (c .accepted .ensures ∙ turn-end _ _ _ _ _ (c .before .before .before .element .ensures) (c .before .before .before .before .before .before .before .loop .inv) (c .before .enum-told .given .1))
 
 enum-known-e : tie.Need-enum-known-e Inv-loop μ-loop
 enum-known-e c = search needs
 
 add-place : tie.Need-add-place Inv-loop μ-loop
 add-place c =
-    let h = turn-short (now (c .before .before .before .before .before .before .before .args .s)) (c .before .before .before .before .loop .at) (c .before .before .before .before .loop .count) (c .before .before .before .before .loop .st) (c .before .before .before .element .result) (c .before .before .before .element .ensures) (c .before .before .before .before .loop .inv) (c .before .e .given .1) in
-    omega (arith, c .before .before .before .before .loop .inv .within)
+    let h = turn-short _ _ _ _ _ (c .before .before .before .element .ensures) (c .before .before .before .before .before .before .before .loop .inv) (c .before .e .given .1) in
+    omega (arith, c .before .before .before .before .before .before .before .loop .inv .within)
+
+refused-requires-2 : tie.Need-refused-requires-2 Inv-loop μ-loop
+refused-requires-2 c κs = search needs
 
 returns-3 : tie.Need-returns-3 Inv-loop μ-loop
 unfolding checkOf
-returns-3 c = on-ge _ _ _ _ _ (c .before .before .before .before .before .if1 .left) (turn-refused (now (c .before .before .before .before .before .before .before .args .s)) (c .before .before .before .before .loop .at) (c .before .before .before .before .loop .count) (c .before .before .before .before .loop .st) (c .before .before .before .element .result) (c .before .before .before .element .ensures) (c .before .before .before .before .loop .inv) (c .before .e .given .1))
+returns-3 c = on-ge _ _ _ _ _ (c .before .before .before .before .before .before .before .before .before .if1 .left) (c .refused2 .ensures ∙ turn-refused _ _ _ _ _ (c .before .before .before .before .element .ensures) (c .before .before .before .before .before .before .before .before .loop .inv) (c .before .before .e .given .1))
 
 enum-known-e-2 : tie.Need-enum-known-e-2 Inv-loop μ-loop
 enum-known-e-2 c = search needs
 
-add-at : tie.Need-add-at Inv-loop μ-loop
-add-at c =
-    let h = turn-silent (now (c .before .before .before .before .before .before .before .args .s)) (c .before .before .before .before .loop .at) (c .before .before .before .before .loop .count) (c .before .before .before .before .loop .st) (c .before .before .before .element .result) (c .before .before .before .element .ensures) (c .before .before .before .before .loop .inv) (c .before .e2 .given .1) in
+add-at-3 : tie.Need-add-at-3 Inv-loop μ-loop
+add-at-3 c =
+    let h = turn-silent _ _ _ _ _ (c .before .before .before .element .ensures) (c .before .before .before .before .before .before .before .loop .inv) (c .before .e2 .given .1) in
     omega (arith, h .fits)
 
-loop-less : tie.Need-loop-less Inv-loop μ-loop
-loop-less c =
-    let h = turn-silent (now (c .before .before .before .before .before .before .before .args .s)) (c .before .before .before .before .loop .at) (c .before .before .before .before .loop .count) (c .before .before .before .before .loop .st) (c .before .before .before .element .result) (c .before .before .before .element .ensures) (c .before .before .before .before .loop .inv) (c .before .e2 .given .1) in
+loop-less-3 : tie.Need-loop-less-3 Inv-loop μ-loop
+loop-less-3 c =
+    let h = turn-silent _ _ _ _ _ (c .before .before .before .element .ensures) (c .before .before .before .before .before .before .before .loop .inv) (c .before .e2 .given .1) in
     omega (arith, h .fits, h .some)
 
-loop-again : tie.Need-loop-again Inv-loop μ-loop
-loop-again c = turn-silent (now (c .before .before .before .before .before .before .before .args .s)) (c .before .before .before .before .loop .at) (c .before .before .before .before .loop .count) (c .before .before .before .before .loop .st) (c .before .before .before .element .result) (c .before .before .before .element .ensures) (c .before .before .before .before .loop .inv) (c .before .e2 .given .1) .head
+loop-again-3 : tie.Need-loop-again-3 Inv-loop μ-loop
+loop-again-3 c = turn-silent _ _ _ _ _ (c .before .before .before .element .ensures) (c .before .before .before .before .before .before .before .loop .inv) (c .before .e2 .given .1) .head
 
 enum-known-e-3 : tie.Need-enum-known-e-3 Inv-loop μ-loop
 enum-known-e-3 c = search needs
 
-add-at-2 : tie.Need-add-at-2 Inv-loop μ-loop
-add-at-2 c =
-    let h = turn-found (now (c .before .before .before .before .before .before .before .before .args .s)) (c .before .before .before .before .before .loop .at) (c .before .before .before .before .before .loop .count) (c .before .before .before .before .before .loop .st) (c .before .before .before .before .element .result) (c .before .before .before .before .element .ensures) (c .before .before .before .before .before .loop .inv) (c .before .before .e3 .given .1) in
+add-at-4 : tie.Need-add-at-4 Inv-loop μ-loop
+add-at-4 c =
+    let h = turn-found _ _ _ _ _ (c .before .before .before .before .element .ensures) (c .before .before .before .before .before .before .before .before .loop .inv) (c .before .before .e3 .given .1) in
     omega (arith, h .fits)
 
-add-at-3 : tie.Need-add-at-3 Inv-loop μ-loop
-add-at-3 c =
-    let h = turn-found (now (c .before .before .before .before .before .before .before .before .args .s)) (c .before .before .before .before .before .loop .at) (c .before .before .before .before .before .loop .count) (c .before .before .before .before .before .loop .st) (c .before .before .before .before .element .result) (c .before .before .before .before .element .ensures) (c .before .before .before .before .before .loop .inv) (c .before .before .e3 .given .1) in
+add-at-5 : tie.Need-add-at-5 Inv-loop μ-loop
+add-at-5 c =
+    let h = turn-found _ _ _ _ _ (c .before .before .before .before .element .ensures) (c .before .before .before .before .before .before .before .before .loop .inv) (c .before .before .e3 .given .1) in
     omega (arith, h .fits)
 
-add-count : tie.Need-add-count Inv-loop μ-loop
-add-count c = omega (arith, c .before .before .before .before .before .loop .inv .few, c .before .before .before .before .before .loop .inv .within)
+add-count-2 : tie.Need-add-count-2 Inv-loop μ-loop
+add-count-2 c = omega (arith, c .before .before .before .before .before .before .before .before .loop .inv .few, c .before .before .before .before .before .before .before .before .loop .inv .within)
 
-loop-less-2 : tie.Need-loop-less-2 Inv-loop μ-loop
-loop-less-2 c =
-    let h = turn-found (now (c .before .before .before .before .before .before .before .before .args .s)) (c .before .before .before .before .before .loop .at) (c .before .before .before .before .before .loop .count) (c .before .before .before .before .before .loop .st) (c .before .before .before .before .element .result) (c .before .before .before .before .element .ensures) (c .before .before .before .before .before .loop .inv) (c .before .before .e3 .given .1) in
+loop-less-4 : tie.Need-loop-less-4 Inv-loop μ-loop
+loop-less-4 c =
+    let h = turn-found _ _ _ _ _ (c .before .before .before .before .element .ensures) (c .before .before .before .before .before .before .before .before .loop .inv) (c .before .before .e3 .given .1) in
     omega (arith, h .fits, h .some)
 
-loop-again-2 : tie.Need-loop-again-2 Inv-loop μ-loop
-loop-again-2 c = turn-found (now (c .before .before .before .before .before .before .before .before .args .s)) (c .before .before .before .before .before .loop .at) (c .before .before .before .before .before .loop .count) (c .before .before .before .before .before .loop .st) (c .before .before .before .before .element .result) (c .before .before .before .before .element .ensures) (c .before .before .before .before .before .loop .inv) (c .before .before .e3 .given .1) .head
+loop-again-4 : tie.Need-loop-again-4 Inv-loop μ-loop
+loop-again-4 c = turn-found _ _ _ _ _ (c .before .before .before .before .element .ensures) (c .before .before .before .before .before .before .before .before .loop .inv) (c .before .before .e3 .given .1) .head
+
+accepted-requires-2 : tie.Need-accepted-requires-2 Inv-loop μ-loop
+accepted-requires-2 c κs = search needs
+
+returns-4 : tie.Need-returns-4 Inv-loop μ-loop
+unfolding checkOf
+returns-4 c = on-ge _ _ _ _ _ (c .before .before .before .if1 .left) (c .accepted2 .ensures ∙ turn-done _ _ _ _ (c .before .before .loop .inv) (c .before .loop-test .left))
 
 pub check-spec : {M : Type 1} → statement M
 check-spec =
@@ -93,21 +151,37 @@ check-spec =
     (tie.spec
     Inv-loop
     μ-loop
+    refused-requires
     returns
     loop-holds
+    shared-slice-read-if2
+    designation-at-requires
+    add-at
+    designated-requires
+    loop-less
+    loop-again
+    stretch-at-requires
+    add-at-2
+    add-count
+    loop-less-2
+    loop-again-2
     element-requires
     enum-told
+    accepted-requires
     returns-2
     enum-known-e
     add-place
+    refused-requires-2
     returns-3
     enum-known-e-2
-    add-at
-    loop-less
-    loop-again
-    enum-known-e-3
-    add-at-2
     add-at-3
-    add-count
-    loop-less-2
-    loop-again-2)
+    loop-less-3
+    loop-again-3
+    enum-known-e-3
+    add-at-4
+    add-at-5
+    add-count-2
+    loop-less-4
+    loop-again-4
+    accepted-requires-2
+    returns-4)

@@ -1,0 +1,120 @@
+-- A designation that is found by its octets is the reader's element: where its set is one of the fifteen, the final octet is one that the
+-- table has, and the octets before it lead to its form.
+use Prim.Native.Nat.{ℕ, suc, _+_, _-_, _<_, _≤_}
+use native.Mathlib.Omega.{arith}
+use mathlib.Core.Path.{_≡_, refl, ap, sym, _∙_, subst}
+use mathlib.Core.Bool.{Bool, true, false}
+use mathlib.Core.List.{List, [], _∷_}
+use lib.Dec.{eqb, leb, ltb}
+use lib.ListN.{length, getD}
+use borrow.Author.Tests.{eqb-true, leb-true}
+use Rattle.base.specs.Choice.{pick, from}
+use Rattle.base.proofs.Ladder.{on-eq, on-ne, on-lt, on-ge, from-octet, from-length}
+use Rattle.charset.specs.Charsets.{form-94, form-96, form-94x94, no-set, rowOf, setOf}
+use Rattle.charset.specs.declared.Side.{Side}
+use Rattle.charset.specs.declared.Side.the-variants.{GL, GR}
+use Rattle.charset.proofs.Laws.{set-named, final-range}
+use Rattle.control.specs.Escape.{designatesOf, designationOf, multiOctetOf, escapeOf}
+use Rattle.element.specs.Element.{shapeOf, directedOf, elementOf}
+use Rattle.state.specs.Elements.{next}
+use Rattle.state.specs.State.{designatedOf}
+use Rattle.state.specs.declared.State.{State}
+use Rattle.state.specs.declared.element.Element.{Element}
+use Rattle.state.specs.declared.element.Element.the-variants.{Silent}
+use Rattle.stretch.specs.Designation as quick
+use Rattle.stretch.specs.declared.designation.Designation.{Designation}
+
+-- ---- the four octets at a place
+
+module _ (s : List ℕ) (at : ℕ) where
+  four : at < length s → 4 ≤ length s - at
+      → from at s ≡ getD s at 0 ∷ getD s (at + 1) 0 ∷ getD s (at + 1 + 1) 0 ∷ getD s (at + 1 + 1 + 1) 0 ∷ from (at + 1 + 1 + 1 + 1) s
+  four i h =
+      from-octet s at i
+      ∙ ap (λ (t : List ℕ). getD s at 0 ∷ t)
+      (from-octet s (at + 1) (omega arith)
+      ∙ ap (λ (t : List ℕ). getD s (at + 1) 0 ∷ t)
+      (from-octet s (at + 1 + 1) (omega arith) ∙ ap (λ (t : List ℕ). getD s (at + 1 + 1) 0 ∷ t) (from-octet s (at + 1 + 1 + 1) (omega arith))))
+
+  pub on-four : (r : Designation) → at < length s → 4 ≤ length s - at
+      → r ≡ pick (eqb (getD s at 0) 0x1B) (quick.sequenceOf (getD s (at + 1) 0) (getD s (at + 1 + 1) 0) (getD s (at + 1 + 1 + 1) 0)) quick.absent
+      → r ≡ quick.designationAt (from at s)
+  unfolding quick.designationAt
+  on-four r i h e = rw (four i h) e
+
+  few : (t : List ℕ) → length t < 4 → quick.absent ≡ quick.designationAt t
+  unfolding quick.designationAt
+  few [] h = refl
+  few (a ∷ []) h = refl
+  few (a ∷ b ∷ []) h = refl
+  few (a ∷ b ∷ c ∷ []) h = refl
+  few (a ∷ b ∷ c ∷ d ∷ t) h = absurd (omega arith)
+
+  pub on-few : length s - at < 4 → quick.absent ≡ quick.designationAt (from at s)
+  on-few h = few (from at s) (rw (from-length s at) h)
+
+-- ---- the reader's element
+
+module _ (form : ℕ) (side : Side) (last : ℕ) (named : setOf form side last < no-set) where
+  final-octet : (t : List ℕ) (st : State) (r : Element) → r ≡ designatesOf form side (setOf form side last) st → r ≡ designationOf form side (last ∷ t) st
+  unfolding designationOf next
+  final-octet t st r e =
+      let h = final-range form side last named in
+      on-ge last 0x21 _ _ _ (omega arith)
+      (on-ge last 0x24 _ _ _ (omega arith) (on-ge last 0x40 _ _ _ (h .0) (on-lt last 0x7F _ _ _ (h .1) e)))
+
+  three-octets : (form ≡ form-94x94 → ⊥) → (t : List ℕ) (st : State) → Silent 3 (designatedOf side (setOf form side last) st) ≡ designationOf form side (last ∷ t) st
+  unfolding designatesOf
+  three-octets n t st = final-octet t st _ (on-lt (setOf form side last) no-set _ _ _ named (on-ne form form-94x94 _ _ _ n refl))
+
+  four-octets : form ≡ form-94x94 → (t : List ℕ) (st : State) → Silent 4 (designatedOf side (setOf form side last) st) ≡ designationOf form side (last ∷ t) st
+  unfolding designatesOf
+  four-octets n t st = final-octet t st _ (on-lt (setOf form side last) no-set _ _ _ named (on-eq form form-94x94 _ _ _ n refl))
+
+-- a designation, where it names a set, is the shape of the octets t
+data Is (t : List ℕ) (st : State) : Designation → Type 0 where
+  is : {d : Designation} → (d .set < no-set → Silent (d .octets) (designatedOf (d .side) (d .set) st) ≡ shapeOf t st) → Is t st d
+
+by : {t : List ℕ} {st : State} {x y : Designation} (q : Bool) → (q ≡ true → Is t st x) → (q ≡ false → Is t st y) → Is t st (pick q x y)
+unfolding pick
+by true f g = f refl
+by false f g = g refl
+
+no : {t : List ℕ} {st : State} → Is t st quick.absent
+no = is {d = quick.absent} (λ h. absurd (omega arith))
+
+module _ (t : List ℕ) (st : State) where
+  multi-octet : (c d : ℕ) → Is (0x1B ∷ 0x24 ∷ c ∷ d ∷ t) st (quick.multiOctetOf c d)
+  unfolding quick.multiOctetOf shapeOf escapeOf multiOctetOf next pick
+  multi-octet c d =
+      by (eqb c 0x28) (λ e. rw (eqb-true c 0x28 e) (is {d = quick.byFinalOf 4 form-94x94 GL d} (λ h. four-octets form-94x94 GL d h refl t st)))
+      (λ _. by (eqb c 0x29) (λ e. rw (eqb-true c 0x29 e) (is {d = quick.byFinalOf 4 form-94x94 GR d} (λ h. four-octets form-94x94 GR d h refl t st))) (λ _. no))
+
+  sequence : (b c d : ℕ) → Is (0x1B ∷ b ∷ c ∷ d ∷ t) st (quick.sequenceOf b c d)
+  unfolding quick.sequenceOf shapeOf escapeOf next pick
+  sequence b c d =
+      by (eqb b 0x24) (λ e. rw (eqb-true b 0x24 e) (multi-octet c d))
+      (λ _. by (eqb b 0x28) (λ e. rw (eqb-true b 0x28 e) (is {d = quick.byFinalOf 3 form-94 GL c} (λ h. three-octets form-94 GL c h (λ q. omega arith) (d ∷ t) st)))
+      (λ _. by (eqb b 0x29) (λ e. rw (eqb-true b 0x29 e) (is {d = quick.byFinalOf 3 form-94 GR c} (λ h. three-octets form-94 GR c h (λ q. omega arith) (d ∷ t) st)))
+      (λ _. by (eqb b 0x2D) (λ e. rw (eqb-true b 0x2D e) (is {d = quick.byFinalOf 3 form-96 GR c} (λ h. three-octets form-96 GR c h (λ q. omega arith) (d ∷ t) st))) (λ _. no))))
+
+shape : (t : List ℕ) (st : State) → Is t st (quick.designationAt t)
+unfolding quick.designationAt
+shape [] st = no
+shape (a ∷ []) st = no
+shape (a ∷ b ∷ []) st = no
+shape (a ∷ b ∷ c ∷ []) st = no
+shape (a ∷ b ∷ c ∷ d ∷ t) st = by (eqb a 0x1B) (λ e. rw (eqb-true a 0x1B e) (sequence t st b c d)) (λ _. no)
+
+silent-of : {k : ℕ} {st : State} (e : Element) → Silent k st ≡ e → Silent k st ≡ directedOf e
+unfolding directedOf
+silent-of e h = rw (← h)
+
+pub designation-silent : (t : List ℕ) (st : State) (d : Designation) → d ≡ quick.designationAt t → d .set < no-set
+    → Silent (d .octets) (designatedOf (d .side) (d .set) st) ≡ elementOf t st
+designation-silent t st d e h = silent-of (shapeOf t st) (given (subst (Is t st) (sym e) (shape t st)) h)
+  where
+    given : {x : Designation} → Is t st x → x .set < no-set → Silent (x .octets) (designatedOf (x .side) (x .set) st) ≡ shapeOf t st
+    given (is f) = f
+
+pub ruleset placing = (on-four, on-few)

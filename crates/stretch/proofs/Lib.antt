@@ -1,0 +1,5 @@
+pub mod Law
+pub mod Starts
+pub mod Loops
+pub mod Designations
+pub mod Stretches

@@ -1,0 +1,101 @@
+-- A stretch's octets are as many elements as it has units (`stretch-ahead`): each of the three kinds of stretch is the law of its width.
+use Prim.Native.Nat.{ℕ, _+_, _*_, _<_, _≤_}
+use native.Mathlib.Omega.{arith}
+use mathlib.Core.Path.{_≡_, refl, ap, sym, _∙_, subst}
+use mathlib.Core.Bool.{Bool, true, false}
+use mathlib.Core.List.{List, []}
+use lib.Dec.{eqb, ltb}
+use lib.ListN.{length}
+use borrow.Author.Tests.{eqb-true}
+use Rattle.base.specs.Choice.{pick, from}
+use Rattle.base.proofs.Ladder.{on-lt, on-ge, from-end, from-length}
+use Rattle.charset.specs.Charsets.{form-94x94, formOf}
+use Rattle.state.specs.declared.State.{State}
+use Rattle.stretch.specs.Characters.{leadOf, oneAt, twoAt, singlesOf, pairsOf, settledOf, stretch, twosOf, byFormsOf, stretchAt}
+use Rattle.stretch.specs.declared.characters.Stretch.{Stretch}
+use Rattle.stretch.proofs.Law.{Ahead, ahead, lead-fits}
+use Rattle.stretch.proofs.Starts.{one-octet, two-left, two-right}
+
+-- ---- the choice of a stretch, by what the code has found
+
+module _ (left right : ℕ) (t : List ℕ) where
+  pub chosen-left : (a : Stretch) → a ≡ twosOf left 0 t → 0 < a .units → a ≡ byFormsOf left right t
+  unfolding byFormsOf
+  chosen-left a e h = rw (← e) (on-lt 0 (a .units) _ _ _ h refl)
+
+  pub chosen-right : (a b : Stretch) → a ≡ twosOf left 0 t → a .units ≤ 0 → b ≡ twosOf right 1 t → 0 < b .units → b ≡ byFormsOf left right t
+  unfolding byFormsOf
+  chosen-right a b e h f k = rw (← e, ← f) (on-ge 0 (a .units) _ _ _ h (on-lt 0 (b .units) _ _ _ k refl))
+
+  pub chosen-ones : (a b : Stretch) (n : ℕ) → a ≡ twosOf left 0 t → a .units ≤ 0 → b ≡ twosOf right 1 t → b .units ≤ 0 → n ≡ singlesOf left right t → stretch n n ≡ byFormsOf left right t
+  unfolding byFormsOf
+  chosen-ones a b n e h f k g = rw (← e, ← f, ← g) (on-ge 0 (a .units) _ _ _ h (on-ge 0 (b .units) _ _ _ k refl))
+
+-- no stretch starts at the end of a string
+none : (q a b : Bool) → stretch 0 0
+    ≡ pick q (pick (ltb 0 (pick a (stretch (2 * 0) 0) (stretch 0 0) .units)) (pick a (stretch (2 * 0) 0) (stretch 0 0)) (pick (ltb 0 (pick b (stretch (2 * 0) 0) (stretch 0 0) .units)) (pick b (stretch (2 * 0) 0) (stretch 0 0)) (stretch 0 0))) (stretch 0 0)
+unfolding pick
+none false a b = refl
+none true true true = refl
+none true true false = refl
+none true false true = refl
+none true false false = refl
+
+pub stretch-end : (s : List ℕ) (at : ℕ) (st : State) → length s ≤ at → stretch 0 0 ≡ stretchAt (from at s) st
+unfolding stretchAt byFormsOf leadOf
+stretch-end s at st h = rw (from-end s at h) (none (settledOf (st .directions)) (eqb (formOf (st .sets .gl)) form-94x94) (eqb (formOf (st .sets .gr)) form-94x94))
+
+-- ---- a stretch is elements
+
+module _ (s : List ℕ) (at : ℕ) (st : State) where
+  -- of a stretch with octets, as many elements as it has units
+  data Passes : Stretch → Type 0 where
+    passes : {r : Stretch} → (0 < r .octets → Ahead s at (r .octets) (r .units) st) → Passes r
+
+  by : {x y : Stretch} (q : Bool) → (q ≡ true → Passes x) → (q ≡ false → Passes y) → Passes (pick q x y)
+  unfolding pick
+  by true f g = f refl
+  by false f g = g refl
+
+  nothing : Passes (stretch 0 0)
+  nothing = passes {r = stretch 0 0} (λ h. absurd (omega arith))
+
+  module _ (inside : at ≤ length s) (settled : settledOf (st .directions) ≡ true) where
+    ones : Passes (stretch (singlesOf (formOf (st .sets .gl)) (formOf (st .sets .gr)) (from at s)) (singlesOf (formOf (st .sets .gl)) (formOf (st .sets .gr)) (from at s)))
+    ones =
+        let n : ℕ = singlesOf (formOf (st .sets .gl)) (formOf (st .sets .gr)) (from at s) in
+        let f : 1 * n ≤ length (from at s) = lead-fits (oneAt (formOf (st .sets .gl)) (formOf (st .sets .gr))) 0 st (one-octet st settled) (from at s) in
+        passes {r = stretch n n}
+        (λ h. ahead _ 0 st (one-octet st settled) s at n n refl (omega arith) (omega arith) (omega (arith, f, from-length s at)))
+
+    -- characters of two octets on a side, which are elements of the state
+    twos : (side set : ℕ) → (formOf set ≡ form-94x94 → Passes (stretch (2 * pairsOf side (from at s)) (pairsOf side (from at s)))) → Passes (twosOf (formOf set) side (from at s))
+    twos side set f = by (eqb (formOf set) form-94x94) (λ e. f (eqb-true _ _ e)) (λ _. nothing)
+
+    lefts : formOf (st .sets .gl) ≡ form-94x94 → Passes (stretch (2 * pairsOf 0 (from at s)) (pairsOf 0 (from at s)))
+    lefts k =
+        let n : ℕ = pairsOf 0 (from at s) in
+        let f : 2 * n ≤ length (from at s) = lead-fits (twoAt 0) 1 st (two-left st settled k) (from at s) in
+        passes {r = stretch (2 * n) n}
+        (λ h. ahead _ 1 st (two-left st settled k) s at n (2 * n) refl refl (omega arith) (omega (arith, f, from-length s at)))
+
+    rights : formOf (st .sets .gr) ≡ form-94x94 → Passes (stretch (2 * pairsOf 1 (from at s)) (pairsOf 1 (from at s)))
+    rights k =
+        let n : ℕ = pairsOf 1 (from at s) in
+        let f : 2 * n ≤ length (from at s) = lead-fits (twoAt 1) 1 st (two-right st settled k) (from at s) in
+        passes {r = stretch (2 * n) n}
+        (λ h. ahead _ 1 st (two-right st settled k) s at n (2 * n) refl refl (omega arith) (omega (arith, f, from-length s at)))
+
+    forms : Passes (byFormsOf (formOf (st .sets .gl)) (formOf (st .sets .gr)) (from at s))
+    unfolding byFormsOf
+    forms = by _ (λ _. twos 0 (st .sets .gl) lefts) (λ _. by _ (λ _. twos 1 (st .sets .gr) rights) (λ _. ones))
+
+  stretches : at ≤ length s → Passes (stretchAt (from at s) st)
+  unfolding stretchAt
+  stretches inside = by (settledOf (st .directions)) (λ settled. forms inside settled) (λ _. nothing)
+
+  pub stretch-ahead : (r : Stretch) → r ≡ stretchAt (from at s) st → at ≤ length s → 0 < r .octets → Ahead s at (r .octets) (r .units) st
+  stretch-ahead r e inside h = given (subst Passes (sym e) (stretches inside)) h
+    where
+      given : {x : Stretch} → Passes x → 0 < x .octets → Ahead s at (x .octets) (x .units) st
+      given (passes f) = f

@@ -1,0 +1,53 @@
+-- `characters::fours` meets its contract. The invariant: only units of one octet stand from `at` to `i`.
+use borrow.Author.Needs.{needs}
+use Prim.Native.Nat.{_-_}
+use lib.ListN.{length}
+use Rattle.stretch.specs.Characters.{Along}
+use Rattle.stretch.proofs.Loops.{along-first, along-four}
+use Rattle.stretch.proofs.characters.fours.Statement.{statement}
+use Rattle.stretch.proofs.characters.fours.Tie as tie
+
+abbrev Inv-loop : tie.InvT-loop
+Inv-loop s at left right first last i₀ i = Along left right s at i
+
+abbrev μ-loop : tie.MeasureT-loop
+μ-loop s at left right first last i₀ i = length s - i
+
+loop-holds : tie.Need-loop-holds Inv-loop μ-loop
+loop-holds c = along-first _ _ _ _ (c .before .pre .0)
+
+sub-loop : tie.Need-sub-loop Inv-loop μ-loop
+sub-loop c = search needs
+
+four-requires : tie.Need-four-requires Inv-loop μ-loop
+four-requires c κs = search needs
+
+add-i : tie.Need-add-i Inv-loop μ-loop
+add-i c = search needs
+
+loop-less : tie.Need-loop-less Inv-loop μ-loop
+loop-less c = search needs
+
+loop-again : tie.Need-loop-again Inv-loop μ-loop
+loop-again c = along-four _ _ _ _ _ _ _ (c .before .before .before .before .before .pre .1) (c .before .before .before .loop .inv) (c .before .before .loop-test .taken) (c .before .four .ensures (c .if1 .taken))
+
+returns : tie.Need-returns Inv-loop μ-loop
+returns c = c .before .before .before .loop .inv
+
+returns-2 : tie.Need-returns-2 Inv-loop μ-loop
+returns-2 c = c .before .loop .inv
+
+pub fours-spec : {M : Type 1} → statement M
+fours-spec =
+    tie.close
+    (tie.spec
+    Inv-loop
+    μ-loop
+    loop-holds
+    sub-loop
+    four-requires
+    add-i
+    loop-less
+    loop-again
+    returns
+    returns-2)

@@ -1,0 +1,42 @@
+-- `characters::same_side` meets its contract: each span is of units by themselves.
+use Rattle.stretch.proofs.Loops.{gl-span, gr-span-96, gr-span-94}
+use borrow.Author.Needs.{needs}
+use Rattle.stretch.proofs.characters.same_side.Statement.{statement}
+use Rattle.stretch.proofs.characters.same_side.Tie as tie
+
+returns : tie.Need-returns
+returns c = search needs
+
+fours-requires : tie.Need-fours-requires
+fours-requires c κs = (search needs, gl-span _ _ (c .if2 .left))
+
+returns-2 : tie.Need-returns-2
+returns-2 c = search needs
+
+fours-requires-2 : tie.Need-fours-requires-2
+fours-requires-2 c κs = (search needs, gr-span-96 _ _ (c .if3 .taken))
+
+returns-3 : tie.Need-returns-3
+returns-3 c = search needs
+
+fours-requires-3 : tie.Need-fours-requires-3
+fours-requires-3 c κs = (search needs, gr-span-94 _ _ (c .if4 .taken))
+
+returns-4 : tie.Need-returns-4
+returns-4 c = search needs
+
+returns-5 : tie.Need-returns-5
+returns-5 c = search needs
+
+pub same-side-spec : {M : Type 1} → statement M
+same-side-spec =
+    tie.close
+    (tie.spec
+    returns
+    fours-requires
+    returns-2
+    fours-requires-2
+    returns-3
+    fours-requires-3
+    returns-4
+    returns-5)

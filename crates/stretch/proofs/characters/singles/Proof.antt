@@ -1,0 +1,67 @@
+-- `characters::singles` meets its contract. The invariant: only units of one octet stand from `at` to `i`.
+use borrow.Author.Needs.{needs}
+use native.Mathlib.Omega.{arith}
+use mathlib.Core.Path.{sym, _∙_}
+use Prim.Native.Nat.{_-_}
+use lib.ListN.{length}
+use Rattle.stretch.specs.Characters.{Along}
+use Rattle.stretch.proofs.Loops.{along-first, along-more, along-last, single-no, single-end}
+use Rattle.stretch.proofs.characters.singles.Statement.{statement}
+use Rattle.stretch.proofs.characters.singles.Tie as tie
+
+abbrev Inv-loop : tie.InvT-loop
+Inv-loop s at left right i₀ i = Along left right s at i
+
+abbrev μ-loop : tie.MeasureT-loop
+μ-loop s at left right i₀ i = length s - i
+
+loop-holds : tie.Need-loop-holds Inv-loop μ-loop
+loop-holds c = along-first _ _ _ _ (c .before .pre)
+
+shared-slice-read-b : tie.Need-shared-slice-read-b Inv-loop μ-loop
+shared-slice-read-b c = search needs
+
+single-requires : tie.Need-single-requires Inv-loop μ-loop
+single-requires c κs = search needs
+
+add-same-side : tie.Need-add-same-side Inv-loop μ-loop
+add-same-side c = search needs
+
+same-side-requires : tie.Need-same-side-requires Inv-loop μ-loop
+same-side-requires c κs = search needs
+
+loop-less : tie.Need-loop-less Inv-loop μ-loop
+loop-less c = omega (arith, c .same-side .ensures .since, c .same-side .ensures .within)
+
+loop-again : tie.Need-loop-again Inv-loop μ-loop
+loop-again c = along-more _ _ _ _ _ _ (c .before .before .before .before .before .loop .inv) (c .before .before .before .before .loop-test .taken) (sym (c .before .before .single .ensures) ∙ c .before .if1 .taken) (c .same-side .ensures)
+
+sub-result : tie.Need-sub-result Inv-loop μ-loop
+sub-result c = search needs
+
+returns : tie.Need-returns Inv-loop μ-loop
+returns c = along-last _ _ _ _ _ (c .before .before .before .before .loop .inv) (single-no _ _ _ _ (c .before .before .before .loop-test .taken) (sym (c .before .single .ensures) ∙ c .if1 .left))
+
+sub-result-2 : tie.Need-sub-result-2 Inv-loop μ-loop
+sub-result-2 c = search needs
+
+returns-2 : tie.Need-returns-2 Inv-loop μ-loop
+returns-2 c = along-last _ _ _ _ _ (c .before .loop .inv) (single-end _ _ _ _ (c .loop-test .left))
+
+pub singles-spec : {M : Type 1} → statement M
+singles-spec =
+    tie.close
+    (tie.spec
+    Inv-loop
+    μ-loop
+    loop-holds
+    shared-slice-read-b
+    single-requires
+    add-same-side
+    same-side-requires
+    loop-less
+    loop-again
+    sub-result
+    returns
+    sub-result-2
+    returns-2)

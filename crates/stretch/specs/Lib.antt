@@ -1,0 +1,2 @@
+pub mod Designation
+pub mod Characters

@@ -1,0 +1,78 @@
+// Designations, found by their octets.
+ghost use mathlib.Core.Path.{_≡_};
+ghost use Rattle.base.specs.Choice.{from};
+ghost use Rattle.stretch.specs.Designation.{absent, byFinalOf, multiOctetOf, sequenceOf, designationAt};
+use charset::FORM_94;
+use charset::FORM_94X94;
+use charset::FORM_96;
+use charset::NO_SET;
+use charset::Side;
+
+// A designation: its octets, its side and its set, which is none where there is no designation.
+pub struct Designation {
+    pub octets: usize,
+    pub side: Side,
+    pub set: u8,
+}
+
+fn none() -> Designation
+    ensures { λ r. ⌜ r ≡ absent ⌝ }
+{
+    Designation {
+        octets: 0,
+        side: Side::GL,
+        set: NO_SET,
+    }
+}
+
+// The designation of a form and side, by its final octet.
+fn by_final(octets: usize, form: u8, side: Side, last: u8) -> Designation
+    ensures { λ r. ⌜ r ≡ byFinalOf octets form side last ⌝ }
+{
+    let set = charset::set_of(form, side, last);
+    Designation {
+        octets: octets,
+        side: side,
+        set: set,
+    }
+}
+
+// The octets after 1B 24.
+fn multi_octet(b: u8, last: u8) -> Designation
+    ensures { λ r. ⌜ r ≡ multiOctetOf b last ⌝ }
+{
+    match b {
+        0x28 => by_final(4, FORM_94X94, Side::GL, last),
+        0x29 => by_final(4, FORM_94X94, Side::GR, last),
+        _ => none(),
+    }
+}
+
+// The three octets after 1B.
+fn sequence(b: u8, c: u8, d: u8) -> Designation
+    ensures { λ r. ⌜ r ≡ sequenceOf b c d ⌝ }
+{
+    match b {
+        0x24 => multi_octet(c, d),
+        0x28 => by_final(3, FORM_94, Side::GL, c),
+        0x29 => by_final(3, FORM_94, Side::GR, c),
+        0x2D => by_final(3, FORM_96, Side::GR, c),
+        _ => none(),
+    }
+}
+
+// The designation at a place, where it has four octets from there on.
+pub fn designation_at(s: &[u8], at: usize) -> Designation
+    ensures { λ r. ⌜ r ≡ designationAt (from at (now (s .entry))) ⌝ }
+{
+    if s.len() <= at {
+        return none();
+    }
+    if s.len() - at < 4 {
+        return none();
+    }
+    if s[at] == 0x1B {
+        return sequence(s[at + 1], s[at + 1 + 1], s[at + 1 + 1 + 1]);
+    }
+    none()
+}
