@@ -21,6 +21,8 @@ use Rattle.grammar.specs.Units.{TextUnit}
 use Rattle.writing.specs.Demand.{writeAnswer, outputAfter}
 use Rattle.writing.specs.Records.{listReading, checkRecords, fine, faulty, workRoom, writerAnswer, writerOutput}
 use Rattle.writing.specs.Offence.{noRecord}
+use Rattle.writing.specs.Demand3.{Demand3For}
+use Rattle.writing.proofs.Demand3.{writer-demand3}
 use Rattle.writing.proofs.Records.{fine-units}
 use Rattle.writing.proofs.Offence.{offence}
 use Rattle.writing.proofs.Outcome.{offence-number}
@@ -107,3 +109,9 @@ module _ (rs : List UnitRecord) (o before after out : List ℕ) where
           let z : lookedAt (length rs) ≡ length rs = rw (le-leb (length rs) limit.units h) in
           subst (λ (k : ℕ). Finished rs o (length before) out (finishAnswer (reached o rs k) (length rs) o after (length out)) (finishOutput (reached o rs k) (length rs) o after out)) (sym z)
           (fits h (subst (λ (k : ℕ). Stowed o rs k before after) z s) (reached o rs (length rs)) refl)
+
+-- and so they are what demand 3 asks
+pub demanded : (rs : List UnitRecord) (o : List ℕ) (work : ℕ) (out after : List ℕ) → after ≡ writerOutput rs o work out
+    → Demand3For rs o work out (writerAnswer rs o work (length out)) after
+demanded rs o work out after e =
+    subst (λ (l : List ℕ). Demand3For rs o work out (writerAnswer rs o work (length out)) l) (sym e) (writer-demand3 rs o work out)
