@@ -3,6 +3,9 @@
 use base::Answer;
 use base::Unit;
 use reader::Item;
+use state::Sets;
+use state::State;
+use state::directions::Directions;
 
 // a record that no string has
 const MARK: Unit = Unit {
@@ -66,6 +69,30 @@ fn show_items(s: &[u8]) {
     }
 }
 
+// One step of a reader that is made by hand.
+fn show_step(s: &[u8], place: usize, count: usize, gl: u8, gr: u8, depth: u8) {
+    let state = State {
+        directions: Directions {
+            levels: 0,
+            depth: depth,
+            marked: true,
+            texted: true,
+        },
+        sets: Sets { gl: gl, gr: gr },
+    };
+    let t = reader::step(s, place, count, state);
+    io::write_all(1, b" made by hand\n");
+    let i = t.item;
+    match i {
+        Item::Given(unit) => show_unit(unit),
+        Item::Ended(answer) => show_answer(answer),
+    }
+    io::write_all(1, b"  then");
+    number(t.place as u64);
+    number(t.count as u64);
+    io::write_all(1, b"\n");
+}
+
 fn show(s: &[u8]) {
     io::write_all(1, b"string\n");
     show_list(s);
@@ -96,4 +123,21 @@ fn main() {
     show(b"\x1B\x29\x49\xA0");
     show(b"\x41\x41\x41\x41\x41\x41\x41\x41\x41");
     show(b"\x41\x41\x1B\x2D\x42\x1B\x28\x42");
+    // in the middle of a character, at the end, past it; a set that may not stand in GL, in GR, and no set; 16 and 17 directions open; the
+    // largest count; more than 65,535 octets, at the end and past it
+    let s = b"\x1B\x24\x28\x42\x30\x21";
+    show_step(s, 5, 7, 13, 3, 1);
+    show_step(s, 4, 7, 13, 3, 1);
+    show_step(s, 5, 7, 0, 3, 1);
+    show_step(s, 6, 7, 0, 3, 1);
+    show_step(s, 7, 7, 0, 3, 1);
+    show_step(s, 0, 7, 3, 3, 1);
+    show_step(s, 0, 7, 0, 0, 1);
+    show_step(s, 0, 7, 15, 3, 1);
+    show_step(s, 0, 7, 0, 3, 16);
+    show_step(s, 0, 7, 0, 3, 17);
+    show_step(s, 0, 0xFFFF_FFFF_FFFF_FFFF, 0, 3, 1);
+    let long = [0x20u8; 65536];
+    show_step(&long, 65536, 7, 0, 3, 1);
+    show_step(&long, 65537, 7, 3, 3, 17);
 }
