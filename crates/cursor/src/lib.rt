@@ -234,12 +234,12 @@ fn placed(s: &[u8], c: Cursor, d: Designation) -> Cursor
             sets: Sets { gl: c.gl, gr: c.gr },
         };
         let next = state.designated(side, set);
-        let after = next.sets;
+        let sets = next.sets;
         let place = c.place + d.octets;
         return Cursor {
             place: place,
-            gl: after.gl,
-            gr: after.gr,
+            gl: sets.gl,
+            gr: sets.gr,
         };
     }
     c

@@ -30,7 +30,8 @@ pub fn answer(s: &[u8], room: usize) -> Answer
 fn stored(a: Answer) -> usize
     ensures { λ r. ⌜ r ≡ storedOf a ⌝ }
 {
-    if a.number == refusal::ACCEPTED {
+    let number = a.number;
+    if number == refusal::ACCEPTED {
         return a.count;
     }
     0

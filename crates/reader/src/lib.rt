@@ -1,7 +1,6 @@
 // The units of a string one by one, from a reader that keeps hold of the string, its place and its state.
 ghost use mathlib.Core.Path.{_≡_};
 ghost use lib.ListN.{length};
-ghost use Rattle.base.specs.Answers.{refusedAt};
 ghost use Rattle.reader.specs.Step.{stepped, mayStand, countedOf, endedOf, afterOf, stepAt};
 ghost use Rattle.reader.specs.Reader.{opened, itemAt, moved};
 ghost use Rattle.reader.specs.declared.Item.the-variants.{Ended};
@@ -70,32 +69,20 @@ fn ended(number: u8, place: usize, count: usize) -> Answer
     ensures { λ r. ⌜ r ≡ endedOf number place count ⌝ }
 {
     if number == refusal::ACCEPTED {
-        return Answer {
-            place: place,
-            count: count,
-            number: refusal::ACCEPTED,
-        };
+        return Answer::accepted(place, count);
     }
-    Answer {
-        place: place,
-        count: 0,
-        number: number,
-    }
+    Answer::refused(number, place)
 }
 
-// A refusal, and the reader stays.
-fn refused(number: u8, place: usize, count: usize, state: State) -> Stepped
-    ensures { λ r. ⌜ r ≡ stepped (Ended (refusedAt number 0)) place count state ⌝ }
+// An answer, and the reader stays.
+fn stays(place: usize, count: usize, state: State, answer: Answer) -> Stepped
+    ensures { λ r. ⌜ r ≡ stepped (Ended answer) place count state ⌝ }
 {
     Stepped {
         place: place,
         count: count,
         state: state,
-        item: Item::Ended(Answer {
-            place: 0,
-            count: 0,
-            number: number,
-        }),
+        item: Item::Ended(answer),
     }
 }
 
@@ -110,12 +97,7 @@ fn after(place: usize, count: usize, state: State, o: Outcome) -> Stepped
             state: to,
             item: Item::Given(unit),
         },
-        Outcome::Stops(number, at) => Stepped {
-            place: place,
-            count: count,
-            state: state,
-            item: Item::Ended(ended(number, at, count)),
-        },
+        Outcome::Stops(number, at) => stays(place, count, state, ended(number, at, count)),
     }
 }
 
@@ -124,13 +106,13 @@ pub fn step(s: &[u8], place: usize, count: usize, state: State) -> Stepped
     ensures { λ r. ⌜ r ≡ stepAt (now (s .entry)) place count state ⌝ }
 {
     if limit::OCTETS < s.len() {
-        return refused(refusal::TOO_LONG, place, count, state);
+        return stays(place, count, state, Answer::refused(refusal::TOO_LONG, 0));
     }
     if may_stand(s.len(), place, state) {
         let o = units::next_unit(s, place, state);
         return after(place, count, state, o);
     }
-    refused(refusal::BAD_UNIT, place, count, state)
+    stays(place, count, state, Answer::refused(refusal::BAD_UNIT, 0))
 }
 
 // A reader at the start of a string.

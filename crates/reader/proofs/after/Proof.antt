@@ -17,15 +17,25 @@ enum-known-o-2 c = search needs
 ended-requires : tie.Need-ended-requires
 ended-requires c κs = search needs
 
+stays-requires : tie.Need-stays-requires
+stays-requires c κs = search needs
+
 returns : tie.Need-returns
 unfolding afterOf
 returns c = rw (c .counted .ensures) (ap (afterOf _ _ _) (sym (c .before .before .o .given .1)))
 
 returns-2 : tie.Need-returns-2
 unfolding afterOf
-returns-2 c = rw (c .ended .ensures) (ap (afterOf _ _ _) (sym (c .before .before .o2 .given .1)))
+returns-2 c = rw (c .stays .ensures, c .before .ended .ensures) (ap (afterOf _ _ _) (sym (c .before .before .before .o2 .given .1)))
 
 pub after-spec : {M : Type 1} → statement M
 after-spec =
     tie.close
-    (tie.spec enum-known-o counted-requires enum-known-o-2 ended-requires returns returns-2)
+    (tie.spec
+    enum-known-o
+    counted-requires
+    enum-known-o-2
+    ended-requires
+    stays-requires
+    returns
+    returns-2)

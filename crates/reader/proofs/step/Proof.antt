@@ -9,9 +9,12 @@ use Rattle.reader.proofs.step.Tie as tie
 refused-requires : tie.Need-refused-requires
 refused-requires c κs = search needs
 
+stays-requires : tie.Need-stays-requires
+stays-requires c κs = search needs
+
 returns : tie.Need-returns
 unfolding stepAt
-returns c = search ladder depth 9
+returns c = rw (c .stays .ensures, c .before .refused .ensures) (search ladder depth 9)
 
 may-stand-requires : tie.Need-may-stand-requires
 may-stand-requires c κs = search needs
@@ -31,19 +34,24 @@ returns-2 c =
 refused-requires-2 : tie.Need-refused-requires-2
 refused-requires-2 c κs = search needs
 
+stays-requires-2 : tie.Need-stays-requires-2
+stays-requires-2 c κs = search needs
+
 returns-3 : tie.Need-returns-3
 unfolding stepAt
-returns-3 c = search ladder depth 9
+returns-3 c = rw (c .stays2 .ensures, c .before .refused2 .ensures) (search ladder depth 9)
 
 pub step-spec : {M : Type 1} → statement M
 step-spec =
     tie.close
     (tie.spec
     refused-requires
+    stays-requires
     returns
     may-stand-requires
     next-unit-requires
     after-requires
     returns-2
     refused-requires-2
+    stays-requires-2
     returns-3)

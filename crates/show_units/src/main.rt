@@ -1,0 +1,143 @@
+// Shows the units of document 01's checked strings: what `read` answers for a list of eight records, the records of that list, and what a reader
+// hands out, step by step.
+use base::Answer;
+use base::Unit;
+use reader::Item;
+use state::Sets;
+use state::State;
+use state::directions::Directions;
+
+// a record that no string has
+const MARK: Unit = Unit {
+    kind: 255,
+    set: 255,
+    code: 65535,
+    start: 65535,
+    length: 65535,
+};
+
+fn number(n: u64) {
+    io::write_all(1, b" ");
+    io::print_decimal(1, n);
+}
+
+fn show_answer(a: Answer) {
+    io::write_all(1, b"  answer");
+    number(a.number as u64);
+    number(a.place as u64);
+    number(a.count as u64);
+    io::write_all(1, b"\n");
+}
+
+fn show_unit(u: Unit) {
+    io::write_all(1, b"  unit");
+    number(u.kind as u64);
+    number(u.set as u64);
+    number(u.code as u64);
+    number(u.start as u64);
+    number(u.length as u64);
+    io::write_all(1, b"\n");
+}
+
+// The list of eight records after `read`; of those that it leaves, one is shown.
+fn show_list(s: &[u8]) {
+    io::write_all(1, b" list\n");
+    show_answer(listing::answer(s, 8));
+    let list = eight::read_eight(s, MARK);
+    for k in 0..8 {
+        let u = list[k];
+        if u.kind == 255 {
+            show_unit(u);
+            return;
+        }
+        show_unit(u);
+    }
+}
+
+// What a reader hands out, and its answer once again.
+fn show_items(s: &[u8]) {
+    io::write_all(1, b" reader\n");
+    for k in 0..10 {
+        let i = items::nth(s, k);
+        match i {
+            Item::Given(unit) => show_unit(unit),
+            Item::Ended(answer) => {
+                show_answer(answer);
+                return;
+            }
+        }
+    }
+}
+
+// One step of a reader that is made by hand.
+fn show_step(s: &[u8], place: usize, count: usize, gl: u8, gr: u8, depth: u8) {
+    let state = State {
+        directions: Directions {
+            levels: 0,
+            depth: depth,
+            marked: true,
+            texted: true,
+        },
+        sets: Sets { gl: gl, gr: gr },
+    };
+    let t = reader::step(s, place, count, state);
+    io::write_all(1, b" made by hand\n");
+    let i = t.item;
+    match i {
+        Item::Given(unit) => show_unit(unit),
+        Item::Ended(answer) => show_answer(answer),
+    }
+    io::write_all(1, b"  then");
+    number(t.place as u64);
+    number(t.count as u64);
+    io::write_all(1, b"\n");
+}
+
+fn show(s: &[u8]) {
+    io::write_all(1, b"string\n");
+    show_list(s);
+    show_items(s);
+}
+
+fn main() {
+    let none = [0u8; 1];
+    show(&none[..0]);
+    show(b"\x48\x09\xE9");
+    show(b"\x1B\x28\x42\x41");
+    show(b"\x1B\x24\x28\x42\x30\x21");
+    show(b"\x1B\x24\x29\x42\xB0\xA1\x41");
+    show(b"\x41\x1B\x24\x28\x42\x30\x21\xE9\x1B\x28\x42\x41");
+    show(b"\x1B\x24\x28\x42\x30\x21\xE9\x30\x21\x1B\x28\x4A\x20\x5C");
+    show(b"\x9B\x31\x5D\x41");
+    show(b"\x41\x9B\x31\x5D");
+    show(b"\x9B\x31\x5D\x9B\x5D\x41");
+    show(b"\x9B\x5D");
+    show(b"\x1B\x25\x2F\x31\x80\x84\x61\x62\x02\xFF");
+    show(b"\x1B\x25\x2F\x32\x80\x84\x61\x62\x02\xFF");
+    show(b"\x1B\x24\x42");
+    show(b"\x1B\x28");
+    show(b"\x1B\x29\x42");
+    show(b"\x1B\x28\x21\x42");
+    show(b"\x1B\x24\x28\x42\x20");
+    show(b"\x1B\x24\x28\x42\x30");
+    show(b"\x1B\x29\x49\xA0");
+    show(b"\x41\x41\x41\x41\x41\x41\x41\x41\x41");
+    show(b"\x41\x41\x1B\x2D\x42\x1B\x28\x42");
+    // in the middle of a character, at the end, past it; a set that may not stand in GL, in GR, and no set; 16 and 17 directions open; the
+    // largest count; more than 65,535 octets, at the end and past it
+    let s = b"\x1B\x24\x28\x42\x30\x21";
+    show_step(s, 5, 7, 13, 3, 1);
+    show_step(s, 4, 7, 13, 3, 1);
+    show_step(s, 5, 7, 0, 3, 1);
+    show_step(s, 6, 7, 0, 3, 1);
+    show_step(s, 7, 7, 0, 3, 1);
+    show_step(s, 0, 7, 3, 3, 1);
+    show_step(s, 0, 7, 0, 0, 1);
+    show_step(s, 0, 7, 15, 3, 1);
+    show_step(s, 0, 7, 0, 3, 16);
+    show_step(s, 0, 7, 0, 3, 17);
+    show_step(s, 0, 0xFFFF_FFFF_FFFF_FFFF, 0, 3, 1);
+    let long = [0x20u8; 65536];
+    show_step(&long, 65536, 7, 0, 3, 1);
+    show_step(&long, 65537, 7, 3, 3, 17);
+}
