@@ -16,8 +16,9 @@ use Rattle.charset.specs.declared.Side.{Side}
 use Rattle.charset.specs.declared.Side.the-variants.{GL, GR}
 use Rattle.charset.specs.Charsets.{rowOf, formOf, allowed, mayUse}
 use Rattle.state.specs.State.{Standing, on, state, put, put′, designatedOf, fresh}
-use Rattle.state.specs.Directions.{undirected, writtenOf, deeperOf, begunOf, revertedOf, stepOf}
+use Rattle.state.specs.Directions.{undirected, stepOf}
 use Rattle.element.specs.Element.{steppedOf, directedOf, elementOf}
+use Rattle.element.proofs.Sizes.{Fair, stops, fair}
 use Rattle.state.specs.declared.Sets.{Sets}
 use Rattle.state.specs.declared.directions.Directions.{Directions}
 use Rattle.state.specs.declared.State.{State}
@@ -52,48 +53,28 @@ put-legal p s a l = go (p .side) a
     go GL e = record { left = e; right = l .right }
     go GR e = record { left = l .left; right = e }
 
--- ---- a refusal by the direction rule has a number
-
-data Fair : Step → Type 0 where
-  goes : {d : Directions} → Fair (Goes d)
-  stops : {n : ℕ} → 1 ≤ n → Fair (Stops n)
-
-fair-pick : (b : Bool) (x y : Step) → Fair x → Fair y → Fair (pick b x y)
-unfolding pick
-fair-pick true x y h k = h
-fair-pick false x y h k = k
-
-fair : (x : Bool) (kind : ℕ) (d : Directions) → Fair (stepOf x kind d)
-unfolding stepOf writtenOf begunOf deeperOf revertedOf
-fair x kind d =
-    let eight : Fair (Stops 8) = stops {n = 8} (omega arith) in
-    let deeper : (way : ℕ) → Fair (deeperOf way d) = λ way. fair-pick _ _ _ goes (stops {n = 9} (omega arith)) in
-    let begun : (way : ℕ) → Fair (begunOf way d) = λ way. fair-pick _ _ _ (deeper way) (fair-pick _ _ _ eight (deeper way)) in
-    fair-pick _ _ _ (fair-pick _ _ _ (fair-pick _ _ _ eight goes) goes)
-    (fair-pick _ _ _ (begun 0) (fair-pick _ _ _ (begun 1) (fair-pick _ _ _ (fair-pick _ _ _ eight goes) goes)))
-
 -- ---- an element, with the direction rule
 
-data Right (st : State) (w : List ℕ) : Element → Type 0 where
+pub data Right (st : State) (w : List ℕ) : Element → Type 0 where
   refused : {n o : ℕ} → 1 ≤ n → Right st w (Refused n o)
   passed : {k : ℕ} (d : Side) (c : ℕ) (t : List ℕ) → Changed w k (on d c) t → Right st w (Silent k (designatedOf d c st))
   read : {p : Part} {next : Directions} (u : TextUnit) (d : Side) (t : List ℕ) → Shown (st .sets) w p u d t → direct (st .directions) u ≡ Goes next
       → Right st w (Found p (state (st .sets) next))
 
 module _ (st : State) (w : List ℕ) where
-  stepped : {p : Part} (u : TextUnit) (d : Side) (t : List ℕ) → Shown (st .sets) w p u d t → (x : Step) → direct (st .directions) u ≡ x → Fair x
+  stepped : {p : Part} (u : TextUnit) (d : Side) (t : List ℕ) → Shown (st .sets) w p u d t → (x : Step) → direct (st .directions) u ≡ x → Fair (st .directions) x
       → Right st w (steppedOf p (st .sets) x)
   unfolding steppedOf
   stepped u d t h (Goes next) e f = read u d t h e
   stepped u d t h (Stops n) e (stops f) = refused f
 
-  right : {e : Element} → Sound st w e → Right st w (directedOf e)
+  pub right : {e : Element} → Sound st w e → Right st w (directedOf e)
   unfolding directedOf
   right (refuses h) = refused h
   right (designates d c t h) = passed d c t h
   right (finds {p} u d t h) =
       stepped u d t h (stepOf (p .text) (p .kind) (st .directions)) (ap₂ (λ x k. stepOf x k (st .directions)) (sym (h .text)) (sym (h .kind)))
-      (fair (p .text) (p .kind) (st .directions))
+      (fair (st .directions) (p .text) (p .kind))
 
 -- ---- what is accepted is of the grammar
 

@@ -1,4 +1,5 @@
 pub mod Elements
+pub mod Places
 pub mod Rule
 pub mod Segment
 pub mod Sound

@@ -1,3 +1,4 @@
 pub mod Units
 pub mod Grammar
 pub mod Reading
+pub mod Records

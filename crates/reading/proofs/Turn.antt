@@ -51,7 +51,7 @@ unfolding shapeOf directedOf
 ended st = refl
 
 module _ (s : List ℕ) (at count : ℕ) (st : State) (e : Element) (is : e ≡ elementOf (from at s) st) (h : Head s at count st) where
-  sized : Sized (length s - at) e
+  sized : Sized (length s - at) st e
   sized = rw (is, ← (from-length s at)) (element-size (from at s) st)
 
   pub turn-end : e ≡ End → answer 0 at count ≡ whole s

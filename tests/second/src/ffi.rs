@@ -83,8 +83,8 @@ struct CUnit {
 
 #[repr(C)]
 struct CRun {
-    part: *const u8,
-    part_len: usize,
+    start: usize,
+    end: usize,
     answer: CAnswer,
     set: u8,
     width: u8,
@@ -136,13 +136,12 @@ impl Library for Proved {
 
     fn run(&self, s: &[u8], number: usize) -> Shown {
         #[cfg(feature = "run")]
-        // Safety: as for the check; of the part only the address is looked at.
+        // Safety: as for the check.
         let run = unsafe { ctext_run(s.as_ptr(), s.len(), number) };
         #[cfg(not(feature = "run"))]
         let run: CRun = not_linked((s, number));
-        let start = (run.part as usize).wrapping_sub(s.as_ptr() as usize);
         Shown {
-            part: (run.part_len > 0).then_some((start, run.part_len)),
+            part: (run.end != run.start).then_some((run.start, run.end.wrapping_sub(run.start))),
             answer: from_c(run.answer),
             set: run.set,
             width: run.width,

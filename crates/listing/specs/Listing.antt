@@ -1,0 +1,29 @@
+-- What `read` answers, and the list that it leaves.
+use Prim.Native.Nat.{ℕ}
+use mathlib.Core.List.{List, _++_}
+use lib.ListN.{length, drop}
+use lib.Dec.{eqb, ltb}
+use Rattle.base.specs.Answers.{answer}
+use Rattle.base.specs.Choice.{pick}
+use Rattle.base.specs.Refusal as refusal
+use Rattle.base.specs.declared.Answer.{Answer}
+use Rattle.base.specs.declared.Unit.{Unit as UnitRecord}
+use Rattle.grammar.specs.Reading.{checkOf}
+use Rattle.units.specs.Records.{recordsOf}
+
+-- for a list of so many records: "Reader order: 1, then the first offending element .., then 10."; "A refusal has count 0, but 10 has the
+-- count needed. Place: .. 0 for 1, 10, 12."
+unfoldable pub readAnswer : List ℕ → ℕ → Answer
+readAnswer s room =
+    let a = checkOf s in
+    pick (eqb (a .number) refusal.accepted)
+    (pick (ltb room (a .count)) (answer refusal.no-room 0 (a .count)) a)
+    a
+
+-- "The caller lends a list of unit records, filled from its first place; the rest stays."; "Refusals leave answer lists and output
+-- untouched"
+unfoldable pub listAfter : List ℕ → List UnitRecord → List UnitRecord
+listAfter s old =
+    pick (eqb (readAnswer s (length old) .number) refusal.accepted)
+    (recordsOf s ++ drop (length (recordsOf s)) old)
+    old

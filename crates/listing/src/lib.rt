@@ -1,0 +1,107 @@
+// The units of a string, in a list that the caller lends.
+ghost use mathlib.Core.Path.{_≡_};
+ghost use lib.ListN.{length};
+ghost use Rattle.listing.specs.Cursor.{storedOf, first, advanceOf};
+ghost use Rattle.listing.specs.Listing.{readAnswer, listAfter};
+use base::Answer;
+use base::Unit;
+use base::refusal;
+use state::State;
+use units::Outcome;
+
+// Where the next unit is looked for: a place of the string, and the state there.
+struct Cursor {
+    pub place: usize,
+    pub state: State,
+}
+
+// A unit, and the cursor after it.
+struct Turn {
+    pub cursor: Cursor,
+    pub unit: Unit,
+}
+
+impl Cursor {
+    // The start of a string.
+    fn first() -> Cursor
+        ensures { λ r. ⌜ r ≡ first ⌝ }
+    {
+        Cursor {
+            place: 0,
+            state: State::FRESH,
+        }
+    }
+}
+
+// What a string and a list of so many records are answered.
+pub fn answer(s: &[u8], room: usize) -> Answer
+    ensures { λ r. ⌜ r ≡ readAnswer (now (s .entry)) room ⌝ }
+{
+    let a = reading::check(s);
+    if a.number == refusal::ACCEPTED {
+        if room < a.count {
+            return Answer {
+                place: 0,
+                count: a.count,
+                number: refusal::NO_ROOM,
+            };
+        }
+        return a;
+    }
+    a
+}
+
+// How many records an answer stores.
+fn stored(a: Answer) -> usize
+    ensures { λ r. ⌜ r ≡ storedOf a ⌝ }
+{
+    if a.number == refusal::ACCEPTED {
+        return a.count;
+    }
+    0
+}
+
+// The unit that comes next, and the cursor after it.
+fn advance(s: &[u8], c: Cursor) -> Turn
+    ensures { λ r. ⌜ r ≡ advanceOf (now (s .entry)) c ⌝ }
+{
+    let state = c.state;
+    let o = units::next_unit(s, c.place, state);
+    match o {
+        Outcome::Gives(unit, place, next) => Turn {
+            cursor: Cursor {
+                place: place,
+                state: next,
+            },
+            unit: unit,
+        },
+        Outcome::Stops(number, place) => Turn {
+            cursor: c,
+            unit: Unit {
+                kind: 0,
+                set: 0,
+                code: 0,
+                start: 0,
+                length: 0,
+            },
+        },
+    }
+}
+
+// The units of a string are stored from the list's first place on, and the rest of it stays; a refusal stores none.
+pub fn read(s: &[u8], units: &mut [Unit]) -> Answer
+    ensures { λ r. ⌜ (r ≡ readAnswer (now (s .entry)) (length (now (units .entry))))
+        × (now (units .exit) ≡ listAfter (now (s .entry)) (now (units .entry))) ⌝ }
+{
+    let a = answer(s, units.len());
+    let n = stored(a);
+    let mut c = Cursor::first();
+    let mut i: usize = 0;
+    while i < n {
+        let t = advance(s, c);
+        units[i] = t.unit;
+        c = t.cursor;
+        i += 1;
+    }
+    a
+}

@@ -1,0 +1,47 @@
+-- A reader that keeps hold of the string: what it hands out, and the whole reader afterwards.
+use Prim.Native.Nat.{ℕ, zero, suc}
+use mathlib.Core.List.{List, [], _∷_}
+use lib.Dec.{ltb}
+use lib.ListN.{length}
+use denote.Ref.{RefT, now}
+use Rattle.base.specs.Choice.{pick}
+use Rattle.base.specs.Limit as limit
+use Rattle.base.specs.declared.Answer.{Answer}
+use Rattle.base.specs.declared.Unit.{Unit as UnitRecord}
+use Rattle.state.specs.State.{fresh}
+use Rattle.units.specs.Records.{recordsOf}
+use Rattle.reader.specs.Step.{stepAt}
+use Rattle.reader.specs.declared.Item.{Item}
+use Rattle.reader.specs.declared.Item.the-variants.{Given, Ended}
+use Rattle.reader.specs.declared.Reader.{Reader}
+use Rattle.reader.specs.declared.Stepped.{Stepped}
+
+-- the start of a string: "Every string starts from" the fresh state
+abbrev pub opened : RefT (List ℕ) → Reader
+opened s = record { octets = s; place = 0; count = 0; state = fresh }
+
+-- the step of a reader
+abbrev pub stepOf : Reader → Stepped
+stepOf r = stepAt (now (r .octets)) (r .place) (r .count) (r .state)
+
+abbrev pub itemAt : Reader → Item
+itemAt r = stepOf r .item
+
+-- the reader after it, which holds the same string
+abbrev pub moved : Reader → Reader
+moved r = record { octets = r .octets; place = stepOf r .place; count = stepOf r .count; state = stepOf r .state }
+
+-- the reader after k steps
+unfoldable pub readerAfter : ℕ → Reader → Reader
+readerAfter zero r = r
+readerAfter (suc k) r = moved (readerAfter k r)
+
+-- item k of units that are handed out one after the other, with the answer from then on
+unfoldable pub itemOf : ℕ → List UnitRecord → Answer → Item
+itemOf k [] a = Ended a
+itemOf zero (u ∷ us) a = Given u
+itemOf (suc k) (u ∷ us) a = itemOf k us a
+
+-- "exactly the units before the end or the offending element"; "Refusal 1 comes before any unit."
+unfoldable pub unitsBefore : List ℕ → List UnitRecord
+unitsBefore s = pick (ltb limit.octets (length s)) [] (recordsOf s)

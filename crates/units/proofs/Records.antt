@@ -1,0 +1,121 @@
+-- The records of a string's units: their reading, with the string as the octets of its segments, is the string's (`records-read`); their
+-- fields that mean nothing are 0 (`records-meant`); and there are as many as an accepted string's answer counts (`records-count`). Each
+-- goes by induction on the elements of the string.
+use Prim.Native.Nat.{ℕ, _+_, _≤_, _<_}
+use native.Mathlib.Omega.{arith}
+use native.Mathlib.Numerals.{add-one}
+use mathlib.Core.Path.{_≡_, refl, ap, ap₂, sym, _∙_}
+use mathlib.Core.Bool.{Bool, true, false, cond}
+use mathlib.Core.List.{List, [], _∷_}
+use mathlib.Core.Option.{Option, none, some}
+use lib.Dec.{eqb, leb, ltb}
+use lib.ListN.{length, take, drop}
+use lib.Seq.{drop-drop}
+use borrow.Author.Tests.{lt-ltb, le-ltb, le-leb, ne-eqb}
+use Rattle.base.specs.Answers.{answer, refusedAt}
+use Rattle.base.specs.Choice.{pick, from}
+use Rattle.base.specs.Kind as kind
+use Rattle.base.specs.Limit as limit
+use Rattle.base.specs.Refusal as refusal
+use Rattle.base.specs.declared.Unit.{Unit as UnitRecord}
+use Rattle.element.proofs.Sizes.{Meant, with-set, with-none, with-code, MeantPart}
+use Rattle.state.specs.State.{fresh}
+use Rattle.state.specs.declared.State.{State}
+use Rattle.state.specs.declared.element.Part.{Part}
+use Rattle.state.specs.declared.element.Element.{Element}
+use Rattle.state.specs.declared.element.Element.the-variants.{End, Refused, Silent, Found}
+use Rattle.grammar.specs.Units.{TextUnit, unitOf}
+use Rattle.grammar.specs.Reading.{size, elements, answerOf, checkOf, unitAt, unitsOf, readingOf}
+use Rattle.grammar.specs.Records.{readable, unitRead, prepend, listReading}
+use Rattle.grammar.proofs.Places.{Ahead, ends, stops, passes, reads, ahead-from, ahead-is}
+use Rattle.units.specs.Records.{recordOf, recordsFrom, recordsOf}
+use Rattle.units.specs.Next.{outcomeOf, nextOf}
+
+-- ---- their reading
+
+-- the part of the unit lies in the string
+readable-by : (s : List ℕ) (k set code start n : ℕ) → Meant k set code → start + n ≤ length s
+    → readable s (record { kind = k; set = set; code = code; start = start; length = n }) ≡ true
+unfolding readable
+readable-by s k set code start n with-set h = refl
+readable-by s k set code start n (with-none f) h =
+    rw (ne-eqb k kind.segment (λ (e : k ≡ kind.segment). omega (arith, f, e)), lt-ltb k kind.segment f)
+readable-by s k set code start n with-code h = le-leb (start + n) (length s) h
+
+unit-read : (s : List ℕ) (at : ℕ) (p : Part) → at + size p ≤ length s → MeantPart p → unitRead s (recordOf p at) ≡ some (unitAt p (drop at s))
+unfolding unitRead unitAt
+unit-read s at p h m =
+    rw (readable-by s (p .kind) (p .set) (p .code) (at + p .skip) (p .octets) m (omega (arith, h)), drop-drop (p .skip) at s)
+
+reads-from : (s : List ℕ) {at : ℕ} {st : State} {es : List Element} → Ahead s at st es
+    → listReading s (recordsFrom at es) ≡ some (unitsOf (drop at s) es)
+unfolding listReading recordsFrom unitsOf
+reads-from s (ends e) = refl
+reads-from s (stops f e) = refl
+reads-from s {at} (passes {k = k} t e a) = rw (drop-drop k at s) (reads-from s a)
+reads-from s {at} (reads {p = p} t m e a) = rw (unit-read s at p (t .fits) m, drop-drop (size p) at s, reads-from s a)
+
+pub from-start : (s : List ℕ) → Ahead s 0 fresh (elements s 0 fresh)
+unfolding from
+from-start s = ahead-from s 0 fresh
+
+-- "A string reads as a list where their two readings are equal."
+pub records-read : (s : List ℕ) → listReading s (recordsOf s) ≡ some (readingOf s)
+unfolding recordsOf readingOf
+records-read s = reads-from s (from-start s)
+
+-- ---- their fields
+
+pub data AllMeant : List UnitRecord → Type 0 where
+  none-left : AllMeant []
+  one-more : {r : UnitRecord} {rs : List UnitRecord} → Meant (r .kind) (r .set) (r .code) → AllMeant rs → AllMeant (r ∷ rs)
+
+meant-from : (s : List ℕ) {at : ℕ} {st : State} {es : List Element} → Ahead s at st es → AllMeant (recordsFrom at es)
+unfolding recordsFrom
+meant-from s (ends e) = none-left
+meant-from s (stops f e) = none-left
+meant-from s (passes t e a) = meant-from s a
+meant-from s {at} (reads {p = p} t m e a) = one-more {r = recordOf p at} m (meant-from s a)
+
+-- "Set and code are 0 where they mean nothing."
+pub records-meant : (s : List ℕ) → AllMeant (recordsOf s)
+unfolding recordsOf
+records-meant s = meant-from s (from-start s)
+
+-- ---- their number
+
+counts-from : (s : List ℕ) (count : ℕ) {at : ℕ} {st : State} {es : List Element} → Ahead s at st es
+    → answerOf at count es .number ≡ refusal.accepted → answerOf at count es .count ≡ count + length (recordsFrom at es)
+unfolding answerOf recordsFrom
+counts-from s count (ends e) z = omega arith
+counts-from s count (stops {n = n} f e) z =
+    let y : n ≡ refusal.accepted = z in
+    absurd (omega arith)
+counts-from s count (passes t e a) z = counts-from s count a z
+counts-from s count (reads t m e a) z = omega (arith, counts-from s (count + 1) a z)
+
+counts-by : (s : List ℕ) (b : Bool) → pick b (refusedAt refusal.too-long 0) (answerOf 0 0 (elements s 0 fresh)) .number ≡ refusal.accepted
+    → pick b (refusedAt refusal.too-long 0) (answerOf 0 0 (elements s 0 fresh)) .count ≡ length (recordsFrom 0 (elements s 0 fresh))
+unfolding pick
+counts-by s true z = absurd (let y : _≡_ {A = ℕ} refusal.too-long refusal.accepted = z in omega arith)
+counts-by s false z = omega (arith, counts-from s 0 (from-start s) z)
+
+-- "Accepted is 0, the input's length, and the units"
+pub records-count : (s : List ℕ) → checkOf s .number ≡ refusal.accepted → checkOf s .count ≡ length (recordsOf s)
+unfolding checkOf recordsOf
+records-count s z = counts-by s (ltb limit.octets (length s)) z
+
+-- ---- the next of them
+
+-- the next unit of a string that is not too long
+pub next-ahead : (s : List ℕ) → length s ≤ limit.octets → {at : ℕ} {st : State} {es : List Element} → Ahead s at st es → nextOf s at st ≡ outcomeOf at es
+unfolding nextOf pick
+next-ahead s short {at} a = rw (le-ltb limit.octets (length s) short) (ap (outcomeOf at) (ahead-is s a))
+
+-- each has an octet at least
+pub few-records : (s : List ℕ) {at : ℕ} {st : State} {es : List Element} → Ahead s at st es → at ≤ length s → at + length (recordsFrom at es) ≤ length s
+unfolding recordsFrom
+few-records s (ends e) h = omega arith
+few-records s (stops f e) h = omega arith
+few-records s (passes t e a) h = omega (arith, few-records s a (t .fits), t .some)
+few-records s (reads t m e a) h = omega (arith, few-records s a (t .fits), t .some)

@@ -1,0 +1,109 @@
+-- `units::next_unit` meets its contract: at each turn the elements from the place on give what those from the start do.
+-- Assumes nothing.
+use Prim.Native.Nat.{ℕ, _+_, _-_, _≤_}
+use native.Mathlib.Omega.{arith}
+use mathlib.Core.Path.{_≡_, refl, sym, ap, _∙_}
+use borrow.Author.Needs.{needs}
+use lib.ListN.{length}
+use denote.Ref.{now}
+use Rattle.base.proofs.Ladder.{ladder, on-ge}
+use Rattle.base.specs.declared.Unit.{Unit as UnitRecord}
+use Rattle.state.specs.declared.State.{State}
+use Rattle.grammar.proofs.Places.{refused-within, step-silent, step-found}
+use Rattle.units.specs.Next.{nextOf}
+use Rattle.units.specs.declared.Outcome.{Outcome}
+use Rattle.units.specs.declared.Outcome.the-variants.{Gives}
+use Rattle.units.proofs.Turn.{outcome, gives-end, gives-refused, gives-silent, gives-found}
+use Rattle.units.proofs.next_unit.Statement.{statement}
+use Rattle.units.proofs.next_unit.Tie as tie
+
+abbrev Inv-loop : tie.InvT-loop
+Inv-loop s place at₀ st₀ at st = outcome s at st ≡ outcome s at₀ st₀
+
+abbrev μ-loop : tie.MeasureT-loop
+μ-loop s place at₀ st₀ at st = length s - at
+
+returns : tie.Need-returns Inv-loop μ-loop
+unfolding nextOf
+returns c = search ladder
+
+loop-holds : tie.Need-loop-holds Inv-loop μ-loop
+loop-holds c = refl
+
+element-requires : tie.Need-element-requires Inv-loop μ-loop
+element-requires c κs = search needs
+
+enum-told : tie.Need-enum-told Inv-loop μ-loop
+enum-told c = search needs
+
+returns-2 : tie.Need-returns-2 Inv-loop μ-loop
+unfolding nextOf
+returns-2 c = on-ge _ _ _ _ _ (c .before .before .before .before .if1 .left) (gives-end (now (c .before .before .before .before .before .before .args .s)) (c .before .before .before .loop .at) (c .before .before .before .loop .st) (c .before .before .element .result) (c .before .before .element .ensures) (c .enum-told .given .1) ∙ c .before .before .before .loop .inv)
+
+enum-known-e : tie.Need-enum-known-e Inv-loop μ-loop
+enum-known-e c = search needs
+
+add-stop : tie.Need-add-stop Inv-loop μ-loop
+add-stop c =
+    let h = refused-within (now (c .before .before .before .before .before .before .before .args .s)) (c .before .before .before .before .loop .at) (c .before .before .before .before .loop .st) (c .before .before .before .element .result) (c .before .before .before .element .ensures) (c .before .e .given .1) in
+    omega (arith, c .before .before .before .before .before .if1 .left)
+
+returns-3 : tie.Need-returns-3 Inv-loop μ-loop
+unfolding nextOf
+returns-3 c = on-ge _ _ _ _ _ (c .before .before .before .before .before .if1 .left) (gives-refused (now (c .before .before .before .before .before .before .before .args .s)) (c .before .before .before .before .loop .at) (c .before .before .before .before .loop .st) (c .before .before .before .element .result) (c .before .before .before .element .ensures) (c .before .e .given .1) ∙ c .before .before .before .before .loop .inv)
+
+enum-known-e-2 : tie.Need-enum-known-e-2 Inv-loop μ-loop
+enum-known-e-2 c = search needs
+
+add-at : tie.Need-add-at Inv-loop μ-loop
+add-at c = omega (arith, c .before .before .before .before .before .if1 .left, step-silent (now (c .before .before .before .before .before .before .before .args .s)) (c .before .before .before .before .loop .at) (c .before .before .before .before .loop .st) (c .before .before .before .element .result) (c .before .before .before .element .ensures) (c .before .e2 .given .1) .fits)
+
+loop-less : tie.Need-loop-less Inv-loop μ-loop
+loop-less c =
+    let h = step-silent (now (c .before .before .before .before .before .before .before .args .s)) (c .before .before .before .before .loop .at) (c .before .before .before .before .loop .st) (c .before .before .before .element .result) (c .before .before .before .element .ensures) (c .before .e2 .given .1) in
+    omega (arith, h .fits, h .some)
+
+loop-again : tie.Need-loop-again Inv-loop μ-loop
+loop-again c = gives-silent (now (c .before .before .before .before .before .before .before .args .s)) (c .before .before .before .before .loop .at) (c .before .before .before .before .loop .st) (c .before .before .before .element .result) (c .before .before .before .element .ensures) (c .before .e2 .given .1) ∙ c .before .before .before .before .loop .inv
+
+enum-known-e-3 : tie.Need-enum-known-e-3 Inv-loop μ-loop
+enum-known-e-3 c = search needs
+
+record-requires : tie.Need-record-requires Inv-loop μ-loop
+record-requires c κs = omega (arith, c .before .before .before .before .before .if1 .left, step-found (now (c .before .before .before .before .before .before .before .args .s)) (c .before .before .before .before .loop .at) (c .before .before .before .before .loop .st) (c .before .before .before .element .result) (c .before .before .before .element .ensures) (c .before .e3 .given .1) .fits)
+
+add-octets : tie.Need-add-octets Inv-loop μ-loop
+add-octets c = omega (arith, c .before .before .before .before .before .before .before .if1 .left, step-found (now (c .before .before .before .before .before .before .before .before .before .args .s)) (c .before .before .before .before .before .before .loop .at) (c .before .before .before .before .before .before .loop .st) (c .before .before .before .before .before .element .result) (c .before .before .before .before .before .element .ensures) (c .before .before .before .e3 .given .1) .fits)
+
+add-after : tie.Need-add-after Inv-loop μ-loop
+add-after c = omega (arith, c .before .before .before .before .before .before .before .if1 .left, step-found (now (c .before .before .before .before .before .before .before .before .before .args .s)) (c .before .before .before .before .before .before .loop .at) (c .before .before .before .before .before .before .loop .st) (c .before .before .before .before .before .element .result) (c .before .before .before .before .before .element .ensures) (c .before .before .before .e3 .given .1) .fits)
+
+returns-4 : tie.Need-returns-4 Inv-loop μ-loop
+unfolding nextOf
+returns-4 c =
+    on-ge _ _ _ _ _ (c .before .before .before .before .before .before .before .if1 .left)
+    (rw (c .before .«record» .ensures) (gives-found (now (c .before .before .before .before .before .before .before .before .before .args .s)) (c .before .before .before .before .before .before .loop .at) (c .before .before .before .before .before .before .loop .st) (c .before .before .before .before .before .element .result) (c .before .before .before .before .before .element .ensures) (c .before .before .before .e3 .given .1) ∙ c .before .before .before .before .before .before .loop .inv))
+
+pub next-unit-spec : {M : Type 1} → statement M
+next-unit-spec =
+    tie.close
+    (tie.spec
+    Inv-loop
+    μ-loop
+    returns
+    loop-holds
+    element-requires
+    enum-told
+    returns-2
+    enum-known-e
+    add-stop
+    returns-3
+    enum-known-e-2
+    add-at
+    loop-less
+    loop-again
+    enum-known-e-3
+    record-requires
+    add-octets
+    add-after
+    returns-4)

@@ -1,0 +1,66 @@
+// The next unit of a string, from a place and a state on: elements that give no unit are passed.
+ghost use mathlib.Core.Path.{_≡_};
+ghost use Prim.Native.Nat.{_+_, _≤_};
+ghost use Rattle.units.specs.Records.{recordOf};
+ghost use Rattle.units.specs.Next.{nextOf};
+use base::Unit;
+use base::limit;
+use base::refusal;
+use state::State;
+use state::element::Element;
+use state::element::Part;
+
+pub enum Outcome {
+    // a unit, and the place and the state after it
+    Gives(Unit, usize, State),
+    // no further unit: the number and the place of the end, or of the refusal
+    Stops(u8, usize),
+}
+
+// The record of a unit whose element starts at a place.
+fn record(part: Part, at: usize) -> Unit
+    requires { ⌜ at + (part .skip + part .octets) ≤ 65535 ⌝ }
+    ensures { λ r. ⌜ r ≡ recordOf part at ⌝ }
+{
+    let start = at + part.skip;
+    Unit {
+        kind: part.kind,
+        set: part.set,
+        code: part.code,
+        start: start as u32,
+        length: part.octets as u32,
+    }
+}
+
+// The next unit from a place and a state on.
+pub fn next_unit(s: &[u8], place: usize, state: State) -> Outcome
+    ensures { λ r. ⌜ r ≡ nextOf (now (s .entry)) place state ⌝ }
+{
+    if limit::OCTETS < s.len() {
+        return Outcome::Stops(refusal::TOO_LONG, 0);
+    }
+    let mut at = place;
+    let mut st = state;
+    loop {
+        let e = element::element(s, at, st);
+        match e {
+            Element::End => {
+                return Outcome::Stops(refusal::ACCEPTED, at);
+            }
+            Element::Refused(number, offset) => {
+                let stop = at + offset;
+                return Outcome::Stops(number, stop);
+            }
+            Element::Silent(octets, next) => {
+                at += octets;
+                st = next;
+            }
+            Element::Found(part, next) => {
+                let unit = record(part, at);
+                let octets = part.skip + part.octets;
+                let after = at + octets;
+                return Outcome::Gives(unit, after, next);
+            }
+        }
+    }
+}

@@ -1,0 +1,5 @@
+pub mod Names
+pub mod Body
+pub mod Calls
+pub mod Locals
+pub mod Filling

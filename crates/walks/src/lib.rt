@@ -1,0 +1,1 @@
+// No code: the rules that proofs by hand share are in proofs/.
