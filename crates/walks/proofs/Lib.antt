@@ -3,3 +3,4 @@ pub mod Body
 pub mod Calls
 pub mod Locals
 pub mod Filling
+pub mod Passing
