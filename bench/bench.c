@@ -25,8 +25,8 @@
 enum { REPETITIONS = 41, LADDER_REPETITIONS = 31 };
 static const double SLICE = 2e6; // nanoseconds that a function runs for, at least, before another has its turn
 
-static ctext_unit units[MOST];
-static uint8_t work[WORK_ROOM], out[MOST];
+static ctext_unit units[CTEXT_MOST_UNITS];
+static uint8_t work[WORK_ROOM], out[CTEXT_MOST_OCTETS];
 
 // ---- the functions, each on string number i of the corpus
 
@@ -49,7 +49,7 @@ static size_t run_limit(size_t i) { return limit_table(corpus.notes[i].octets, c
 
 static size_t run_check(size_t i) { return ctext_check(corpus.notes[i].octets, corpus.notes[i].length).count; }
 
-static size_t run_read(size_t i) { return ctext_read(corpus.notes[i].octets, corpus.notes[i].length, units, MOST).count; }
+static size_t run_read(size_t i) { return ctext_read(corpus.notes[i].octets, corpus.notes[i].length, units, CTEXT_MOST_UNITS).count; }
 
 static ctext_answer write_note(size_t i)
 {
@@ -90,7 +90,7 @@ static bool same_unit(const ctext_unit *a, const ctext_unit *b) { return a->kind
 static void prepare_read(const char *path, size_t i)
 {
     struct note n = corpus.notes[i];
-    ctext_answer a = ctext_read(n.octets, n.length, units, MOST);
+    ctext_answer a = ctext_read(n.octets, n.length, units, CTEXT_MOST_UNITS);
     require(a.number == 0 && a.count == ctext_check(n.octets, n.length).count, "read gives another answer than check", path, i);
     prepared[i].count = a.count;
     prepared[i].units = malloc((a.count + 1) * sizeof *units);
@@ -102,7 +102,7 @@ static void prepare_write(const char *path, size_t i)
 {
     ctext_answer w = write_note(i);
     require(w.number == 0 && w.count <= corpus.notes[i].length, "write refuses, or is longer than what was read", path, i);
-    ctext_answer r = ctext_read(out, w.count, units, MOST);
+    ctext_answer r = ctext_read(out, w.count, units, CTEXT_MOST_UNITS);
     bool same = r.number == 0 && r.count == prepared[i].count;
     for (size_t k = 0; same && k < r.count; k++) same = same_unit(&units[k], &prepared[i].units[k]);
     require(same, "what was written reads as other units", path, i);

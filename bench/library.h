@@ -3,27 +3,14 @@
 #ifndef LIBRARY_H
 #define LIBRARY_H
 
-#include <stddef.h>
-#include <stdint.h>
+#include "../include/ctext.h"
 
-typedef struct {
-    size_t place, count;
-    uint8_t number;
-} ctext_answer;
+#pragma weak ctext_check
+#pragma weak ctext_read
+#pragma weak ctext_write
+#pragma weak ctext_run
+#pragma weak ctext_next
 
-typedef struct {
-    uint8_t kind, set;
-    uint16_t code;
-    uint32_t start, length;
-} ctext_unit;
-
-#define WEAK __attribute__((weak))
-
-WEAK ctext_answer ctext_check(const uint8_t *octets, size_t length);
-WEAK ctext_answer ctext_read(const uint8_t *octets, size_t length, ctext_unit *units, size_t room);
-WEAK ctext_answer ctext_write(const ctext_unit *units, size_t count, const uint8_t *segments, size_t segments_length, uint8_t *work,
-                              size_t work_length, uint8_t *out, size_t out_length);
-
-enum { MOST = 65535, WORK_ROOM = 72 * (MOST + 1) };
+enum { WORK_ROOM = CTEXT_WORK_ROOM(CTEXT_MOST_UNITS) };
 
 #endif

@@ -71,6 +71,7 @@ TARGETS = [
     ("check", "base", 1.5, ["notes", "designations", "ascii"]),
     ("check", "base", 2.0, ["kanji", "kanji-1000"]),
     ("check", "base", 3.0, ["tabs", "newlines", "latin", "katakana"]),
+    ("read", "check", 3.0, ["notes", "designations"]),
     ("read", "check", 3.0, None),
     ("write", "base", 4.5, ["notes"]),
 ]
@@ -115,24 +116,52 @@ def straightness(found):
 # ---- the archive
 
 
-def packed():
-    """How often packed minimum and packed addition stand in each function of the archive."""
-    counts, function = defaultdict(lambda: [0, 0]), ""
+class Code:
+    """A function of the archive: the octets of its frame, what it calls, and how often packed minimum and packed addition stand in it."""
+
+    def __init__(self):
+        self.frame, self.calls, self.minimum, self.addition = 8, set(), 0, 0
+
+    def instruction(self, words):
+        self.frame += 8 if words[0] == "push" else 0
+        own = re.fullmatch(r"\$0x([0-9a-f]+),%rsp", words[-1])
+        self.frame += int(own[1], 16) if own and words[0] == "sub" else 0
+        self.minimum += bool(re.fullmatch(r"v?pminu[bwd]", words[0]))
+        self.addition += bool(re.fullmatch(r"v?padd(us|s)?[bwd]", words[0]))
+
+
+def functions_of_archive():
+    found, code = defaultdict(Code), None
     for text in (ROOM / "code.txt").read_text().splitlines():
         begun = re.match(r"[0-9a-f]+ <(.*)>:", text)
-        function = begun[1] if begun else function
-        word = text.split(":", 1)[-1].split()
-        if word and re.fullmatch(r"v?pminu[bwd]", word[0]):
-            counts[function][0] += 1
-        elif word and re.fullmatch(r"v?padd(us|s)?[bwd]", word[0]):
-            counts[function][1] += 1
-    total = [sum(c[i] for c in counts.values()) for i in (0, 1)]
-    where = "; ".join(f"`{f}` {a} and {b}" for f, (a, b) in sorted(counts.items()))
+        if begun:
+            code = found[begun[1]]
+        elif "R_X86_64_PLT32" in text or "R_X86_64_PC32" in text:
+            called = re.sub(r"[-+]0x[0-9a-f]+$", "", text.split()[-1]).removeprefix(".text.")
+            code.calls.add(called)
+        elif re.match(r" +[0-9a-f]+:\t", text):
+            code.instruction(text.split("\t", 1)[1].split())
+    return dict(found)
+
+
+def deepest(found, name, above=()):
+    """The octets of the frames on the deepest path of calls from a function; none where a function calls itself."""
+    if name in above:
+        return None
+    below = [deepest(found, c, (*above, name)) for c in found[name].calls if c in found]
+    return None if None in below else found[name].frame + max(below, default=0)
+
+
+def stack(found):
+    head = ["Function", "Measured, at most", "By the frames of its code"]
+    return table(head, [[f"`{name}`", f"{int(n):,}", f"{deepest(found, name) or 0:,}"] for name, n in rows("stack.tsv")])
+
+
+def packed(found):
+    some = sorted((name, c) for name, c in found.items() if c.minimum or c.addition)
+    where = "; ".join(f"`{name}` {c.minimum} and {c.addition}" for name, c in some)
+    total = sum(c.minimum for _, c in some), sum(c.addition for _, c in some)
     return f"Packed minimum: {total[0]}; packed addition: {total[1]}{f' ({where})' if where else ''}."
-
-
-def stack():
-    return table(["Function", "Octets of stack"], [[name, f"{int(n):,}"] for name, n in rows("stack.tsv")])
 
 
 # ---- the page
@@ -150,7 +179,7 @@ def machine():
 
 def page(corpora):
     base = "limit_table" if all("limit_table" in c.functions for c in corpora) else "yardstick"
-    found = ladders()
+    found, code = ladders(), functions_of_archive()
     load = " ".join(f"{x:.1f}" for x in os.getloadavg())
     parts = [
         "# Benchmark",
@@ -180,12 +209,13 @@ def page(corpora):
         (DOCS / "benchmark.svg").write_text(plot.svg(found))
     parts += [
         "## Stack",
-        "What each function changed of a stack that was filled before, at most, on the corpora and on strings and lists made wrong. Nothing is "
-        "allocated, and no function calls itself.",
-        stack(),
+        "Octets of stack: what each function, with the call from C, changed of a stack that was filled before, on the corpora and on strings and "
+        "lists made wrong; and the sum of the frames on the deepest path of calls in the archive, which holds for every input, since no function "
+        "calls itself. Nothing is allocated.",
+        stack(code),
         "## Vector instructions in the archive",
         "The plan of the writer is meant to take sixteen values at once. No proof notices where the compiler stops doing so; these counts do.",
-        packed(),
+        packed(code),
     ]
     return "\n\n".join(parts) + "\n"
 

@@ -16,14 +16,23 @@ enum { STACK = 1 << 17, PAINT = 0xA5, CHANGES = 64, SHORT = 400 };
 static uint8_t stack[STACK] __attribute__((aligned(64)));
 static ucontext_t here, there;
 
-static ctext_unit units[MOST];
-static uint8_t work[WORK_ROOM], out[MOST], text[MOST];
+static ctext_unit units[CTEXT_MOST_UNITS];
+static uint8_t work[WORK_ROOM], out[CTEXT_MOST_OCTETS], text[CTEXT_MOST_OCTETS];
 static size_t length, count;
 
 static void run_nothing(void) {}
 static void run_check(void) { ctext_check(text, length); }
-static void run_read(void) { ctext_read(text, length, units, MOST); }
+static void run_read(void) { ctext_read(text, length, units, CTEXT_MOST_UNITS); }
 static void run_write(void) { ctext_write(units, count, text, length, work, sizeof work, out, sizeof out); }
+static void run_run(void) { ctext_run(text, length, 3); }
+
+static void run_next(void)
+{
+    static ctext_step step;
+    step = (ctext_step){.reader = {.gr = CTEXT_SET_ISO8859_1_RIGHT}};
+    do step = ctext_next(text, length, step.reader);
+    while (step.given);
+}
 
 struct function {
     const char *name;
@@ -31,9 +40,12 @@ struct function {
     size_t most;
 };
 
-static struct function functions[] = {{"nothing", run_nothing, 0}, {"check", run_check, 0}, {"read", run_read, 0}, {"write", run_write, 0}};
+enum { NOTHING, CHECK, READ, WRITE, RUN, NEXT, FUNCTIONS };
 
-enum { NOTHING, CHECK, READ, WRITE, FUNCTIONS };
+static struct function functions[FUNCTIONS] = {
+    [NOTHING] = {"nothing", run_nothing, 0},   [CHECK] = {"ctext_check", run_check, 0}, [READ] = {"ctext_read", run_read, 0},
+    [WRITE] = {"ctext_write", run_write, 0}, [RUN] = {"ctext_run", run_run, 0},       [NEXT] = {"ctext_next", run_next, 0},
+};
 
 // The octets of the stack that a function changes.
 static size_t used(void (*run)(void))
@@ -54,7 +66,7 @@ static void measure(void)
 {
     for (int k = 0; k < FUNCTIONS; k++) {
         if (!functions[k].run) continue;
-        if (k == WRITE) count = ctext_read(text, length, units, MOST).count;
+        if (k == WRITE) count = ctext_read(text, length, units, CTEXT_MOST_UNITS).count;
         size_t n = used(functions[k].run);
         if (n > functions[k].most) functions[k].most = n;
     }
@@ -64,7 +76,7 @@ static void measure(void)
 static void measure_bad_list(void)
 {
     if (!functions[WRITE].run) return;
-    count = ctext_read(text, length, units, MOST).count;
+    count = ctext_read(text, length, units, CTEXT_MOST_UNITS).count;
     if (!count) return;
     ctext_unit *u = &units[(size_t)rand() % count];
     switch (rand() % 4) {
@@ -97,6 +109,8 @@ int main(int n, char **words)
     if (!ctext_check) functions[CHECK].run = NULL;
     if (!ctext_read) functions[READ].run = NULL;
     if (!ctext_read || !ctext_write) functions[WRITE].run = NULL;
+    if (!ctext_run) functions[RUN].run = NULL;
+    if (!ctext_next) functions[NEXT].run = NULL;
     for (int i = 1; i < n; i++) {
         struct corpus c = corpus_load(words[i]);
         for (size_t k = 0; k < c.count && k < 40; k++) {
