@@ -4,3 +4,4 @@ pub mod Calls
 pub mod Locals
 pub mod Filling
 pub mod Passing
+pub mod Lent
