@@ -5,6 +5,7 @@ ghost use Rattle.runs.specs.Runs.{runAt};
 use base::Answer;
 use runs::Bounds;
 
+pub mod lists;
 pub mod stepping;
 
 // Whether a string is accepted, and what of it is refused.

@@ -28,8 +28,9 @@ of-nothing : (st : State) → elementOf [] st ≡ End
 unfolding shapeOf directedOf
 of-nothing st = refl
 
--- an element of k octets at a place of s, between two states
-pub record Step (s : List ℕ) (at k : ℕ) (st next : State) : Type 0 where
+-- the element at a place of s, which has k octets and leads to a state
+pub record Step (s : List ℕ) (at : ℕ) (st : State) (e : Element) (k : ℕ) (next : State) : Type 0 where
+  pub is : elementOf (from at s) st ≡ e
   pub some : 1 ≤ k
   pub fits : at + k ≤ length s
   pub fit : Fit st → Fit next
@@ -63,19 +64,19 @@ module _ (s : List ℕ) (at : ℕ) (st : State) (e : Element) (is : e ≡ elemen
   pub refused-number : {n o : ℕ} → e ≡ Refused n o → 1 ≤ n
   refused-number k = of-number (rw k at sized)
 
-  pub step-silent : {k : ℕ} {next : State} → e ≡ Silent k next → Step s at k st next
+  pub step-silent : {k : ℕ} {next : State} → e ≡ Silent k next → Step s at st (Silent k next) k next
   step-silent {k} i =
       let z = of-silent (rw i at sized) in
-      record { some = z .0; fits = omega arith; fit = fit-silent (rw i at sized) }
+      record { is = sym is ∙ i; some = z .0; fits = omega arith; fit = fit-silent (rw i at sized) }
 
   pub at-silent : {k : ℕ} {next : State} → e ≡ Silent k next → ahead s at st ≡ Silent k next ∷ ahead s (at + k) next
   at-silent {k} {next} i =
       rw (← (from-from s at k)) (elements-silent (from at s) st (step-silent i .some) (sym is ∙ i))
 
-  pub step-found : {p : Part} {next : State} → e ≡ Found p next → Step s at (size p) st next
+  pub step-found : {p : Part} {next : State} → e ≡ Found p next → Step s at st (Found p next) (size p) next
   step-found {p} i =
       let z = of-found (rw i at sized) in
-      record { some = z .0; fits = omega arith; fit = fit-found (rw i at sized) }
+      record { is = sym is ∙ i; some = z .0; fits = omega arith; fit = fit-found (rw i at sized) }
 
   pub at-found : {p : Part} {next : State} → e ≡ Found p next → ahead s at st ≡ Found p next ∷ ahead s (at + size p) next
   at-found {p} {next} i =
@@ -87,9 +88,9 @@ module _ (s : List ℕ) (at : ℕ) (st : State) (e : Element) (is : e ≡ elemen
 pub data Ahead (s : List ℕ) : ℕ → State → List Element → Type 0 where
   ends : {at : ℕ} {st : State} → ahead s at st ≡ End ∷ [] → Ahead s at st (End ∷ [])
   stops : {at : ℕ} {st : State} {n o : ℕ} → 1 ≤ n → ahead s at st ≡ Refused n o ∷ [] → Ahead s at st (Refused n o ∷ [])
-  passes : {at : ℕ} {st : State} {k : ℕ} {next : State} {es : List Element} → Step s at k st next → ahead s at st ≡ Silent k next ∷ es
+  passes : {at : ℕ} {st : State} {k : ℕ} {next : State} {es : List Element} → Step s at st (Silent k next) k next → ahead s at st ≡ Silent k next ∷ es
       → Ahead s (at + k) next es → Ahead s at st (Silent k next ∷ es)
-  reads : {at : ℕ} {st : State} {p : Part} {next : State} {es : List Element} → Step s at (size p) st next → MeantPart p → ahead s at st ≡ Found p next ∷ es
+  reads : {at : ℕ} {st : State} {p : Part} {next : State} {es : List Element} → Step s at st (Found p next) (size p) next → MeantPart p → ahead s at st ≡ Found p next ∷ es
       → Ahead s (at + size p) next es → Ahead s at st (Found p next ∷ es)
 
 past : (s : List ℕ) (at : ℕ) (st : State) → length s ≤ at → ahead s at st ≡ End ∷ []
@@ -97,7 +98,7 @@ unfolding elements
 past s at st h = rw (from-end s at h)
 
 -- the element at a place, where those after it are known
-onward : (s : List ℕ) (at : ℕ) (st : State) → ((k : ℕ) (next : State) → Step s at k st next → Ahead s (at + k) next (ahead s (at + k) next))
+onward : (s : List ℕ) (at : ℕ) (st : State) → ((e : Element) (k : ℕ) (next : State) → Step s at st e k next → Ahead s (at + k) next (ahead s (at + k) next))
     → (e : Element) → e ≡ elementOf (from at s) st → Ahead s at st (ahead s at st)
 onward s at st after End i =
     let e = at-end s at st End i refl in
@@ -108,11 +109,11 @@ onward s at st after (Refused r o) i =
 onward s at st after (Silent k next) i =
     let e = at-silent s at st (Silent k next) i refl in
     let t = step-silent s at st (Silent k next) i refl in
-    subst (Ahead s at st) (sym e) (passes t e (after k next t))
+    subst (Ahead s at st) (sym e) (passes t e (after _ k next t))
 onward s at st after (Found p next) i =
     let e = at-found s at st (Found p next) i refl in
     let t = step-found s at st (Found p next) i refl in
-    subst (Ahead s at st) (sym e) (reads t (found-meant s at st (Found p next) i refl) e (after (size p) next t))
+    subst (Ahead s at st) (sym e) (reads t (found-meant s at st (Found p next) i refl) e (after _ (size p) next t))
 
 -- n bounds the octets that are left
 go : (n : ℕ) (s : List ℕ) (at : ℕ) (st : State) → length s - at ≤ n → Ahead s at st (ahead s at st)
@@ -120,7 +121,7 @@ go zero s at st h =
     let e : ahead s at st ≡ End ∷ [] = past s at st (omega arith) in
     subst (Ahead s at st) (sym e) (ends e)
 go (suc n) s at st h =
-    onward s at st (λ k next t. go n s (at + k) next (omega (arith, t .some, t .fits))) (elementOf (from at s) st) refl
+    onward s at st (λ _ k next t. go n s (at + k) next (omega (arith, t .some, t .fits))) (elementOf (from at s) st) refl
 
 pub ahead-from : (s : List ℕ) (at : ℕ) (st : State) → Ahead s at st (ahead s at st)
 ahead-from s at st = go (length s) s at st (omega arith)

@@ -21,13 +21,15 @@ use Rattle.state.specs.declared.element.Element.{Element}
 use Rattle.grammar.specs.Reading.{size, elements, answerOf, checkOf}
 use Rattle.grammar.proofs.Places.{Ahead, ends, stops, passes, reads}
 use Rattle.units.specs.Records.{recordOf, recordsFrom, recordsOf}
-use Rattle.units.specs.Next.{outcomeOf, nextOf}
-use Rattle.units.proofs.Records.{from-start, next-ahead}
+use Rattle.units.specs.Next.{outcomeOf}
+use Rattle.units.specs.declared.Outcome.the-variants.{Gives}
+use Rattle.units.proofs.Records.{from-start}
 use Rattle.walks.proofs.Filling.{fillFrom}
-use Rattle.listing.specs.declared.Cursor.{Cursor}
-use Rattle.listing.specs.declared.Turn.{Turn}
-use Rattle.listing.specs.Cursor.{storedOf, cursor, first, turn, turnOf, advanceOf}
-use Rattle.listing.specs.Listing.{readAnswer, listAfter}
+use Rattle.cursor.specs.declared.Cursor.{Cursor}
+use Rattle.cursor.specs.declared.Turn.{Turn}
+use Rattle.cursor.specs.Cursor.{cursor, first, turn, advanceOf}
+use Rattle.cursor.proofs.Turns.{Turns, turns, advance-ahead}
+use Rattle.listing.specs.Listing.{readAnswer, storedOf, listAfter}
 use Rattle.listing.proofs.Cases.{Case, refuses, lacks, accepts, read-cases}
 
 -- the unit at a cursor, and the cursor after it
@@ -40,20 +42,22 @@ after s c = advanceOf s c .cursor
 abbrev pub filledTo : List ℕ → ℕ → Cursor → List UnitRecord → List UnitRecord
 filledTo s n c ys = fillFrom (unitAt s) (after s) n c ys
 
+given : {r : Turn} {u : UnitRecord} {place : ℕ} {st : State} → Turns r (Gives u place st) → r ≡ turn u (cursor place (st .sets))
+given turns = refl
+
 module _ (s : List ℕ) (short : length s ≤ limit.octets) where
-  -- a cursor from which the next unit is that of the elements
-  fills : {at : ℕ} {st : State} {es : List Element} → Ahead s at st es → (c : Cursor) → nextOf s (c .place) (c .state) ≡ outcomeOf at es
+  -- a cursor from which the next unit, if there is one, is that of the elements
+  fills : {at : ℕ} {st : State} {es : List Element} → Ahead s at st es → (c : Cursor) → (1 ≤ length (recordsFrom at es) → Turns (advanceOf s c) (outcomeOf at es))
       → (ys : List UnitRecord) → length (recordsFrom at es) ≤ length ys
       → filledTo s (length (recordsFrom at es)) c ys ≡ recordsFrom at es ++ drop (length (recordsFrom at es)) ys
-  unfolding recordsFrom outcomeOf advanceOf turnOf
+  unfolding recordsFrom outcomeOf
   fills (ends e) c h ys k = refl
   fills (stops f e) c h ys k = refl
   fills (passes t e a) c h ys k = fills a c h ys k
   fills (reads t m e a) c h [] k = absurd (not-suc-le-zero k)
   fills {at} (reads {p = p} {next = next} {es = es} t m e a) c h (y ∷ ys) k =
-      let g : advanceOf s c ≡ turn (recordOf p at) (cursor (at + size p) next) = ap (turnOf c) h in
-      ap (λ (t : Turn). t .unit ∷ filledTo s (length (recordsFrom (at + size p) es)) (t .cursor) ys) g
-      ∙ ap (λ (l : List UnitRecord). recordOf p at ∷ l) (fills a (cursor (at + size p) next) (next-ahead s short a) ys (le-of-suc-le-suc k))
+      ap (λ (t : Turn). t .unit ∷ filledTo s (length (recordsFrom (at + size p) es)) (t .cursor) ys) (given (h (omega arith)))
+      ∙ ap (λ (l : List UnitRecord). recordOf p at ∷ l) (fills a (cursor (at + size p) (next .sets)) (advance-ahead s short a) ys (le-of-suc-le-suc k))
 
 -- an accepted string has at most 65,535 octets
 short-by : (s : List ℕ) (b : Bool) → ltb limit.octets (length s) ≡ b → pick b (refusedAt refusal.too-long 0) (answerOf 0 0 (elements s 0 fresh)) .number ≡ refusal.accepted → length s ≤ limit.octets
@@ -68,7 +72,7 @@ short s z = short-by s (ltb limit.octets (length s)) refl z
 all : (s : List ℕ) (ys : List UnitRecord) → checkOf s .number ≡ refusal.accepted → length (recordsOf s) ≤ length ys
     → filledTo s (length (recordsOf s)) first ys ≡ recordsOf s ++ drop (length (recordsOf s)) ys
 unfolding recordsOf
-all s ys z h = fills s (short s z) (from-start s) first (next-ahead s (short s z) (from-start s)) ys h
+all s ys z h = fills s (short s z) (from-start s) first (advance-ahead s (short s z) (from-start s)) ys h
 
 -- an answer that refuses stores none
 none-stored : (a : Answer) → (a .number ≡ refusal.accepted → ⊥) → storedOf a ≡ 0

@@ -27,3 +27,7 @@ listAfter s old =
     pick (eqb (readAnswer s (length old) .number) refusal.accepted)
     (recordsOf s ++ drop (length (recordsOf s)) old)
     old
+
+-- how many records an answer stores: none where it refuses
+unfoldable pub storedOf : Answer → ℕ
+storedOf a = pick (eqb (a .number) refusal.accepted) (a .count) 0

@@ -1,37 +1,12 @@
 // The units of a string, in a list that the caller lends.
 ghost use mathlib.Core.Path.{_≡_};
 ghost use lib.ListN.{length};
-ghost use Rattle.listing.specs.Cursor.{storedOf, first, advanceOf};
-ghost use Rattle.listing.specs.Listing.{readAnswer, listAfter};
+ghost use Rattle.listing.specs.Listing.{readAnswer, storedOf, listAfter};
 use base::Answer;
 use base::Unit;
 use base::refusal;
-use state::State;
-use units::Outcome;
-
-// Where the next unit is looked for: a place of the string, and the state there.
-struct Cursor {
-    pub place: usize,
-    pub state: State,
-}
-
-// A unit, and the cursor after it.
-struct Turn {
-    pub cursor: Cursor,
-    pub unit: Unit,
-}
-
-impl Cursor {
-    // The start of a string.
-    fn first() -> Cursor
-        ensures { λ r. ⌜ r ≡ first ⌝ }
-    {
-        Cursor {
-            place: 0,
-            state: State::FRESH,
-        }
-    }
-}
+use cursor::Cursor;
+use cursor::advance;
 
 // What a string and a list of so many records are answered.
 pub fn answer(s: &[u8], room: usize) -> Answer
@@ -59,33 +34,6 @@ fn stored(a: Answer) -> usize
         return a.count;
     }
     0
-}
-
-// The unit that comes next, and the cursor after it.
-fn advance(s: &[u8], c: Cursor) -> Turn
-    ensures { λ r. ⌜ r ≡ advanceOf (now (s .entry)) c ⌝ }
-{
-    let state = c.state;
-    let o = units::next_unit(s, c.place, state);
-    match o {
-        Outcome::Gives(unit, place, next) => Turn {
-            cursor: Cursor {
-                place: place,
-                state: next,
-            },
-            unit: unit,
-        },
-        Outcome::Stops(number, place) => Turn {
-            cursor: c,
-            unit: Unit {
-                kind: 0,
-                set: 0,
-                code: 0,
-                start: 0,
-                length: 0,
-            },
-        },
-    }
 }
 
 // The units of a string are stored from the list's first place on, and the rest of it stays; a refusal stores none.

@@ -18,7 +18,8 @@ use Rattle.state.specs.declared.directions.Directions.{Directions}
 use Rattle.state.specs.declared.directions.Step.{Step}
 use Rattle.state.specs.declared.directions.Step.the-variants.{Goes, Stops}
 use Rattle.grammar.specs.Units.{TextUnit, good}
-use Rattle.writing.specs.Records.{unitRead, listReading, prepend, fault, Checked, fine, faulty, onStep, checkRecords}
+use Rattle.grammar.specs.Records.{unitRead, listReading, prepend}
+use Rattle.writing.specs.Records.{fault, Checked, fine, faulty, onStep, checkRecords}
 use Rattle.writing.specs.Offence.{noRecord}
 use Rattle.writing.proofs.Bounds.{Good}
 use Rattle.rows.specs.Rows.{startFrom, unitTagged, unitFrom, unitsIn, tagOf, sevenOctets, withRecord}

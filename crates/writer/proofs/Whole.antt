@@ -18,7 +18,8 @@ use Rattle.state.specs.Directions.{undirected}
 use Rattle.state.specs.declared.directions.Directions.{Directions}
 use Rattle.grammar.specs.Units.{TextUnit}
 use Rattle.writing.specs.Demand.{writeAnswer, outputAfter}
-use Rattle.writing.specs.Records.{listReading, checkRecords, fine, faulty, workRoom, writerAnswer, writerOutput}
+use Rattle.grammar.specs.Records.{listReading}
+use Rattle.writing.specs.Records.{checkRecords, fine, faulty, workRoom, writerAnswer, writerOutput}
 use Rattle.writing.specs.Offence.{noRecord}
 use Rattle.writing.specs.Demand3.{Demand3For}
 use Rattle.writing.proofs.Demand3.{writer-demand3}

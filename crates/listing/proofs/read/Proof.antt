@@ -21,18 +21,18 @@ use Rattle.base.proofs.Answer.Laws as N′
 use Rattle.walks.proofs.Body.{proved, 𝓣of, tests, frees-all}
 use Rattle.walks.proofs.Calls.{calls-value}
 use Rattle.walks.proofs.Filling.{iter, iter-suc, length-fill, fill-suc}
-use Rattle.listing.specs.declared.Cursor.{Cursor}
-use Rattle.listing.specs.Cursor.{storedOf, first, advanceOf}
-use Rattle.listing.specs.Listing.{readAnswer}
+use Rattle.cursor.specs.declared.Cursor.{Cursor}
+use Rattle.cursor.specs.Cursor.{first, advanceOf}
+use Rattle.listing.specs.Listing.{readAnswer, storedOf}
 use Rattle.listing.proofs.Filled.{unitAt, after, filledTo, filled, stores}
-use Rattle.listing.proofs.Cursor as K
-use Rattle.listing.proofs.Cursor.Laws as K′
-use Rattle.listing.proofs.Turn as S
-use Rattle.listing.proofs.Turn.Laws as S′
-use Rattle.listing.proofs.advance as advance
-use Rattle.listing.proofs.advance.Symbol as advance-def
-use Rattle.listing.proofs.advance.Symbol.{name as #advance}
-use Rattle.listing.proofs.advance.Met as advance-thm
+use Rattle.cursor.proofs.Cursor as K
+use Rattle.cursor.proofs.Cursor.Laws as K′
+use Rattle.cursor.proofs.Turn as S
+use Rattle.cursor.proofs.Turn.Laws as S′
+use Rattle.cursor.proofs.advance as advance
+use Rattle.cursor.proofs.advance.Symbol as advance-def
+use Rattle.cursor.proofs.advance.Symbol.{name as #advance}
+use Rattle.cursor.proofs.advance.Met as advance-thm
 use Rattle.listing.proofs.answer as answer
 use Rattle.listing.proofs.answer.Symbol as answer-def
 use Rattle.listing.proofs.answer.Symbol.{name as #answer}
@@ -41,10 +41,10 @@ use Rattle.listing.proofs.stored as stored
 use Rattle.listing.proofs.stored.Symbol as stored-def
 use Rattle.listing.proofs.stored.Symbol.{name as #stored}
 use Rattle.listing.proofs.stored.Met as stored-thm
-use Rattle.listing.proofs.Cursor.first as first-fn
-use Rattle.listing.proofs.Cursor.first.Symbol as first-def
-use Rattle.listing.proofs.Cursor.first.Symbol.{name as #first}
-use Rattle.listing.proofs.Cursor.first.Met as first-thm
+use Rattle.cursor.proofs.Cursor.first as first-fn
+use Rattle.cursor.proofs.Cursor.first.Symbol as first-def
+use Rattle.cursor.proofs.Cursor.first.Symbol.{name as #first}
+use Rattle.cursor.proofs.Cursor.first.Met as first-thm
 use Rattle.listing.proofs.read.Key.{name as #read}
 use Rattle.listing.proofs.read as read
 use Rattle.listing.proofs.read.Statement as stated
@@ -293,7 +293,7 @@ read-spec 𝓤 H 𝓜 𝓖 𝓡 =
     (λ κs. (slice-vals, (slice-vals, tt))) (λ κs. (shr-slice-tells (named 0) (κs .0) u8, (mut-slice-tells (named 1) (κs .1 .0) U.the-row, tt)))
     (λ κs qs bounds a g are. via 𝓤 _ (fst∗ 𝓤 _ (emp 𝓤)) (walk 𝓤 H (𝓖 .A) (givenOf 𝓤 H 𝓜 𝓖) (𝓜 .mem) (𝓡 .run) (κs .0) (κs .1 .0) (qs .0) (qs .1 .0) (a .0) (a .1 .0 .ptr .0) (a .1 .0 .ptr .1) (a .1 .0 .name) (a .1 .0 .now) (are .0 .0 .1 .0) (are .1 .0 .0 .1)
     (𝓣of 𝓤 H 𝓜 𝓖 𝓡 code.env) (fmOf 𝓤 H (givenOf 𝓤 H 𝓜 𝓖 .laws) (𝓣of 𝓤 H 𝓜 𝓖 𝓡 code.env))
-    (cited 𝓤 H (Advance 𝓤 H (𝓖 .A) (𝓜 .mem) (𝓡 .run)) 𝓜 𝓡 code.env #advance advance-def.routine code.calls-listing·advance (advance-thm.met 𝓤 H 𝓜 𝓖 𝓡))
+    (cited 𝓤 H (Advance 𝓤 H (𝓖 .A) (𝓜 .mem) (𝓡 .run)) 𝓜 𝓡 code.env #advance advance-def.routine code.calls-cursor·advance (advance-thm.met 𝓤 H 𝓜 𝓖 𝓡))
     (cited 𝓤 H (Answers 𝓤 H (𝓖 .A) (𝓜 .mem) (𝓡 .run)) 𝓜 𝓡 code.env #answer answer-def.routine code.calls-listing·answer (answer-thm.met 𝓤 H 𝓜 𝓖 𝓡))
     (cited 𝓤 H (Stored 𝓤 H (𝓖 .A) (𝓜 .mem) (𝓡 .run)) 𝓜 𝓡 code.env #stored stored-def.routine code.calls-listing·stored (stored-thm.met 𝓤 H 𝓜 𝓖 𝓡))
-    (cited 𝓤 H (First 𝓤 H (𝓖 .A) (𝓜 .mem) (𝓡 .run)) 𝓜 𝓡 code.env #first first-def.routine code.calls-listing·Cursor·first (first-thm.met 𝓤 H 𝓜 𝓖 𝓡)))))
+    (cited 𝓤 H (First 𝓤 H (𝓖 .A) (𝓜 .mem) (𝓡 .run)) 𝓜 𝓡 code.env #first first-def.routine code.calls-cursor·Cursor·first (first-thm.met 𝓤 H 𝓜 𝓖 𝓡)))))

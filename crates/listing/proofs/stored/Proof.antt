@@ -1,6 +1,6 @@
 -- `listing::stored` meets its contract. Assumes nothing.
 use Rattle.base.proofs.Ladder.{ladder}
-use Rattle.listing.specs.Cursor.{storedOf}
+use Rattle.listing.specs.Listing.{storedOf}
 use Rattle.listing.proofs.stored.Statement.{statement}
 use Rattle.listing.proofs.stored.Tie as tie
 

@@ -1,10 +1,9 @@
--- `listing::advance` meets its contract. Assumes nothing.
+-- `cursor::by_element` meets its contract. Assumes nothing.
 use mathlib.Core.Path.{_≡_, sym, ap, _∙_}
 use borrow.Author.Needs.{needs}
-use denote.Ref.{now}
-use Rattle.listing.specs.Cursor.{turnOf, advanceOf}
-use Rattle.listing.proofs.advance.Statement.{statement}
-use Rattle.listing.proofs.advance.Tie as tie
+use Rattle.cursor.specs.Cursor.{turnOf, elementTurn}
+use Rattle.cursor.proofs.by_element.Statement.{statement}
+use Rattle.cursor.proofs.by_element.Tie as tie
 
 next-unit-requires : tie.Need-next-unit-requires
 next-unit-requires c κs = search needs
@@ -16,13 +15,13 @@ enum-known-o-2 : tie.Need-enum-known-o-2
 enum-known-o-2 c = search needs
 
 returns : tie.Need-returns
-unfolding advanceOf turnOf
-returns c = ap (turnOf _) (sym (c .before .o .given .1) ∙ c .before .before .before .next-unit .ensures)
+unfolding turnOf elementTurn
+returns c = ap (turnOf _) (sym (c .before .before .o .given .1) ∙ c .before .before .before .before .next-unit .ensures)
 
 returns-2 : tie.Need-returns-2
-unfolding advanceOf turnOf
+unfolding turnOf elementTurn
 returns-2 c = ap (turnOf _) (sym (c .before .o2 .given .1) ∙ c .before .before .before .next-unit .ensures)
 
-pub advance-spec : {M : Type 1} → statement M
-advance-spec =
+pub by-element-spec : {M : Type 1} → statement M
+by-element-spec =
     tie.close (tie.spec next-unit-requires enum-known-o enum-known-o-2 returns returns-2)

@@ -1,0 +1,28 @@
+-- `cursor::placed` meets its contract. Assumes nothing.
+use native.Mathlib.Omega.{arith}
+use denote.Ref.{now}
+use Rattle.base.proofs.Ladder.{ladder, on-lt}
+use Rattle.cursor.specs.Cursor.{placedOf}
+use Rattle.cursor.proofs.Fits.{placed-fits}
+use borrow.Author.Needs.{needs}
+use Rattle.cursor.proofs.placed.Statement.{statement}
+use Rattle.cursor.proofs.placed.Tie as tie
+
+designated-requires : tie.Need-designated-requires
+designated-requires c κs = search needs
+
+add-place : tie.Need-add-place
+add-place c =
+    let h = placed-fits (now (c .before .before .before .before .before .before .args .s)) (c .before .before .before .before .before .before .args .c .place) (c .before .before .before .before .before .before .args .d) (c .before .before .before .before .before .before .pre) (c .before .before .before .before .if1 .taken) in
+    omega (arith, h)
+
+returns : tie.Need-returns
+unfolding placedOf
+returns c = on-lt _ _ _ _ _ (c .before .before .before .before .if1 .taken) (rw (c .before .before .before .designated .ensures))
+
+returns-2 : tie.Need-returns-2
+unfolding placedOf
+returns-2 c = search ladder
+
+pub placed-spec : {M : Type 1} → statement M
+placed-spec = tie.close (tie.spec designated-requires add-place returns returns-2)

@@ -1,0 +1,268 @@
+// The unit at a cursor of an accepted string. Since nothing of it can be refused, text is read by its octets alone, and no directions are
+// kept.
+ghost use mathlib.Core.Path.{_≡_};
+ghost use Prim.Native.Nat.{_+_, _<_, _^_};
+ghost use lib.ListN.{length};
+ghost use Rattle.base.specs.Choice.{from};
+ghost use Rattle.cursor.specs.Cursor.{first, elementTurn, textOctet, setAt, unlessSpace, kindAt, single, double, doubleOf, textTurn, placedOf, passedOf, advanceOf};
+ghost use Rattle.state.specs.State.{sets};
+ghost use Rattle.stretch.specs.Designation.{designationAt};
+use base::Unit;
+use base::kind;
+use charset::NO_SET;
+use state::Sets;
+use state::State;
+use state::directions::Directions;
+use stretch::designation::Designation;
+use stretch::designation::designation_at;
+use units::Outcome;
+
+// The first of the sets of two octets.
+const FIRST_DOUBLE: u8 = 12;
+
+// Directions under which nothing is refused: one is open, and more may be opened.
+const FREE: Directions = Directions {
+    levels: 0,
+    depth: 1,
+    marked: true,
+    texted: true,
+};
+
+// Where the next unit is looked for: a place of the string, and the sets in force there.
+pub struct Cursor {
+    pub place: usize,
+    pub gl: u8,
+    pub gr: u8,
+}
+
+// A unit, and the cursor after it.
+pub struct Turn {
+    pub cursor: Cursor,
+    pub unit: Unit,
+}
+
+impl Cursor {
+    // The start of a string.
+    pub fn first() -> Cursor
+        ensures { λ r. ⌜ r ≡ first ⌝ }
+    {
+        Cursor {
+            place: 0,
+            gl: 0,
+            gr: 3,
+        }
+    }
+}
+
+// The unit of the next element that gives one, and the cursor after it.
+fn by_element(s: &[u8], c: Cursor) -> Turn
+    ensures { λ r. ⌜ r ≡ elementTurn (now (s .entry)) c ⌝ }
+{
+    let state = State {
+        directions: FREE,
+        sets: Sets { gl: c.gl, gr: c.gr },
+    };
+    let o = units::next_unit(s, c.place, state);
+    match o {
+        Outcome::Gives(unit, place, next) => {
+            let after = next.sets;
+            Turn {
+                cursor: Cursor {
+                    place: place,
+                    gl: after.gl,
+                    gr: after.gr,
+                },
+                unit: unit,
+            }
+        }
+        Outcome::Stops(number, place) => Turn {
+            cursor: c,
+            unit: Unit {
+                kind: 0,
+                set: 0,
+                code: 0,
+                start: 0,
+                length: 0,
+            },
+        },
+    }
+}
+
+// A GL octet of a character or space, or a GR octet.
+fn text_octet(b: u8) -> bool
+    ensures { λ r. ⌜ r ≡ textOctet b ⌝ }
+{
+    if b < 0x20 {
+        return false;
+    }
+    if b < 0x7F {
+        return true;
+    }
+    0xA0 <= b
+}
+
+// The set on the side of an octet.
+fn set_at(b: u8, gl: u8, gr: u8) -> u8
+    ensures { λ r. ⌜ r ≡ setAt b (sets gl gr) ⌝ }
+{
+    if b < 0x80 {
+        return gl;
+    }
+    gr
+}
+
+// A space has neither set nor code.
+fn unless_space(b: u8, x: u8) -> u8
+    ensures { λ r. ⌜ r ≡ unlessSpace b x ⌝ }
+{
+    if b == 0x20 {
+        return 0;
+    }
+    x
+}
+
+fn kind_at(b: u8) -> u8
+    ensures { λ r. ⌜ r ≡ kindAt b ⌝ }
+{
+    if b == 0x20 {
+        return kind::SPACE;
+    }
+    kind::CHARACTER
+}
+
+// A character or space of one octet.
+fn one_octet(at: usize, b: u8, gl: u8, gr: u8) -> Turn
+    requires { ⌜ at + 1 < 2 ^ 64 ⌝ }
+    ensures { λ r. ⌜ r ≡ single at b (sets gl gr) ⌝ }
+{
+    let place = at + 1;
+    let code = unless_space(b, b % 128) as u16;
+    let start = (at % 0x1_0000_0000) as u32;
+    Turn {
+        cursor: Cursor {
+            place: place,
+            gl: gl,
+            gr: gr,
+        },
+        unit: Unit {
+            kind: kind_at(b),
+            set: unless_space(b, set_at(b, gl, gr)),
+            code: code,
+            start: start,
+            length: 1,
+        },
+    }
+}
+
+// A character of two octets.
+fn two_octets(at: usize, b: u8, d: u8, gl: u8, gr: u8) -> Turn
+    requires { ⌜ at + 2 < 2 ^ 64 ⌝ }
+    ensures { λ r. ⌜ r ≡ double at b d (sets gl gr) ⌝ }
+{
+    let place = at + 2;
+    let high = (b % 128) as u16;
+    let low = (d % 128) as u16;
+    let code = high * 256 + low;
+    let start = (at % 0x1_0000_0000) as u32;
+    Turn {
+        cursor: Cursor {
+            place: place,
+            gl: gl,
+            gr: gr,
+        },
+        unit: Unit {
+            kind: kind::CHARACTER,
+            set: set_at(b, gl, gr),
+            code: code,
+            start: start,
+            length: 2,
+        },
+    }
+}
+
+// A character of two octets that begins with b, where its set has two.
+fn or_two(s: &[u8], c: Cursor, b: u8) -> Turn
+    requires { ⌜ c .place < length (now s) ⌝ }
+    ensures { λ r. ⌜ r ≡ doubleOf (c .place) b (from (c .place + 1) (now (s .entry))) (sets (c .gl) (c .gr)) (elementTurn (now (s .entry)) c) ⌝ }
+{
+    let at = c.place;
+    let gl = c.gl;
+    let gr = c.gr;
+    if s.len() <= at + 1 {
+        return by_element(s, c);
+    }
+    let d = s[at + 1];
+    if b == 0x20 {
+        return by_element(s, c);
+    }
+    if set_at(b, gl, gr) < NO_SET {
+        return two_octets(at, b, d, gl, gr);
+    }
+    by_element(s, c)
+}
+
+// The unit at a cursor: text by its octets alone, and any other unit by its element.
+fn text_or_element(s: &[u8], c: Cursor) -> Turn
+    ensures { λ r. ⌜ r ≡ textTurn (now (s .entry)) c ⌝ }
+{
+    let at = c.place;
+    let gl = c.gl;
+    let gr = c.gr;
+    if s.len() <= at {
+        return by_element(s, c);
+    }
+    let b = s[at];
+    if text_octet(b) {
+        if set_at(b, gl, gr) < FIRST_DOUBLE {
+            return one_octet(at, b, gl, gr);
+        }
+        return or_two(s, c, b);
+    }
+    by_element(s, c)
+}
+
+// The cursor after a designation that was found.
+fn placed(s: &[u8], c: Cursor, d: Designation) -> Cursor
+    requires { ⌜ d ≡ designationAt (from (c .place) (now s)) ⌝ }
+    ensures { λ r. ⌜ r ≡ placedOf c d ⌝ }
+{
+    let set = d.set;
+    if set < NO_SET {
+        let side = d.side;
+        let state = State {
+            directions: FREE,
+            sets: Sets { gl: c.gl, gr: c.gr },
+        };
+        let next = state.designated(side, set);
+        let after = next.sets;
+        let place = c.place + d.octets;
+        return Cursor {
+            place: place,
+            gl: after.gl,
+            gr: after.gr,
+        };
+    }
+    c
+}
+
+// The cursor after a designation, where one stands at it.
+fn passed(s: &[u8], c: Cursor) -> Cursor
+    ensures { λ r. ⌜ r ≡ passedOf (now (s .entry)) c ⌝ }
+{
+    let d = designation_at(s, c.place);
+    placed(s, c, d)
+}
+
+// The unit at a cursor of an accepted string, and the cursor after it.
+pub fn advance(s: &[u8], c: Cursor) -> Turn
+    ensures { λ r. ⌜ r ≡ advanceOf (now (s .entry)) c ⌝ }
+{
+    let at = c.place;
+    if s.len() <= at {
+        return text_or_element(s, c);
+    }
+    if s[at] == 0x1B {
+        return text_or_element(s, passed(s, passed(s, c)));
+    }
+    text_or_element(s, c)
+}
