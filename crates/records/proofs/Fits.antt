@@ -16,7 +16,7 @@ use Rattle.text.specs.Text.{graphicOf}
 use Rattle.grammar.specs.Units.{TextUnit, char, space, tab, newline, ltr, rtl, revert, ext, unitOf, codeUsed, segment, good}
 use Rattle.grammar.proofs.Complete.{and-left, and-right}
 use Rattle.grammar.proofs.Sound.{graphic-low}
-use Rattle.writing.specs.Records.{readable, unitRead}
+use Rattle.grammar.specs.Records.{readable, unitRead}
 use Rattle.writing.proofs.Sets.{up-to}
 use Rattle.rows.specs.Rows.{countOf, unitTagged, tagOf, numberOf}
 use Rattle.rows.proofs.Units.{unit-segment}

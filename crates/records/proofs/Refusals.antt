@@ -26,7 +26,8 @@ use Rattle.state.specs.declared.element.Element.the-variants.{End, Refused, Sil
 use Rattle.grammar.specs.Units.{TextUnit, char, ext, unitOf, textOctets, codeUsed, segment, good}
 use Rattle.grammar.specs.Reading.{direct}
 use Rattle.grammar.proofs.Segment.{content}
-use Rattle.writing.specs.Records.{readable, unitRead, own, fault}
+use Rattle.grammar.specs.Records.{readable, unitRead}
+use Rattle.writing.specs.Records.{own, fault}
 
 -- ---- by the kind
 

@@ -9,7 +9,8 @@ use lib.Seq.{sets}
 use Rattle.base.specs.declared.Unit.{Unit as UnitRecord}
 use Rattle.state.specs.declared.directions.Directions.{Directions}
 use Rattle.state.specs.declared.directions.Step.the-variants.{Goes, Stops}
-use Rattle.writing.specs.Records.{unitRead, fault}
+use Rattle.grammar.specs.Records.{unitRead}
+use Rattle.writing.specs.Records.{fault}
 use Rattle.rows.specs.Rows.{tagOf, numberOf, sevenOctets, withRecord}
 use Rattle.records.specs.Row.{Stowable}
 use Rattle.records.specs.Turn.{turnOf, roomAfter}

@@ -8,7 +8,8 @@ use Rattle.base.specs.declared.Unit.{Unit as UnitRecord}
 use Rattle.state.specs.Directions.{undirected}
 use Rattle.state.specs.declared.directions.Step.{Step}
 use Rattle.state.specs.declared.directions.Step.the-variants.{Goes, Stops}
-use Rattle.writing.specs.Records.{unitRead, fault}
+use Rattle.grammar.specs.Records.{unitRead}
+use Rattle.writing.specs.Records.{fault}
 use Rattle.rows.specs.Rows.{withRecord}
 use Rattle.records.specs.declared.Progress.{Progress}
 use Rattle.records.specs.declared.Progress.the-variants.{Fine, Faulty}

@@ -3,7 +3,8 @@
 ghost use mathlib.Core.Path.{_≡_};
 ghost use Prim.Native.Nat.{_<_};
 ghost use lib.ListN.{length};
-ghost use Rattle.writing.specs.Records.{unitRead, fault};
+ghost use Rattle.grammar.specs.Records.{unitRead};
+ghost use Rattle.writing.specs.Records.{fault};
 ghost use Rattle.records.specs.Turn.{begun, turnOf, roomAfter, lookedAt};
 use base::Unit;
 use base::kind;

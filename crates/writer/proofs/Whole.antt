@@ -1,7 +1,7 @@
 -- The answer and the output after the list is checked and its records stand in their rows are those of the writer.
-use Prim.Native.Nat.{ℕ, _+_, _*_, _≤_, _<_}
+use Prim.Native.Nat.{ℕ, _+_, _≤_, _<_}
 use native.Mathlib.Omega.{arith}
-use mathlib.Core.Path.{_≡_, refl, sym, ap, ap₂, _∙_, subst}
+use mathlib.Core.Path.{_≡_, refl, sym, ap, _∙_, subst}
 use mathlib.Core.Bool.{Bool, true, false, cond}
 use mathlib.Core.List.{List}
 use mathlib.Core.Logic.{_⊎_, inl, inr}
@@ -9,7 +9,6 @@ use mathlib.Core.Option.{some}
 use lib.Dec.{ltb, eqb}
 use lib.ListN.{length, getD}
 use borrow.Author.Tests.{ltb-true, ltb-false, lt-ltb, le-ltb, le-leb, ne-eqb}
-use Rattle.base.specs.Answers.{refusedAt}
 use Rattle.base.specs.Choice.{pick}
 use Rattle.base.specs.Limit as limit
 use Rattle.base.specs.Refusal as refusal
@@ -19,8 +18,11 @@ use Rattle.state.specs.Directions.{undirected}
 use Rattle.state.specs.declared.directions.Directions.{Directions}
 use Rattle.grammar.specs.Units.{TextUnit}
 use Rattle.writing.specs.Demand.{writeAnswer, outputAfter}
-use Rattle.writing.specs.Records.{listReading, checkRecords, fine, faulty, workRoom, writerAnswer, writerOutput}
+use Rattle.grammar.specs.Records.{listReading}
+use Rattle.writing.specs.Records.{checkRecords, fine, faulty, workRoom, writerAnswer, writerOutput}
 use Rattle.writing.specs.Offence.{noRecord}
+use Rattle.writing.specs.Demand3.{Demand3For}
+use Rattle.writing.proofs.Demand3.{writer-demand3}
 use Rattle.writing.proofs.Records.{fine-units}
 use Rattle.writing.proofs.Offence.{offence}
 use Rattle.writing.proofs.Outcome.{offence-number}
@@ -29,7 +31,7 @@ use Rattle.records.specs.Turn.{lookedAt}
 use Rattle.records.specs.declared.Progress.{Progress}
 use Rattle.records.specs.declared.Progress.the-variants.{Fine, Faulty}
 use Rattle.emit.specs.Emit.{rowsAnswer, rowsOutput}
-use Rattle.writer.specs.Stowed.{reached, HoldsRecord, Stowed, onProgress, finishAnswer, finishOutput}
+use Rattle.writer.specs.Stowed.{reached, HoldsRecord, Stowed, finishAnswer, finishOutput}
 use Rattle.writer.proofs.Lists.{checkedOf, reached-checked, rows-units}
 
 -- what the writer's definitions say of the answer and the output
@@ -107,3 +109,9 @@ module _ (rs : List UnitRecord) (o before after out : List ℕ) where
           let z : lookedAt (length rs) ≡ length rs = rw (le-leb (length rs) limit.units h) in
           subst (λ (k : ℕ). Finished rs o (length before) out (finishAnswer (reached o rs k) (length rs) o after (length out)) (finishOutput (reached o rs k) (length rs) o after out)) (sym z)
           (fits h (subst (λ (k : ℕ). Stowed o rs k before after) z s) (reached o rs (length rs)) refl)
+
+-- and so they are what demand 3 asks
+pub demanded : (rs : List UnitRecord) (o : List ℕ) (work : ℕ) (out after : List ℕ) → after ≡ writerOutput rs o work out
+    → Demand3For rs o work out (writerAnswer rs o work (length out)) after
+demanded rs o work out after e =
+    subst (λ (l : List ℕ). Demand3For rs o work out (writerAnswer rs o work (length out)) l) (sym e) (writer-demand3 rs o work out)

@@ -27,7 +27,13 @@ fn stow(units: &[Unit], segments: &[u8], work: &mut [u8]) -> Progress
 }
 
 // The answer once the list is checked.
-fn finish(progress: Progress, n: usize, segments: &[u8], work: &mut [u8], out: &mut [u8]) -> Answer
+pub fn finish(
+    progress: Progress,
+    n: usize,
+    segments: &[u8],
+    work: &mut [u8],
+    out: &mut [u8],
+) -> Answer
     ensures { λ r. ⌜ (r ≡ finishAnswer progress n (now (segments .entry)) (now (work .entry)) (length (now (out .entry))))
         × (now (out .exit) ≡ finishOutput progress n (now (segments .entry)) (now (work .entry)) (now (out .entry)))
         × (length (now (work .exit)) ≡ length (now (work .entry))) ⌝ }

@@ -18,7 +18,8 @@ use Rattle.state.specs.declared.directions.Directions.{Directions}
 use Rattle.state.specs.declared.directions.Step.the-variants.{Stops}
 use Rattle.grammar.specs.Units.{TextUnit, char, space, tab, newline, ltr, rtl, revert, ext, unitOf, codeUsed, segment, mostOfSegment, good}
 use Rattle.grammar.specs.Reading.{direct}
-use Rattle.writing.specs.Records.{readable, unitRead, own, fault}
+use Rattle.grammar.specs.Records.{readable, unitRead}
+use Rattle.writing.specs.Records.{own, fault}
 use Rattle.writing.specs.Offence.{Placed, Bad, bad-kind, bad-set, bad-code, bad-part, bad-d, bad-length, bad-content}
 
 and-first : (a b : Bool) → a ≡ false → (a && b) ≡ false

@@ -19,7 +19,8 @@ use Rattle.state.specs.declared.directions.Step.{Step}
 use Rattle.state.specs.declared.directions.Step.the-variants.{Goes, Stops}
 use Rattle.grammar.specs.Units.{TextUnit, char, space, tab, newline, ltr, rtl, revert, ext, good}
 use Rattle.grammar.specs.Reading.{direct}
-use Rattle.writing.specs.Records.{unitRead, own, fault, Checked, fine, faulty, onStep, checkRecords}
+use Rattle.grammar.specs.Records.{unitRead}
+use Rattle.writing.specs.Records.{own, fault, Checked, fine, faulty, onStep, checkRecords}
 use Rattle.writing.specs.Offence.{stepTo, directionsAfter, noRecord, faultAt, FirstFrom, FirstOffends, NoneFrom, NoneOffends}
 
 never : {d : Directions} {n : ℕ} (x : Step) → x ≡ Goes d → x ≡ Stops n → ⊥

@@ -21,7 +21,8 @@ use Rattle.state.specs.Directions.{undirected}
 use Rattle.grammar.specs.Units.{TextUnit}
 use Rattle.writing.specs.Writing.{cost}
 use Rattle.writing.specs.Demand.{writeAnswer}
-use Rattle.writing.specs.Records.{unitRead, listReading, Checked, fine, faulty, checkRecords, afterCheck, ofReading, workRoom, writerAnswer}
+use Rattle.grammar.specs.Records.{unitRead, listReading}
+use Rattle.writing.specs.Records.{Checked, fine, faulty, checkRecords, afterCheck, ofReading, workRoom, writerAnswer}
 use Rattle.writing.specs.Offence.{directionsAfter, noRecord, faultAt, FirstOffends, NoneOffends}
 use Rattle.writing.specs.Outcome.{Served, Outcome, long-list, offending, short-work, long-writing, short-output, written}
 use Rattle.writing.proofs.Offence.{offence, no-offence, Number, numbers}

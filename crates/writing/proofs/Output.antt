@@ -25,7 +25,8 @@ use Rattle.grammar.specs.Reading.{Octets, ReadAs}
 use Rattle.grammar.proofs.Agrees.{fresh-legal}
 use Rattle.writing.specs.Writing.{cost, writing}
 use Rattle.writing.specs.Demand.{writeAnswer, outputAfter}
-use Rattle.writing.specs.Records.{listReading, writerAnswer, writerOutput}
+use Rattle.grammar.specs.Records.{listReading}
+use Rattle.writing.specs.Records.{writerAnswer, writerOutput}
 use Rattle.writing.specs.Choice.{Chosen}
 use Rattle.writing.specs.Offence.{Grammatical}
 use Rattle.writing.specs.Outcome.{Served, written}

@@ -22,7 +22,8 @@ use Rattle.grammar.specs.Units.{TextUnit, char, space, tab, newline, ltr, rtl, 
 use Rattle.grammar.specs.Reading.{direct, Octets, ReadAs}
 use Rattle.grammar.proofs.Rule.{directed, passes, direction-rule}
 use Rattle.writing.specs.Writing.{cost, writing}
-use Rattle.writing.specs.Records.{readable, unitRead, prepend, listReading, fault, own, fine, faulty, onStep, checkRecords}
+use Rattle.grammar.specs.Records.{readable, unitRead, prepend, listReading}
+use Rattle.writing.specs.Records.{fault, own, fine, faulty, onStep, checkRecords}
 use Rattle.writing.specs.Offence.{NoneOffends, Grammatical}
 use Rattle.writing.proofs.Costs.{writing-length}
 use Rattle.writing.proofs.Bounds.{Every, Good}

@@ -17,7 +17,8 @@ use Rattle.state.specs.declared.directions.Directions.{Directions}
 use Rattle.state.specs.declared.directions.Step.{Step}
 use Rattle.state.specs.declared.directions.Step.the-variants.{Goes, Stops}
 use Rattle.grammar.specs.Units.{TextUnit, char, space, tab, newline, revert, ext, unitOf}
-use Rattle.writing.specs.Records.{readable, unitRead, prepend, listReading, fault, onStep, checkRecords, writerAnswer, writerOutput}
+use Rattle.grammar.specs.Records.{readable, unitRead, prepend, listReading}
+use Rattle.writing.specs.Records.{fault, onStep, checkRecords, writerAnswer, writerOutput}
 use Rattle.writing.specs.Unused.{Alike, AllAlike, none, more}
 
 above : (k n : ℕ) → n ≤ k → eqb k n ≡ false → suc n ≤ k

@@ -1,8 +1,11 @@
--- Document 01, "Checked strings": those marked * that say what a list of units is written as, and the accepted ones among the others,
--- which are their own shortest form.
+-- Document 01, "Checked strings": those marked *, as one table of the definitions. An accepted string stands with its answer, the units
+-- that it reads as and what these are written as; a refused one with its answer.
 use Prim.Native.Nat.{ℕ}
 use mathlib.Core.List.{List, [], _∷_}
+use lib.ListN.{length}
+use Rattle.base.specs.Answers.{answer, refusedAt}
 use Rattle.base.specs.Refusal as refusal
+use Rattle.base.specs.declared.Answer.{Answer}
 use Rattle.state.specs.State.{fresh}
 use Rattle.grammar.specs.Units.{TextUnit, char, space, tab, ltr, ext}
 use Rattle.grammar.specs.Reading.{checkOf, readingOf}
@@ -45,20 +48,52 @@ table =
     ∷ own (0x1B ∷ 0x25 ∷ 0x2F ∷ 0x31 ∷ 0x80 ∷ 0x84 ∷ 0x61 ∷ 0x62 ∷ 0x02 ∷ 0xFF ∷ []) (ext 0x31 (0x61 ∷ 0x62 ∷ 0x02 ∷ 0xFF ∷ []) ∷ [])
     ∷ []
 
--- what the definitions say of a row: the number of the string's answer, its reading, and its units' writing
-pub record Said : Type 0 where
+-- a string and the number and place of its refusal
+pub record Refusal : Type 0 where
+  pub string : List ℕ
   pub number : ℕ
+  pub place : ℕ
+
+abbrev refused : List ℕ → ℕ → ℕ → Refusal
+refused s n p = record { string = s; number = n; place = p }
+
+abbrev pub refusals : List Refusal
+refusals =
+    refused (0x41 ∷ 0x9B ∷ 0x31 ∷ 0x5D ∷ []) refusal.direction 1
+    ∷ refused (0x9B ∷ 0x31 ∷ 0x5D ∷ 0x9B ∷ 0x5D ∷ 0x41 ∷ []) refusal.direction 5
+    ∷ refused (0x1B ∷ 0x25 ∷ 0x2F ∷ 0x32 ∷ 0x80 ∷ 0x84 ∷ 0x61 ∷ 0x62 ∷ 0x02 ∷ 0xFF ∷ []) refusal.bad-segment 0
+    ∷ refused (0x1B ∷ 0x24 ∷ 0x42 ∷ []) refusal.unknown 0
+    ∷ refused (0x1B ∷ 0x28 ∷ []) refusal.cut 0
+    ∷ refused (0x1B ∷ 0x29 ∷ 0x42 ∷ []) refusal.not-approved 0
+    ∷ refused (0x1B ∷ 0x28 ∷ 0x21 ∷ 0x42 ∷ []) refusal.not-approved 0
+    ∷ refused (0x1B ∷ 0x24 ∷ 0x28 ∷ 0x42 ∷ 0x20 ∷ []) refusal.unused 4
+    ∷ refused (0x1B ∷ 0x24 ∷ 0x28 ∷ 0x42 ∷ 0x30 ∷ []) refusal.cut 4
+    ∷ []
+
+-- what the definitions say of a row: the string's answer, its reading, and its units' writing
+pub record Said : Type 0 where
+  pub said : Answer
   pub reading : List TextUnit
   pub writes : List ℕ
 
-abbrev said : ℕ → List TextUnit → List ℕ → Said
-said n us w = record { number = n; reading = us; writes = w }
+abbrev saying : Answer → List TextUnit → List ℕ → Said
+saying a us w = record { said = a; reading = us; writes = w }
 
 abbrev pub defined : List Row → List Said
 defined [] = []
-defined (r ∷ rs) = said (checkOf (r .string) .number) (readingOf (r .string)) (writing (r .units) (fresh .sets)) ∷ defined rs
+defined (r ∷ rs) = saying (checkOf (r .string)) (readingOf (r .string)) (writing (r .units) (fresh .sets)) ∷ defined rs
 
 -- what document 01 says of it
 abbrev pub expected : List Row → List Said
 expected [] = []
-expected (r ∷ rs) = said refusal.accepted (r .units) (r .written) ∷ expected rs
+expected (r ∷ rs) =
+    saying (answer refusal.accepted (length (r .string)) (length (r .units))) (r .units) (r .written) ∷ expected rs
+
+-- the same of a refused string
+abbrev pub answersDefined : List Refusal → List Answer
+answersDefined [] = []
+answersDefined (r ∷ rs) = checkOf (r .string) ∷ answersDefined rs
+
+abbrev pub answersExpected : List Refusal → List Answer
+answersExpected [] = []
+answersExpected (r ∷ rs) = refusedAt (r .number) (r .place) ∷ answersExpected rs

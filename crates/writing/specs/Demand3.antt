@@ -8,7 +8,8 @@ use Rattle.base.specs.declared.Answer.{Answer}
 use Rattle.base.specs.declared.Unit.{Unit as UnitRecord}
 use Rattle.grammar.specs.Units.{TextUnit}
 use Rattle.grammar.specs.Reading.{ReadAs}
-use Rattle.writing.specs.Records.{listReading, workRoom}
+use Rattle.grammar.specs.Records.{listReading}
+use Rattle.writing.specs.Records.{workRoom}
 use Rattle.writing.specs.Demand.{Demand3}
 
 -- of every list whose reading some accepted string has (so it has at most 65,535 units), with the work room that document 01 names,

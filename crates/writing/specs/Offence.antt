@@ -17,7 +17,8 @@ use Rattle.charset.specs.Charsets.{no-set, formOf}
 use Rattle.grammar.specs.Units.{TextUnit, codeUsed, segment, mostOfSegment}
 use Rattle.grammar.specs.Grammar.{Reads, Lawful}
 use Rattle.grammar.specs.Reading.{Octets}
-use Rattle.writing.specs.Records.{unitRead, fault}
+use Rattle.grammar.specs.Records.{unitRead}
+use Rattle.writing.specs.Records.{fault}
 
 -- the directions after a step; where it stops they stay
 abbrev pub stepTo : Step → Directions → Directions

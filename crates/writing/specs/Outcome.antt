@@ -11,7 +11,8 @@ use Rattle.base.specs.declared.Unit.{Unit as UnitRecord}
 use Rattle.state.specs.State.{fresh}
 use Rattle.grammar.specs.Units.{TextUnit}
 use Rattle.writing.specs.Writing.{cost}
-use Rattle.writing.specs.Records.{listReading, workRoom}
+use Rattle.grammar.specs.Records.{listReading}
+use Rattle.writing.specs.Records.{workRoom}
 use Rattle.writing.specs.Offence.{FirstOffends, NoneOffends}
 
 -- a list that is not too long, with no offending unit, of a reading, and with the work room that it needs

@@ -17,26 +17,8 @@ use Rattle.state.specs.declared.directions.Step.{Step}
 use Rattle.state.specs.declared.directions.Step.the-variants.{Goes, Stops}
 use Rattle.grammar.specs.Units.{TextUnit, char, space, tab, newline, ltr, rtl, revert, ext, unitOf, good}
 use Rattle.grammar.specs.Reading.{direct}
+use Rattle.grammar.specs.Records.{readable, unitRead, prepend, listReading}
 use Rattle.writing.specs.Demand.{writeAnswer, outputAfter}
-
--- one of the eight kinds; "where the part of a segment does not lie wholly in those octets it has none"
-unfoldable pub readable : List ℕ → UnitRecord → Bool
-readable o r = cond (eqb (r .kind) kind.segment) (leb (r .start + r .length) (length o)) (ltb (r .kind) kind.segment)
-
--- the unit that a record stands for: "Unused fields are ignored, also where readings are compared."
-unfoldable pub unitRead : List ℕ → UnitRecord → Option TextUnit
-unitRead o r =
-    cond (readable o r) (some (unitOf (r .kind) (r .set) (r .code) (take (r .length) (drop (r .start) o)))) none
-
-abbrev pub prepend : Option TextUnit → Option (List TextUnit) → Option (List TextUnit)
-prepend none us = none
-prepend (some u) none = none
-prepend (some u) (some us) = some (u ∷ us)
-
--- "A list of units, with the octets in which its extended segments stand, has a reading by the same rule"
-unfoldable pub listReading : List ℕ → List UnitRecord → Option (List TextUnit)
-listReading o [] = some []
-listReading o (r ∷ rs) = prepend (unitRead o r) (listReading o rs)
 
 -- the refusal of a unit by itself: 11 for "kind, set, code not used in its set, d outside 30-34, or a part outside its octets", 7 for a
 -- "bad extended segment; in a unit also n over 16,383"
