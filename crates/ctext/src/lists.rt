@@ -1,7 +1,9 @@
-// The units of a string in a list that the caller lends, for C.
+// Reading into, and writing of, a list of records that the caller lends, for C.
 ghost use mathlib.Core.Path.{_≡_};
 ghost use lib.ListN.{length};
 ghost use Rattle.listing.specs.Listing.{readAnswer, listAfter};
+ghost use Rattle.writing.specs.Records.{writerAnswer, writerOutput};
+ghost use Rattle.writing.specs.Demand3.{Demand3For};
 use base::Answer;
 use base::Unit;
 
@@ -12,4 +14,21 @@ pub extern "C" fn ctext_read(s: &[u8], units: &mut [Unit]) -> Answer
         × (now (units .exit) ≡ listAfter (now (s .entry)) (now (units .entry))) ⌝ }
 {
     listing::read(s, units)
+}
+
+// The units of a list, whose extended segments stand in the octets lent, are written as the shortest string, or the answer says why not.
+// The work room is to have 72 octets for each unit and 72 more. What it holds after is left open.
+#[no_mangle]
+pub extern "C" fn ctext_write(
+    units: &[Unit],
+    segments: &[u8],
+    work: &mut [u8],
+    out: &mut [u8],
+) -> Answer
+    ensures { λ r. ⌜ (r ≡ writerAnswer (now (units .entry)) (now (segments .entry)) (length (now (work .entry))) (length (now (out .entry))))
+        × (now (out .exit) ≡ writerOutput (now (units .entry)) (now (segments .entry)) (length (now (work .entry))) (now (out .entry)))
+        × (length (now (work .exit)) ≡ length (now (work .entry)))
+        × Demand3For (now (units .entry)) (now (segments .entry)) (length (now (work .entry))) (now (out .entry)) r (now (out .exit)) ⌝ }
+{
+    writer::write(units, segments, work, out)
 }

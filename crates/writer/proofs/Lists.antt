@@ -1,5 +1,5 @@
 -- The check record by record is that of the whole list, and the rows of a list with no offending record hold its units.
-use Prim.Native.Nat.{ℕ, zero, suc, _+_, _-_, _*_, _/_, _%_, _≤_, _<_}
+use Prim.Native.Nat.{ℕ, zero, suc, _+_, _*_, _/_, _≤_, _<_}
 use native.Mathlib.Omega.{arith}
 use mathlib.Core.Path.{_≡_, refl, sym, ap, ap₂, _∙_, subst}
 use mathlib.Core.Bool.{Bool, true, false}
@@ -22,7 +22,7 @@ use Rattle.grammar.specs.Records.{unitRead, listReading, prepend}
 use Rattle.writing.specs.Records.{fault, Checked, fine, faulty, onStep, checkRecords}
 use Rattle.writing.specs.Offence.{noRecord}
 use Rattle.writing.proofs.Bounds.{Good}
-use Rattle.rows.specs.Rows.{startFrom, unitTagged, unitFrom, unitsIn, tagOf, numberOf, sevenOctets, withRecord}
+use Rattle.rows.specs.Rows.{startFrom, unitTagged, unitFrom, unitsIn, tagOf, sevenOctets, withRecord}
 use Rattle.records.specs.Turn.{begun, onFault, turnOf, roomAfter, lookedAt}
 use Rattle.records.specs.declared.Progress.{Progress}
 use Rattle.records.specs.declared.Progress.the-variants.{Fine, Faulty}

@@ -1,7 +1,7 @@
 -- The answer and the output after the list is checked and its records stand in their rows are those of the writer.
-use Prim.Native.Nat.{ℕ, _+_, _*_, _≤_, _<_}
+use Prim.Native.Nat.{ℕ, _+_, _≤_, _<_}
 use native.Mathlib.Omega.{arith}
-use mathlib.Core.Path.{_≡_, refl, sym, ap, ap₂, _∙_, subst}
+use mathlib.Core.Path.{_≡_, refl, sym, ap, _∙_, subst}
 use mathlib.Core.Bool.{Bool, true, false, cond}
 use mathlib.Core.List.{List}
 use mathlib.Core.Logic.{_⊎_, inl, inr}
@@ -9,7 +9,6 @@ use mathlib.Core.Option.{some}
 use lib.Dec.{ltb, eqb}
 use lib.ListN.{length, getD}
 use borrow.Author.Tests.{ltb-true, ltb-false, lt-ltb, le-ltb, le-leb, ne-eqb}
-use Rattle.base.specs.Answers.{refusedAt}
 use Rattle.base.specs.Choice.{pick}
 use Rattle.base.specs.Limit as limit
 use Rattle.base.specs.Refusal as refusal
@@ -32,7 +31,7 @@ use Rattle.records.specs.Turn.{lookedAt}
 use Rattle.records.specs.declared.Progress.{Progress}
 use Rattle.records.specs.declared.Progress.the-variants.{Fine, Faulty}
 use Rattle.emit.specs.Emit.{rowsAnswer, rowsOutput}
-use Rattle.writer.specs.Stowed.{reached, HoldsRecord, Stowed, onProgress, finishAnswer, finishOutput}
+use Rattle.writer.specs.Stowed.{reached, HoldsRecord, Stowed, finishAnswer, finishOutput}
 use Rattle.writer.proofs.Lists.{checkedOf, reached-checked, rows-units}
 
 -- what the writer's definitions say of the answer and the output

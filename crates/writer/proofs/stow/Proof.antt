@@ -1,7 +1,7 @@
 -- `writer::stow` meets its contract: its code is followed by hand, for it reads a list of structs. In each turn a record is read from the
 -- list, and the work room is lent to `turn`, which checks the record and puts it into its row. Of the functions that it calls the proof
 -- knows their contracts alone. Assumes nothing.
-use Rattle.walks.proofs.Names.{_≡_, refl, sym, _∙_, ap, subst, ℕ, zero, suc, _+_, _-_, _*_, _≤_, _<_, _^_, zero-le, [], _∷_, List, length, getD, URA, fullShare, Ty, named, erased, imm, mut, w8, w64, tyInt, tyBool, tyPtr, tyRef, Val, vint, vptr, SProp, ent, emp, sep, ex, guard, via, fst∗, id⊢, Lft, Share, GName, Fml, ftrue, flft, fat, froom, fdies, Memory, Routine, Heap, Out, Env, afterSeq, afterBlock, Calls, Loops, Wp, atReturn, WpFn, Tables, Atoms, sem, Fun, fact, givenOf, tables, let-go, Given, Item, ‵, raw, _⊛_, ⋆, runs, anyQ, atRet, Sq, _$_, _∵_, !, qed, by, move, keep, use0, use1, split, join, rewrite, fsplit, fjoin, check, show, suffices, frame, done, look, look-raw, init, store, forget, stop, hop, fld, from, load, lit, of-opd, bin, addr, and-then, no-more, assigns, assigns-last, first, blocks, land, returns, enter, alloc1, alloc0, params1, pass1, pass0, exec, Below, again, loops, agg, whole, sub, look-in, FmC, fmOf, owns, pointee, Is, shows, uint-makes, uint-vals, uint-tells, uint-lawful, u8, usize, RefT, sliceVal, sliceTy, ShrSlice, MutSlice, Room, finally, slice-vals, shr-slice-tells, mut-slice-tells, shr-slice-copy, place-is, elem-out, elem-back, looks-slice, shuts-slice, owned, heard, nothing, plain, yes, onEntry, Meets, tripleOf, Contract, Triple, Lasts, lasts, cited, says, Stays, stay-none-slice, stay-slice, walkOf, goes-none-slice, goes-slice, Walks, ends-at, walked}
+use Rattle.walks.proofs.Names.{_≡_, refl, sym, _∙_, ap, subst, ℕ, suc, _+_, _-_, _*_, _≤_, _<_, _^_, zero-le, [], _∷_, List, length, getD, URA, fullShare, Ty, named, erased, imm, mut, w8, w64, tyInt, tyBool, tyPtr, tyRef, Val, vint, vptr, SProp, ent, emp, sep, ex, guard, via, fst∗, id⊢, Lft, Share, GName, Fml, ftrue, flft, fat, froom, fdies, Memory, Routine, Heap, Out, Env, afterSeq, afterBlock, Calls, Loops, Wp, atReturn, WpFn, Tables, Atoms, sem, Fun, fact, givenOf, let-go, Given, Item, ‵, raw, _⊛_, ⋆, runs, anyQ, atRet, Sq, _$_, _∵_, !, qed, by, move, keep, use0, use1, split, join, rewrite, fsplit, fjoin, check, show, suffices, frame, done, look, look-raw, init, store, forget, stop, hop, fld, from, load, lit, of-opd, bin, addr, and-then, no-more, assigns, assigns-last, first, blocks, land, returns, enter, alloc1, alloc0, params1, pass1, pass0, exec, Below, again, loops, agg, whole, sub, look-in, FmC, fmOf, owns, pointee, Is, shows, uint-makes, uint-vals, uint-tells, uint-lawful, u8, usize, RefT, sliceVal, sliceTy, ShrSlice, MutSlice, Room, finally, slice-vals, shr-slice-tells, mut-slice-tells, shr-slice-copy, place-is, elem-out, elem-back, looks-slice, shuts-slice, owned, heard, nothing, plain, yes, onEntry, tripleOf, Contract, Triple, Lasts, lasts, cited, says, Stays, stay-none-slice, stay-slice, walkOf, goes-none-slice, goes-slice, ends-at, walked}
 use native.Mathlib.Nat.{le-antisymm}
 use native.Mathlib.Numerals.{add-one}
 use native.Mathlib.Omega.{arith}

@@ -1,7 +1,7 @@
 -- `writer::write` meets its contract: its code is followed by hand, for it passes on a list of structs. The work room is lent to `stow`,
 -- and comes back with the records in its rows; then it and the output are given to `finish` for good. Of the two the proof knows their
 -- contracts alone; that their answer is the writer's is shown in Whole.antt. Assumes nothing.
-use Rattle.walks.proofs.Names.{_≡_, refl, sym, _∙_, ap, subst, ℕ, zero, suc, _+_, _*_, _≤_, _<_, _^_, [], _∷_, List, length, getD, URA, fullShare, named, w8, w64, Val, vint, SProp, ent, emp, sep, ex, guard, via, fst∗, id⊢, Lft, Share, GName, Fml, ftrue, fsep, flft, Memory, Routine, Heap, Calls, Loops, WpFn, Tables, Atoms, sem, Fun, fact, givenOf, tables, let-go, Given, Item, ‵, raw, _⊛_, ⋆, _$_, _∵_, !, qed, by, move, keep, use1, use2, split, join, feqL, fsplit, fjoin, check, show, suffices, frame, done, look, init, forget, stop, hop, fld, from, load, of-opd, addr, and-then, no-more, assigns, land, returns, enter, alloc1, alloc0, params1, pass1, pass0, agg, whole, sub, look-in, FmC, fmOf, owns, Is, uint-makes, u8, usize, RefT, sliceVal, ShrSlice, MutSlice, Room, finally, slice-vals, shr-slice-tells, mut-slice-tells, shr-slice-copy, owned, heard, nothing, plain, yes, onEntry, Meets, tripleOf, Contract, Triple, Lasts, lasts, cited, says, Stays, stay-none-slice, gave-slice, walkOf, goes-none-slice, goes-gave-slice, Walks, ends-at, walked}
+use Rattle.walks.proofs.Names.{_≡_, refl, _∙_, ℕ, [], _∷_, List, length, URA, fullShare, named, w64, Val, vint, SProp, ent, emp, sep, ex, guard, via, fst∗, id⊢, Lft, Share, GName, Fml, ftrue, fsep, flft, Memory, Routine, Heap, Calls, Loops, WpFn, Atoms, sem, Fun, fact, givenOf, Given, ‵, raw, _⊛_, ⋆, _$_, _∵_, !, qed, by, move, keep, use1, use2, split, join, feqL, fsplit, fjoin, check, show, suffices, frame, done, look, init, forget, stop, hop, fld, from, load, of-opd, addr, and-then, no-more, assigns, land, returns, enter, alloc1, alloc0, params1, pass1, pass0, agg, whole, sub, look-in, FmC, fmOf, owns, Is, uint-makes, u8, usize, RefT, sliceVal, ShrSlice, MutSlice, Room, finally, slice-vals, shr-slice-tells, mut-slice-tells, shr-slice-copy, owned, heard, nothing, plain, yes, onEntry, tripleOf, Contract, Triple, Lasts, lasts, cited, says, Stays, stay-none-slice, gave-slice, walkOf, goes-none-slice, goes-gave-slice, ends-at, walked}
 use contract.Running.{tablesOf}
 use denote.Enum.Laws as EL
 use denote.Struct.Laws as LL
