@@ -1,7 +1,12 @@
 // The library for C: each entry point under its name in `include/ctext.h`.
 ghost use mathlib.Core.Path.{_≡_};
 ghost use Rattle.grammar.specs.Reading.{checkOf};
+ghost use Rattle.runs.specs.Runs.{runAt};
 use base::Answer;
+use runs::Bounds;
+
+pub mod lists;
+pub mod stepping;
 
 // Whether a string is accepted, and what of it is refused.
 #[no_mangle]
@@ -9,4 +14,12 @@ pub extern "C" fn ctext_check(s: &[u8]) -> Answer
     ensures { λ r. ⌜ r ≡ checkOf (now (s .entry)) ⌝ }
 {
     reading::check(s)
+}
+
+// Where the k-th run of a string lies, and its numbers.
+#[no_mangle]
+pub extern "C" fn ctext_run(s: &[u8], k: usize) -> Bounds
+    ensures { λ r. ⌜ r ≡ runAt (now (s .entry)) k ⌝ }
+{
+    runs::run_at(s, k)
 }

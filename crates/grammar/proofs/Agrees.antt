@@ -55,7 +55,7 @@ put-legal p s a l = go (p .side) a
 
 -- ---- an element, with the direction rule
 
-data Right (st : State) (w : List ℕ) : Element → Type 0 where
+pub data Right (st : State) (w : List ℕ) : Element → Type 0 where
   refused : {n o : ℕ} → 1 ≤ n → Right st w (Refused n o)
   passed : {k : ℕ} (d : Side) (c : ℕ) (t : List ℕ) → Changed w k (on d c) t → Right st w (Silent k (designatedOf d c st))
   read : {p : Part} {next : Directions} (u : TextUnit) (d : Side) (t : List ℕ) → Shown (st .sets) w p u d t → direct (st .directions) u ≡ Goes next
@@ -68,7 +68,7 @@ module _ (st : State) (w : List ℕ) where
   stepped u d t h (Goes next) e f = read u d t h e
   stepped u d t h (Stops n) e (stops f) = refused f
 
-  right : {e : Element} → Sound st w e → Right st w (directedOf e)
+  pub right : {e : Element} → Sound st w e → Right st w (directedOf e)
   unfolding directedOf
   right (refuses h) = refused h
   right (designates d c t h) = passed d c t h

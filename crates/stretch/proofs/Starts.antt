@@ -1,5 +1,5 @@
--- What starts where a test of the stretches passes: in a state that text leaves as it is, an element of one octet, or of two, that gives a
--- unit and leaves the state.
+-- What starts where a test of the stretches passes: an element of one octet, or of two, that gives a unit and leaves the state. Of text this
+-- holds in a state that text leaves as it is, and of a tab or newline in any.
 use Prim.Native.Nat.{ℕ, suc, _+_, _*_, _/_, _%_, _<_, _≤_}
 use native.Mathlib.Omega.{arith}
 use native.Mathlib.Nat.{eq-or-lt-of-le, mod-eq-of-lt}
@@ -88,18 +88,44 @@ module _ (d : Directions) (settled : settledOf d ≡ true) where
       (λ m. on-true (d .marked) _ _ _ (m .0) (on-false (eqb (d .depth) 0) _ _ _ (m .1) (ap Goes (sym same))))
       open-or-unmarked
 
--- ---- elements of a settled state
+-- ---- elements that are no text, in any state
 
-module _ (st : State) (settled : settledOf (st .directions) ≡ true) where
+module _ (st : State) where
   -- an element, by its shape and its step
   leaves : (t : List ℕ) (n : ℕ) (p : Part) → Goes (st .directions) ≡ stepOf (p .text) (p .kind) (st .directions) → size p ≡ n → Found p st ≡ shapeOf t st → One n st (elementOf t st)
   unfolding directedOf steppedOf
   leaves t n p h k e = record { unit = p; is = rw (← e, ← h); sized = k }
 
+  -- a tab or newline, which is no text
+  blank : (b k : ℕ) (t : List ℕ) → Goes (st .directions) ≡ stepOf false k (st .directions) → Found (part k 0 0 0 1 false) st ≡ shapeOf (b ∷ t) st → One 1 st (elementOf (b ∷ t) st)
+  blank b k t h e = leaves (b ∷ t) 1 (part k 0 0 0 1 false) h refl e
+
+  blank-by : (b : ℕ) (t : List ℕ) → 0x09 ≤ b → b < 0x0B → One 1 st (elementOf (b ∷ t) st)
+  unfolding shapeOf stepOf pick
+  blank-by b t h k =
+      ⊎-elim
+      (λ (q : 0x09 ≡ b). blank b kind.tab t refl (rw (← q)))
+      (λ (q : 0x09 < b). let z : b ≡ 0x0A = omega arith in blank b kind.newline t refl (rw z))
+      (eq-or-lt-of-le h)
+
+  pub blank-octet : (b : ℕ) (t : List ℕ) → oneAt form-94x94 0 (b ∷ t) ≡ true → One 1 st (elementOf (b ∷ t) st)
+  unfolding oneAt singleOf grOctet pick
+  blank-octet b t e =
+      ⊎-elim
+      (λ k. absurd (false≢true (k .1)))
+      (λ k. ⊎-elim
+      (λ x. blank-by b t (leb-true 0x09 b (x .1)) (ltb-true b 0x0B (x .0)))
+      (λ x. absurd (false≢true (last (ltb b 0xA0) _ (x .1) .1)))
+      (which (ltb b 0x0B) _ _ (k .1)))
+      (which (glOctet b) _ _ e)
+
+-- ---- elements of a settled state
+
+module _ (st : State) (settled : settledOf (st .directions) ≡ true) where
   -- text
   found : (t : List ℕ) (n : ℕ) (p : Part) → p .text ≡ true → size p ≡ n → Found p st ≡ shapeOf t st → One n st (elementOf t st)
   unfolding stepOf
-  found t n p h k e = leaves t n p (on-true (p .text) _ _ _ h (written (st .directions) settled)) k e
+  found t n p h k e = leaves st t n p (on-true (p .text) _ _ _ h (written (st .directions) settled)) k e
 
   left-shape : (b : ℕ) (t : List ℕ) (r : Element) → 0x20 ≤ b → b < 0x7F → r ≡ textOf b t st → r ≡ shapeOf (b ∷ t) st
   unfolding shapeOf
@@ -191,18 +217,6 @@ module _ (st : State) (settled : settledOf (st .directions) ≡ true) where
       (λ (q : 0x20 < b). left-one b t n (omega arith) (h .1))
       (eq-or-lt-of-le (h .0))
 
-  -- a tab or newline, which is no text
-  blank : (b k : ℕ) (t : List ℕ) → Goes (st .directions) ≡ stepOf false k (st .directions) → Found (part k 0 0 0 1 false) st ≡ shapeOf (b ∷ t) st → One 1 st (elementOf (b ∷ t) st)
-  blank b k t h e = leaves (b ∷ t) 1 (part k 0 0 0 1 false) h refl e
-
-  blank-by : (b : ℕ) (t : List ℕ) → 0x09 ≤ b → b < 0x0B → One 1 st (elementOf (b ∷ t) st)
-  unfolding shapeOf stepOf pick
-  blank-by b t h k =
-      ⊎-elim
-      (λ (q : 0x09 ≡ b). blank b kind.tab t refl (rw (← q)))
-      (λ (q : 0x09 < b). let z : b ≡ 0x0A = omega arith in blank b kind.newline t refl (rw z))
-      (eq-or-lt-of-le h)
-
   -- one octet
   pub one-octet : (b : ℕ) (t : List ℕ) → oneAt (formOf (st .sets .gl)) (formOf (st .sets .gr)) (b ∷ t) ≡ true → One 1 st (elementOf (b ∷ t) st)
   unfolding oneAt singleOf
@@ -210,7 +224,7 @@ module _ (st : State) (settled : settledOf (st .directions) ≡ true) where
       ⊎-elim
       (λ k. left-by b t (gl-octet b (k .0)) (k .1))
       (λ k. ⊎-elim
-      (λ x. blank-by b t (leb-true 0x09 b (x .1)) (ltb-true b 0x0B (x .0)))
+      (λ x. blank-by st b t (leb-true 0x09 b (x .1)) (ltb-true b 0x0B (x .0)))
       (λ x. right-by b t (x .1))
       (which (ltb b 0x0B) _ _ (k .1)))
       (which (glOctet b) _ _ e)

@@ -3,18 +3,19 @@ use Prim.Native.Nat.{ℕ, _+_, _*_, _<_, _≤_}
 use native.Mathlib.Omega.{arith}
 use mathlib.Core.Path.{_≡_, refl, ap, sym, _∙_, subst}
 use mathlib.Core.Bool.{Bool, true, false}
-use mathlib.Core.List.{List, []}
+use mathlib.Core.List.{List, [], _∷_}
 use lib.Dec.{eqb, ltb}
 use lib.ListN.{length}
 use borrow.Author.Tests.{eqb-true}
 use Rattle.base.specs.Choice.{pick, from}
 use Rattle.base.proofs.Ladder.{on-lt, on-ge, from-end, from-length}
 use Rattle.charset.specs.Charsets.{form-94x94, formOf}
+use Rattle.element.specs.Element.{elementOf}
 use Rattle.state.specs.declared.State.{State}
 use Rattle.stretch.specs.Characters.{leadOf, oneAt, twoAt, singlesOf, pairsOf, settledOf, stretch, twosOf, byFormsOf, stretchAt}
 use Rattle.stretch.specs.declared.characters.Stretch.{Stretch}
-use Rattle.stretch.proofs.Law.{Ahead, ahead, lead-fits}
-use Rattle.stretch.proofs.Starts.{one-octet, two-left, two-right}
+use Rattle.stretch.proofs.Law.{One, Ahead, ahead, lead-fits}
+use Rattle.stretch.proofs.Starts.{blank-octet, one-octet, two-left, two-right}
 
 -- ---- the choice of a stretch, by what the code has found
 
@@ -60,14 +61,14 @@ module _ (s : List ℕ) (at : ℕ) (st : State) where
   nothing : Passes (stretch 0 0)
   nothing = passes {r = stretch 0 0} (λ h. absurd (omega arith))
 
-  module _ (inside : at ≤ length s) (settled : settledOf (st .directions) ≡ true) where
-    ones : Passes (stretch (singlesOf (formOf (st .sets .gl)) (formOf (st .sets .gr)) (from at s)) (singlesOf (formOf (st .sets .gl)) (formOf (st .sets .gr)) (from at s)))
-    ones =
-        let n : ℕ = singlesOf (formOf (st .sets .gl)) (formOf (st .sets .gr)) (from at s) in
-        let f : 1 * n ≤ length (from at s) = lead-fits (oneAt (formOf (st .sets .gl)) (formOf (st .sets .gr))) 0 st (one-octet st settled) (from at s) in
-        passes {r = stretch n n}
-        (λ h. ahead _ 0 st (one-octet st settled) s at n n refl (omega arith) (omega arith) (omega (arith, f, from-length s at)))
+  -- units of one octet, by what starts where their test passes
+  singles : at ≤ length s → (left right : ℕ) → ((b : ℕ) (t : List ℕ) → oneAt left right (b ∷ t) ≡ true → One 1 st (elementOf (b ∷ t) st)) → Passes (stretch (singlesOf left right (from at s)) (singlesOf left right (from at s)))
+  singles inside left right one =
+      let n : ℕ = singlesOf left right (from at s) in
+      let f : 1 * n ≤ length (from at s) = lead-fits (oneAt left right) 0 st one (from at s) in
+      passes {r = stretch n n} (λ h. ahead _ 0 st one s at n n refl (omega arith) (omega arith) (omega (arith, f, from-length s at)))
 
+  module _ (inside : at ≤ length s) (settled : settledOf (st .directions) ≡ true) where
     -- characters of two octets on a side, which are elements of the state
     twos : (side set : ℕ) → (formOf set ≡ form-94x94 → Passes (stretch (2 * pairsOf side (from at s)) (pairsOf side (from at s)))) → Passes (twosOf (formOf set) side (from at s))
     twos side set f = by (eqb (formOf set) form-94x94) (λ e. f (eqb-true _ _ e)) (λ _. nothing)
@@ -88,11 +89,11 @@ module _ (s : List ℕ) (at : ℕ) (st : State) where
 
     forms : Passes (byFormsOf (formOf (st .sets .gl)) (formOf (st .sets .gr)) (from at s))
     unfolding byFormsOf
-    forms = by _ (λ _. twos 0 (st .sets .gl) lefts) (λ _. by _ (λ _. twos 1 (st .sets .gr) rights) (λ _. ones))
+    forms = by _ (λ _. twos 0 (st .sets .gl) lefts) (λ _. by _ (λ _. twos 1 (st .sets .gr) rights) (λ _. singles inside _ _ (one-octet st settled)))
 
   stretches : at ≤ length s → Passes (stretchAt (from at s) st)
   unfolding stretchAt
-  stretches inside = by (settledOf (st .directions)) (λ settled. forms inside settled) (λ _. nothing)
+  stretches inside = by (settledOf (st .directions)) (λ settled. forms inside settled) (λ _. singles inside _ _ (blank-octet st))
 
   pub stretch-ahead : (r : Stretch) → r ≡ stretchAt (from at s) st → at ≤ length s → 0 < r .octets → Ahead s at (r .octets) (r .units) st
   stretch-ahead r e inside h = given (subst Passes (sym e) (stretches inside)) h

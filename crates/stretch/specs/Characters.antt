@@ -1,6 +1,6 @@
 -- Stretches of units of one width, as the reading's code passes them. That they are the reader's elements is proved (`stretch-ahead`),
 -- so that nothing here has to be believed.
-use Prim.Native.Nat.{ℕ, zero, suc, _+_, _*_, _%_, _/_, _<_, _≤_}
+use Prim.Native.Nat.{ℕ, zero, suc, _+_, _*_, _-_, _%_, _/_, _<_, _≤_}
 use mathlib.Core.Path.{_≡_}
 use mathlib.Core.Bool.{Bool, true, false}
 use mathlib.Core.List.{List, [], _∷_}
@@ -66,18 +66,18 @@ byFormsOf left right t =
     pick (ltb 0 (twosOf left 0 t .units)) (twosOf left 0 t)
     (pick (ltb 0 (twosOf right 1 t .units)) (twosOf right 1 t) (stretch (singlesOf left right t) (singlesOf left right t)))
 
+-- tabs and newlines, which leave every state as it is: the units of one octet where neither side has characters of one
+abbrev pub blanksOf : List ℕ → ℕ
+blanksOf t = singlesOf form-94x94 0 t
+
 unfoldable pub stretchAt : List ℕ → State → Stretch
 stretchAt t st =
-    pick (settledOf (st .directions)) (byFormsOf (formOf (st .sets .gl)) (formOf (st .sets .gr)) t) (stretch 0 0)
+    pick (settledOf (st .directions)) (byFormsOf (formOf (st .sets .gl)) (formOf (st .sets .gr)) t) (stretch (blanksOf t) (blanksOf t))
 
 -- an octet of a span
 pub record Within (first last b : ℕ) : Type 0 where
   pub low : first ≤ b
   pub high : b ≤ last
-
--- each octet of a span is a unit by itself
-pub record Spans (left right first last : ℕ) : Type 0 where
-  pub each : (b : ℕ) → Within first last b → singleOf left right b ≡ true
 
 -- four octets from a place on are of a span
 pub record Four (first last : ℕ) (s : List ℕ) (at : ℕ) : Type 0 where
@@ -86,8 +86,18 @@ pub record Four (first last : ℕ) (s : List ℕ) (at : ℕ) : Type 0 where
   pub three : Within first last (getD s (at + 1 + 1) 0)
   pub four : Within first last (getD s (at + 1 + 1 + 1) 0)
 
--- only units of one octet stand from a place to another: what starts at the one ends where what starts at the other does
-pub record Along (left right : ℕ) (s : List ℕ) (at i : ℕ) : Type 0 where
+-- only units that pass a test stand from a place to another: what starts at the one ends where what starts at the other does
+pub record Along (f : List ℕ → Bool) (w : ℕ) (s : List ℕ) (at i : ℕ) : Type 0 where
   pub since : at ≤ i
   pub within : i ≤ length s
-  pub same : i + singlesOf left right (from i s) ≡ at + singlesOf left right (from at s)
+  pub same : i + suc w * leadOf f w (from i s) 0 ≡ at + suc w * leadOf f w (from at s) 0
+
+-- four octets of a span are units that pass a test, each of w octets more than one
+pub record Spans (f : List ℕ → Bool) (w first last : ℕ) : Type 0 where
+  pub four : (s : List ℕ) (i : ℕ) → 4 ≤ length s - i → Four first last s i → 4 + (i + suc w * leadOf f w (from (i + 4) s) 0) ≡ i + suc w * leadOf f w (from i s) 0
+
+-- only octets of a span stand from a place to another, four by four: they are units of every test that such octets pass
+pub record Filled (first last : ℕ) (s : List ℕ) (at i : ℕ) : Type 0 where
+  pub since : at ≤ i
+  pub within : i ≤ length s
+  pub along : (f : List ℕ → Bool) (w : ℕ) → Spans f w first last → Along f w s at i

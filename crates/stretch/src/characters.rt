@@ -4,7 +4,7 @@ ghost use mathlib.Core.Bool.{true};
 ghost use Prim.Native.Nat.{_+_, _*_, _≤_, _<_};
 ghost use lib.ListN.{length};
 ghost use Rattle.base.specs.Choice.{from};
-ghost use Rattle.stretch.specs.Characters.{glOctet, graphicOn, grOctet, singleOf, Within, Spans, Four, Along, singlesOf, pairsOf, settledOf, twosOf, byFormsOf, stretchAt};
+ghost use Rattle.stretch.specs.Characters.{glOctet, graphicOn, grOctet, singleOf, oneAt, twoAt, Within, Four, Filled, Along, singlesOf, pairsOf, settledOf, twosOf, byFormsOf, stretchAt};
 use charset::FORM_94;
 use charset::FORM_94X94;
 use charset::FORM_96;
@@ -95,9 +95,9 @@ fn four(s: &[u8], at: usize, first: u8, last: u8) -> bool
 }
 
 // The place after the octets of a span that start at a place, four by four.
-fn fours(s: &[u8], at: usize, left: u8, right: u8, first: u8, last: u8) -> usize
-    requires { ⌜ (at ≤ length (now s)) × Spans left right first last ⌝ }
-    ensures { λ r. ⌜ Along left right (now (s .entry)) at r ⌝ }
+fn fours(s: &[u8], at: usize, first: u8, last: u8) -> usize
+    requires { ⌜ at ≤ length (now s) ⌝ }
+    ensures { λ r. ⌜ Filled first last (now (s .entry)) at r ⌝ }
 {
     let mut i = at;
     while 4 <= s.len() - i {
@@ -114,19 +114,19 @@ fn fours(s: &[u8], at: usize, left: u8, right: u8, first: u8, last: u8) -> usize
 // written out so that each loop compares with constants.
 fn same_side(s: &[u8], at: usize, left: u8, right: u8, b: u8) -> usize
     requires { ⌜ at ≤ length (now s) ⌝ }
-    ensures { λ r. ⌜ Along left right (now (s .entry)) at r ⌝ }
+    ensures { λ r. ⌜ Along (oneAt left right) 0 (now (s .entry)) at r ⌝ }
 {
     if b < 0x80 {
         if left == FORM_94X94 {
             return at;
         }
-        return fours(s, at, left, right, 0x20, 0x7E);
+        return fours(s, at, 0x20, 0x7E);
     }
     if right == FORM_96 {
-        return fours(s, at, left, right, 0xA0, 0xFF);
+        return fours(s, at, 0xA0, 0xFF);
     }
     if right == FORM_94 {
-        return fours(s, at, left, right, 0xA1, 0xFE);
+        return fours(s, at, 0xA1, 0xFE);
     }
     at
 }
@@ -148,28 +148,40 @@ fn singles(s: &[u8], at: usize, left: u8, right: u8) -> usize
     i - at
 }
 
+// The place after the two-octet characters that start at a place, on a side, two by two. The spans are written out, as in `same_side`.
+fn pair_fours(s: &[u8], at: usize, side: u8) -> usize
+    requires { ⌜ at ≤ length (now s) ⌝ }
+    ensures { λ r. ⌜ Along (twoAt side) 1 (now (s .entry)) at r ⌝ }
+{
+    if side == 0 {
+        return fours(s, at, 0x21, 0x7E);
+    }
+    if side == 1 {
+        return fours(s, at, 0xA1, 0xFE);
+    }
+    at
+}
+
 // The number of the two-octet characters that start at a place, on a side.
 fn pairs(s: &[u8], at: usize, side: u8) -> usize
     requires { ⌜ at ≤ length (now s) ⌝ }
     ensures { λ r. ⌜ (r ≡ pairsOf side (from at (now (s .entry)))) × (at + 2 * r ≤ length (now (s .entry))) ⌝ }
 {
-    let mut i = at;
-    let mut n: usize = 0;
+    let mut i = pair_fours(s, at, side);
     while 1 < s.len() - i {
         let b = s[i];
         let d = s[i + 1];
         if graphic_on(side, b) {
             if graphic_on(side, d) {
                 i += 2;
-                n += 1;
             } else {
-                return n;
+                return (i - at) / 2;
             }
         } else {
-            return n;
+            return (i - at) / 2;
         }
     }
-    n
+    (i - at) / 2
 }
 
 // Whether text leaves the directions as they are.
@@ -229,7 +241,8 @@ fn by_forms(s: &[u8], at: usize, left: u8, right: u8) -> Stretch
     }
 }
 
-// The stretch at a place: of no octets where there is none, or where text would change the state.
+// The stretch at a place, of no octets where there is none. Where text would change the state, it is of tabs and newlines: the units of
+// one octet where neither side has characters of one.
 pub fn stretch_at(s: &[u8], at: usize, st: State) -> Stretch
     ensures { λ r. ⌜ r ≡ stretchAt (from at (now (s .entry))) st ⌝ }
 {
@@ -241,6 +254,11 @@ pub fn stretch_at(s: &[u8], at: usize, st: State) -> Stretch
             let right = charset::form_of(sets.gr);
             return by_forms(s, at, left, right);
         }
+        let n = singles(s, at, FORM_94X94, 0);
+        return Stretch {
+            octets: n,
+            units: n,
+        };
     }
     Stretch {
         octets: 0,

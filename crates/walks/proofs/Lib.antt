@@ -3,3 +3,5 @@ pub mod Body
 pub mod Calls
 pub mod Locals
 pub mod Filling
+pub mod Passing
+pub mod Lent

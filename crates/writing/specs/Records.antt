@@ -17,7 +17,7 @@ use Rattle.state.specs.declared.directions.Step.{Step}
 use Rattle.state.specs.declared.directions.Step.the-variants.{Goes, Stops}
 use Rattle.grammar.specs.Units.{TextUnit, char, space, tab, newline, ltr, rtl, revert, ext, unitOf, good}
 use Rattle.grammar.specs.Reading.{direct}
-pub use Rattle.grammar.specs.Records.{readable, unitRead, prepend, listReading}
+use Rattle.grammar.specs.Records.{readable, unitRead, prepend, listReading}
 use Rattle.writing.specs.Demand.{writeAnswer, outputAfter}
 
 -- the refusal of a unit by itself: 11 for "kind, set, code not used in its set, d outside 30-34, or a part outside its octets", 7 for a

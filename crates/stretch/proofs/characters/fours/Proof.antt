@@ -1,20 +1,20 @@
--- `characters::fours` meets its contract. The invariant: only units of one octet stand from `at` to `i`.
+-- `characters::fours` meets its contract. The invariant: only octets of the span stand from `at` to `i`.
 use borrow.Author.Needs.{needs}
 use Prim.Native.Nat.{_-_}
 use lib.ListN.{length}
-use Rattle.stretch.specs.Characters.{Along}
-use Rattle.stretch.proofs.Loops.{along-first, along-four}
+use Rattle.stretch.specs.Characters.{Filled}
+use Rattle.stretch.proofs.Loops.{filled-first, filled-four}
 use Rattle.stretch.proofs.characters.fours.Statement.{statement}
 use Rattle.stretch.proofs.characters.fours.Tie as tie
 
 abbrev Inv-loop : tie.InvT-loop
-Inv-loop s at left right first last i₀ i = Along left right s at i
+Inv-loop s at first last i₀ i = Filled first last s at i
 
 abbrev μ-loop : tie.MeasureT-loop
-μ-loop s at left right first last i₀ i = length s - i
+μ-loop s at first last i₀ i = length s - i
 
 loop-holds : tie.Need-loop-holds Inv-loop μ-loop
-loop-holds c = along-first _ _ _ _ (c .before .pre .0)
+loop-holds c = filled-first _ _ _ _ (c .before .pre)
 
 sub-loop : tie.Need-sub-loop Inv-loop μ-loop
 sub-loop c = search needs
@@ -29,7 +29,7 @@ loop-less : tie.Need-loop-less Inv-loop μ-loop
 loop-less c = search needs
 
 loop-again : tie.Need-loop-again Inv-loop μ-loop
-loop-again c = along-four _ _ _ _ _ _ _ (c .before .before .before .before .before .pre .1) (c .before .before .before .loop .inv) (c .before .before .loop-test .taken) (c .before .four .ensures (c .if1 .taken))
+loop-again c = filled-four _ _ _ _ _ (c .before .before .before .loop .inv) (c .before .before .loop-test .taken) (c .before .four .ensures (c .if1 .taken))
 
 returns : tie.Need-returns Inv-loop μ-loop
 returns c = c .before .before .before .loop .inv

@@ -1,21 +1,24 @@
--- `characters::pairs` meets its contract. The invariant: `n` two-octet characters were passed from `at` to `i`.
+-- `characters::pairs` meets its contract. The invariant: only two-octet characters stand from `at` to `i`.
 use borrow.Author.Needs.{needs}
-use native.Mathlib.Omega.{arith}
 use mathlib.Core.Path.{sym, _∙_}
 use Prim.Native.Nat.{_-_}
 use lib.ListN.{length}
-use Rattle.stretch.proofs.Loops.{Passed, passed-next, passed-last, pair-no, pair-not, pair-end}
+use Rattle.stretch.specs.Characters.{twoAt, Along}
+use Rattle.stretch.proofs.Loops.{along-pair, pairs-last, pair-no, pair-not, pair-end}
 use Rattle.stretch.proofs.characters.pairs.Statement.{statement}
 use Rattle.stretch.proofs.characters.pairs.Tie as tie
 
 abbrev Inv-loop : tie.InvT-loop
-Inv-loop s at side i₀ n₀ i n = Passed side s at i n
+Inv-loop s at side i₀ i = Along (twoAt side) 1 s at i
 
 abbrev μ-loop : tie.MeasureT-loop
-μ-loop s at side i₀ n₀ i n = length s - i
+μ-loop s at side i₀ i = length s - i
+
+pair-fours-requires : tie.Need-pair-fours-requires Inv-loop μ-loop
+pair-fours-requires c κs = search needs
 
 loop-holds : tie.Need-loop-holds Inv-loop μ-loop
-loop-holds c = record { place = omega arith; within = search needs; same = omega arith }
+loop-holds c = c .pair-fours .ensures
 
 sub-loop : tie.Need-sub-loop Inv-loop μ-loop
 sub-loop c = search needs
@@ -38,23 +41,29 @@ graphic-on-requires-2 c κs = search needs
 add-i : tie.Need-add-i Inv-loop μ-loop
 add-i c = search needs
 
-add-n : tie.Need-add-n Inv-loop μ-loop
-add-n c = search needs
-
 loop-less : tie.Need-loop-less Inv-loop μ-loop
 loop-less c = search needs
 
 loop-again : tie.Need-loop-again Inv-loop μ-loop
-loop-again c = passed-next _ _ _ _ _ (c .before .before .before .before .before .before .before .loop .inv) (c .before .before .before .before .before .before .loop-test .taken) (sym (c .before .before .before .graphic-on .ensures) ∙ c .before .before .if1 .taken) (sym (c .before .graphic-on2 .ensures) ∙ c .if2 .taken)
+loop-again c = along-pair _ _ _ _ (c .before .before .before .before .before .before .before .loop .inv) (c .before .before .before .before .before .before .loop-test .taken) (sym (c .before .before .before .graphic-on .ensures) ∙ c .before .before .if1 .taken) (sym (c .before .graphic-on2 .ensures) ∙ c .if2 .taken)
+
+sub-result : tie.Need-sub-result Inv-loop μ-loop
+sub-result c = search needs
 
 returns : tie.Need-returns Inv-loop μ-loop
-returns c = passed-last _ _ _ _ _ (c .before .before .before .before .before .before .before .loop .inv) (pair-not _ _ _ (c .before .before .before .before .before .before .loop-test .taken) (sym (c .before .before .before .graphic-on .ensures) ∙ c .before .before .if1 .taken) (sym (c .before .graphic-on2 .ensures) ∙ c .if2 .left))
+returns c = pairs-last _ _ _ _ (c .before .before .before .before .before .before .before .loop .inv) (pair-not _ _ _ (c .before .before .before .before .before .before .loop-test .taken) (sym (c .before .before .before .graphic-on .ensures) ∙ c .before .before .if1 .taken) (sym (c .before .graphic-on2 .ensures) ∙ c .if2 .left))
+
+sub-result-2 : tie.Need-sub-result-2 Inv-loop μ-loop
+sub-result-2 c = search needs
 
 returns-2 : tie.Need-returns-2 Inv-loop μ-loop
-returns-2 c = passed-last _ _ _ _ _ (c .before .before .before .before .before .loop .inv) (pair-no _ _ _ (c .before .before .before .before .loop-test .taken) (sym (c .before .graphic-on .ensures) ∙ c .if1 .left))
+returns-2 c = pairs-last _ _ _ _ (c .before .before .before .before .before .loop .inv) (pair-no _ _ _ (c .before .before .before .before .loop-test .taken) (sym (c .before .graphic-on .ensures) ∙ c .if1 .left))
+
+sub-result-3 : tie.Need-sub-result-3 Inv-loop μ-loop
+sub-result-3 c = search needs
 
 returns-3 : tie.Need-returns-3 Inv-loop μ-loop
-returns-3 c = passed-last _ _ _ _ _ (c .before .loop .inv) (pair-end _ _ _ (c .loop-test .left))
+returns-3 c = pairs-last _ _ _ _ (c .before .loop .inv) (pair-end _ _ _ (c .loop-test .left))
 
 pub pairs-spec : {M : Type 1} → statement M
 pairs-spec =
@@ -62,6 +71,7 @@ pairs-spec =
     (tie.spec
     Inv-loop
     μ-loop
+    pair-fours-requires
     loop-holds
     sub-loop
     shared-slice-read-b
@@ -70,9 +80,11 @@ pairs-spec =
     graphic-on-requires
     graphic-on-requires-2
     add-i
-    add-n
     loop-less
     loop-again
+    sub-result
     returns
+    sub-result-2
     returns-2
+    sub-result-3
     returns-3)

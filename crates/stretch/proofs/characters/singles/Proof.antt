@@ -4,13 +4,13 @@ use native.Mathlib.Omega.{arith}
 use mathlib.Core.Path.{sym, _∙_}
 use Prim.Native.Nat.{_-_}
 use lib.ListN.{length}
-use Rattle.stretch.specs.Characters.{Along}
-use Rattle.stretch.proofs.Loops.{along-first, along-more, along-last, single-no, single-end}
+use Rattle.stretch.specs.Characters.{oneAt, Along}
+use Rattle.stretch.proofs.Loops.{along-first, along-one, along-last, single-no, single-end}
 use Rattle.stretch.proofs.characters.singles.Statement.{statement}
 use Rattle.stretch.proofs.characters.singles.Tie as tie
 
 abbrev Inv-loop : tie.InvT-loop
-Inv-loop s at left right i₀ i = Along left right s at i
+Inv-loop s at left right i₀ i = Along (oneAt left right) 0 s at i
 
 abbrev μ-loop : tie.MeasureT-loop
 μ-loop s at left right i₀ i = length s - i
@@ -34,7 +34,7 @@ loop-less : tie.Need-loop-less Inv-loop μ-loop
 loop-less c = omega (arith, c .same-side .ensures .since, c .same-side .ensures .within)
 
 loop-again : tie.Need-loop-again Inv-loop μ-loop
-loop-again c = along-more _ _ _ _ _ _ (c .before .before .before .before .before .loop .inv) (c .before .before .before .before .loop-test .taken) (sym (c .before .before .single .ensures) ∙ c .before .if1 .taken) (c .same-side .ensures)
+loop-again c = along-one _ _ _ _ _ _ (c .before .before .before .before .before .loop .inv) (c .before .before .before .before .loop-test .taken) (sym (c .before .before .single .ensures) ∙ c .before .if1 .taken) (c .same-side .ensures)
 
 sub-result : tie.Need-sub-result Inv-loop μ-loop
 sub-result c = search needs

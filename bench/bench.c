@@ -1,0 +1,288 @@
+// Measures the proved library beside the yardstick.
+//
+//   bench table CORPUS..    for each corpus and each function: the median time of a string, and the ratios to the yardstick
+//   bench ladder CORPUS..   for each length of the strings of each corpus: the time to check, read and write one
+//
+// Times are of the thread's processor clock. Each repetition measures every function in turn, and each function directly after the
+// yardstick: a ratio is the median of the ratios within a repetition, so that what slows the whole machine down cancels out. One work
+// room and one list are used again for every string.
+#define _POSIX_C_SOURCE 200809L
+#include <stdbool.h>
+#include <stdio.h>
+#include <stdlib.h>
+#include <string.h>
+#include <time.h>
+
+#include "corpus.h"
+#include "library.h"
+#include "libx11.h"
+#include "yardstick.h"
+
+#ifdef WITH_LIMIT
+#include "limit.h"
+#endif
+
+enum { REPETITIONS = 41, LADDER_REPETITIONS = 31 };
+static const double SLICE = 2e6; // nanoseconds that a function runs for, at least, before another has its turn
+
+static ctext_unit units[CTEXT_MOST_UNITS];
+static uint8_t work[WORK_ROOM], out[CTEXT_MOST_OCTETS];
+
+// ---- the functions, each on string number i of the corpus
+
+static struct corpus corpus;
+
+// What is prepared for each string before the times are taken: its units, and its text in UTF-8.
+struct prepared {
+    ctext_unit *units;
+    size_t count;
+    char *utf8;
+};
+
+static struct prepared *prepared;
+
+static size_t run_yardstick(size_t i) { return yardstick(corpus.notes[i].octets, corpus.notes[i].length).place; }
+
+#ifdef WITH_LIMIT
+static size_t run_limit(size_t i) { return limit_table(corpus.notes[i].octets, corpus.notes[i].length).place; }
+#endif
+
+static size_t run_check(size_t i) { return ctext_check(corpus.notes[i].octets, corpus.notes[i].length).count; }
+
+static size_t run_read(size_t i) { return ctext_read(corpus.notes[i].octets, corpus.notes[i].length, units, CTEXT_MOST_UNITS).count; }
+
+static ctext_answer write_note(size_t i)
+{
+    return ctext_write(prepared[i].units, prepared[i].count, corpus.notes[i].octets, corpus.notes[i].length, work, sizeof work, out, sizeof out);
+}
+
+static size_t run_write(size_t i) { return write_note(i).count; }
+
+static size_t run_x11_read(size_t i) { return x11_read(corpus.notes[i].octets, corpus.notes[i].length); }
+
+static size_t run_x11_write(size_t i) { return x11_write(prepared[i].utf8); }
+
+struct function {
+    const char *name;
+    size_t (*run)(size_t);
+    size_t turns; // how often the whole corpus is gone through in a slice
+};
+
+enum { YARDSTICK, LIMIT, CHECK, READ, WRITE, X11_READ, X11_WRITE, FUNCTIONS };
+
+static struct function functions[FUNCTIONS] = {
+    [YARDSTICK] = {"yardstick", run_yardstick, 0}, [LIMIT] = {"limit_table", NULL, 0},          [CHECK] = {"check", run_check, 0},
+    [READ] = {"read", run_read, 0},                [WRITE] = {"write", run_write, 0},           [X11_READ] = {"libX11 read", run_x11_read, 0},
+    [X11_WRITE] = {"libX11 write", run_x11_write, 0},
+};
+
+// ---- what has to hold before anything is measured
+
+static void require(bool holds, const char *what, const char *path, size_t i)
+{
+    if (holds) return;
+    fprintf(stderr, "bench: %s, string %zu: %s\n", path, i, what);
+    exit(1);
+}
+
+static bool same_unit(const ctext_unit *a, const ctext_unit *b) { return a->kind == b->kind && a->set == b->set && a->code == b->code; }
+
+static void prepare_read(const char *path, size_t i)
+{
+    struct note n = corpus.notes[i];
+    ctext_answer a = ctext_read(n.octets, n.length, units, CTEXT_MOST_UNITS);
+    require(a.number == 0 && a.count == ctext_check(n.octets, n.length).count, "read gives another answer than check", path, i);
+    prepared[i].count = a.count;
+    prepared[i].units = malloc((a.count + 1) * sizeof *units);
+    if (!prepared[i].units) abort();
+    memcpy(prepared[i].units, units, a.count * sizeof *units);
+}
+
+static void prepare_write(const char *path, size_t i)
+{
+    ctext_answer w = write_note(i);
+    require(w.number == 0 && w.count <= corpus.notes[i].length, "write refuses, or is longer than what was read", path, i);
+    ctext_answer r = ctext_read(out, w.count, units, CTEXT_MOST_UNITS);
+    bool same = r.number == 0 && r.count == prepared[i].count;
+    for (size_t k = 0; same && k < r.count; k++) same = same_unit(&units[k], &prepared[i].units[k]);
+    require(same, "what was written reads as other units", path, i);
+}
+
+static void load(const char *path, bool with_x11)
+{
+    corpus = corpus_load(path);
+    prepared = calloc(corpus.count, sizeof *prepared);
+    if (!prepared) abort();
+    for (size_t i = 0; i < corpus.count; i++) {
+        struct note n = corpus.notes[i];
+        struct verdict v = yardstick(n.octets, n.length);
+        require(v.number == 0 && v.place == n.length, "the yardstick refuses it", path, i);
+        if (ctext_check) {
+            ctext_answer a = ctext_check(n.octets, n.length);
+            require(a.number == 0 && a.place == n.length, "check refuses it", path, i);
+        }
+        if (functions[READ].run) prepare_read(path, i);
+        if (functions[WRITE].run) prepare_write(path, i);
+        if (with_x11) prepared[i].utf8 = x11_text(n.octets, n.length);
+    }
+}
+
+// A corpus that libX11 does not convert whole, as one of extended segments, is not measured with it.
+static bool x11_takes_all(void)
+{
+    for (size_t i = 0; i < corpus.count; i++)
+        if (!prepared[i].utf8 || !x11_write(prepared[i].utf8)) return false;
+    return true;
+}
+
+// ---- times
+
+static double now(void)
+{
+    struct timespec t;
+    clock_gettime(CLOCK_THREAD_CPUTIME_ID, &t);
+    return 1e9 * (double)t.tv_sec + (double)t.tv_nsec;
+}
+
+static volatile size_t kept;
+
+// The time that the strings from `first` to before `last` take, on average over the turns.
+static double slice(const struct function *f, size_t first, size_t last)
+{
+    size_t sum = 0;
+    double begun = now();
+    for (size_t t = 0; t < f->turns; t++)
+        for (size_t i = first; i < last; i++) sum += f->run(i);
+    double time = now() - begun;
+    kept += sum;
+    return time / (double)f->turns;
+}
+
+static void choose_turns(struct function *f, size_t first, size_t last)
+{
+    for (f->turns = 1;; f->turns *= 2) {
+        double time = slice(f, first, last) * (double)f->turns;
+        if (time >= SLICE / 2) return;
+    }
+}
+
+static int by_size(const void *a, const void *b)
+{
+    double x = *(const double *)a, y = *(const double *)b;
+    return (x > y) - (x < y);
+}
+
+static double median(double *values, size_t count)
+{
+    qsort(values, count, sizeof *values, by_size);
+    return count % 2 ? values[count / 2] : (values[count / 2 - 1] + values[count / 2]) / 2;
+}
+
+// ---- the table
+
+struct times {
+    double own[REPETITIONS], by_yardstick[REPETITIONS], by_limit[REPETITIONS], by_check[REPETITIONS];
+};
+
+static void measure(struct times times[FUNCTIONS])
+{
+    for (int r = 0; r < REPETITIONS; r++) {
+        for (int k = 0; k < FUNCTIONS; k++) {
+            if (!functions[k].run) continue;
+            double base = slice(&functions[YARDSTICK], 0, corpus.count);
+            double limit = functions[LIMIT].run ? slice(&functions[LIMIT], 0, corpus.count) : 0;
+            double check = k >= READ && functions[CHECK].run ? slice(&functions[CHECK], 0, corpus.count) : 0;
+            double own = slice(&functions[k], 0, corpus.count);
+            times[k].own[r] = own;
+            times[k].by_yardstick[r] = own / base;
+            times[k].by_limit[r] = limit > 0 ? own / limit : 0;
+            times[k].by_check[r] = check > 0 ? own / check : 0;
+        }
+    }
+}
+
+static void table(const char *path)
+{
+    static struct times times[FUNCTIONS];
+    load(path, true);
+    functions[X11_READ].run = x11_is_there() && x11_takes_all() ? run_x11_read : NULL;
+    functions[X11_WRITE].run = functions[X11_READ].run ? run_x11_write : NULL;
+    for (int k = 0; k < FUNCTIONS; k++)
+        if (functions[k].run) choose_turns(&functions[k], 0, corpus.count);
+    measure(times);
+    size_t count = 0;
+    for (size_t i = 0; i < corpus.count; i++) count += prepared[i].count;
+    for (int k = 0; k < FUNCTIONS; k++)
+        if (functions[k].run)
+            printf("%s\t%s\t%zu\t%zu\t%zu\t%.1f\t%.3f\t%.3f\t%.3f\n", path, functions[k].name, corpus.count, corpus.octets, count,
+                   median(times[k].own, REPETITIONS) / (double)corpus.count, median(times[k].by_yardstick, REPETITIONS),
+                   median(times[k].by_limit, REPETITIONS), median(times[k].by_check, REPETITIONS));
+    fflush(stdout);
+}
+
+// ---- the ladder
+
+// Strings of one length, which stand together in the corpus, are a step of the ladder.
+struct step {
+    size_t first, last, turns;
+    double units, values[LADDER_REPETITIONS];
+};
+
+static size_t steps_of_corpus(struct step *steps)
+{
+    size_t count = 0;
+    for (size_t i = 0; i < corpus.count; i++) {
+        if (i == 0 || corpus.notes[i].length != corpus.notes[i - 1].length) steps[count++] = (struct step){.first = i};
+        steps[count - 1].last = i + 1;
+        steps[count - 1].units += (double)prepared[i].count;
+    }
+    return count;
+}
+
+static void climb(struct function f, struct step *steps, size_t count, const char *path)
+{
+    for (size_t i = 0; i < count; i++) {
+        choose_turns(&f, steps[i].first, steps[i].last);
+        steps[i].turns = f.turns;
+    }
+    for (int r = 0; r < LADDER_REPETITIONS; r++)
+        for (size_t i = 0; i < count; i++) {
+            f.turns = steps[i].turns;
+            steps[i].values[r] = slice(&f, steps[i].first, steps[i].last);
+        }
+    for (size_t i = 0; i < count; i++) {
+        double strings = (double)(steps[i].last - steps[i].first);
+        printf("%s\t%s\t%zu\t%.0f\t%.1f\n", path, f.name, corpus.notes[steps[i].first].length, steps[i].units / strings,
+               median(steps[i].values, LADDER_REPETITIONS) / strings);
+    }
+}
+
+static void ladder(const char *path)
+{
+    load(path, false);
+    struct step *steps = malloc(corpus.count * sizeof *steps);
+    if (!steps) abort();
+    size_t count = steps_of_corpus(steps);
+    for (int k = CHECK; k <= WRITE; k++)
+        if (functions[k].run) climb(functions[k], steps, count, path);
+    free(steps);
+    fflush(stdout);
+}
+
+int main(int count, char **words)
+{
+    bool wants_table = count > 2 && !strcmp(words[1], "table"), wants_ladder = count > 2 && !strcmp(words[1], "ladder");
+    if (!wants_table && !wants_ladder) {
+        fprintf(stderr, "usage: bench table|ladder CORPUS..\n");
+        return 2;
+    }
+#ifdef WITH_LIMIT
+    functions[LIMIT].run = run_limit;
+#endif
+    if (!ctext_check) functions[CHECK].run = NULL;
+    if (!ctext_check || !ctext_read) functions[READ].run = NULL;
+    if (!functions[READ].run || !ctext_write) functions[WRITE].run = NULL;
+    if (wants_table) x11_open();
+    for (int i = 2; i < count; i++) wants_table ? table(words[i]) : ladder(words[i]);
+    return 0;
+}

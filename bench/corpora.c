@@ -1,0 +1,317 @@
+// Writes the corpora that bench/run measures with: corpora SEED FOLDER
+//
+// A corpus is a row of accepted strings, each as its length in four octets, lowest first, and then its octets. The same seed gives the
+// same corpora. The ladder is a corpus for each kind of string, of lengths in sixteen equal steps up to the longest that is accepted; each
+// length has as many strings as make some 262,140 octets, so that a processor learns the branches of short strings no better than those
+// of long ones.
+#include <stdbool.h>
+#include <stdint.h>
+#include <stdio.h>
+#include <stdlib.h>
+#include <string.h>
+
+enum { LONGEST = 65535, NOTES = 4000, STEPS = 16, TIMES = 4 };
+
+// ---- random numbers, by splitmix64
+
+static uint64_t seed;
+
+static uint32_t below(uint32_t n)
+{
+    seed += 0x9E3779B97F4A7C15u;
+    uint64_t z = seed;
+    z = (z ^ (z >> 30)) * 0xBF58476D1CE4E5B9u;
+    z = (z ^ (z >> 27)) * 0x94D049BB133111EBu;
+    return (uint32_t)((z ^ (z >> 31)) >> 32) % n;
+}
+
+static int between(int lowest, int highest) { return lowest + (int)below((uint32_t)(highest - lowest + 1)); }
+
+// ---- a string as it grows, with the sets in force
+
+struct string {
+    size_t length;
+    uint8_t octets[LONGEST + 512];
+    const char *left, *right; // the designation that is in force
+};
+
+static void begin(struct string *s)
+{
+    s->length = 0;
+    s->left = "\x1B(B";
+    s->right = "\x1B-A";
+}
+
+static void put(struct string *s, int octet) { s->octets[s->length++] = (uint8_t)octet; }
+
+static void put_all(struct string *s, const char *octets)
+{
+    while (*octets) put(s, (uint8_t)*octets++);
+}
+
+static bool is_left(const char *designation) { return strchr(designation, '(') != NULL; }
+
+static void need(struct string *s, const char *designation)
+{
+    const char **side = is_left(designation) ? &s->left : &s->right;
+    if (!strcmp(*side, designation)) return;
+    *side = designation;
+    put_all(s, designation);
+}
+
+// A character of two octets: a kanji or kana of JIS X0208, or a hangul of KS C5601. All of these codes are assigned.
+static void two_octets(struct string *s, const char *designation)
+{
+    need(s, designation);
+    int top = is_left(designation) ? 0 : 0x80, row, cell;
+    if (strchr(designation, 'C')) row = between(0x30, 0x48), cell = between(0x21, 0x7E);
+    else if (below(3) == 0) row = between(0x24, 0x25), cell = between(0x21, 0x73);
+    else row = between(0x30, 0x4E), cell = between(0x21, 0x7E);
+    put(s, row + top);
+    put(s, cell + top);
+}
+
+// ---- notes
+
+static const char *const ascii_words[] = {"valve", "pump",  "level", "at",    "the",   "north", "gate",     "checked", "twice",
+                                          "by",    "night", "shift", "and",   "again", "after", "pressure", "fell",    "to",
+                                          "3.5",   "bar",   "see",   "sheet", "12",    "of",    "log"};
+static const char *const latin_words[] = {"pr\xE9" "vu",     "gr\xF6\xDF" "er", "ma\xF1" "ana", "d\xE9" "bit",  "\xE0 vide",
+                                          "K\xFC" "hlung",   "c\xF4t\xE9",      "\xE5pen",      "h\xF8yre",     "fa\xE7on"};
+
+#define ANY(words) (words)[below(sizeof(words) / sizeof *(words))]
+
+static void latin(struct string *s, const char *const word)
+{
+    need(s, "\x1B(B");
+    for (const char *c = word; *c; c++)
+        if (*c & 0x80) {
+            need(s, "\x1B-A");
+            break;
+        }
+    put_all(s, word);
+    put(s, ' ');
+}
+
+static void asian(struct string *s, const char *designation)
+{
+    for (int n = between(2, 7); n > 0; n--) two_octets(s, designation);
+    if (below(2) == 0) {
+        need(s, "\x1B(B");
+        put(s, ' ');
+    }
+}
+
+// A note of words, as libX11 writes them: kanji in GL with ASCII designated again after them, Latin-1 in GR, and hangul in GL, or in GR
+// as under a Korean locale.
+static void note(struct string *s, size_t about)
+{
+    const char *hangul = below(4) == 0 ? "\x1B$)C" : "\x1B$(C";
+    uint32_t latins = 1 + below(8);
+    while (s->length < about)
+        switch (below(9)) {
+        case 0: case 1: asian(s, "\x1B$(B"); break;
+        case 2: asian(s, hangul); break;
+        default:
+            if (below(8) < latins) latin(s, below(4) ? ANY(ascii_words) : ANY(latin_words));
+            else asian(s, below(2) ? "\x1B$(B" : hangul);
+        }
+}
+
+static void notes(struct string *s, size_t length)
+{
+    while (s->length + 256 < length) note(s, s->length + 100);
+    need(s, "\x1B(B");
+    while (s->length < length) put(s, between(0x61, 0x7A));
+}
+
+// ---- strings of one kind, each of exactly the length asked for
+
+static void ascii(struct string *s, size_t length)
+{
+    while (s->length < length) put(s, below(6) ? between(0x21, 0x7E) : ' ');
+}
+
+static void kanji(struct string *s, size_t length)
+{
+    need(s, "\x1B$(B");
+    while (s->length + 2 <= length) two_octets(s, "\x1B$(B");
+    while (s->length < length) put(s, 0x0A);
+}
+
+static void tabs(struct string *s, size_t length)
+{
+    while (s->length < length) put(s, 0x09);
+}
+
+static void newlines(struct string *s, size_t length)
+{
+    while (s->length < length) put(s, 0x0A);
+}
+
+static void fields(struct string *s, size_t length)
+{
+    while (s->length < length) put(s, below(4) ? between(0x21, 0x7E) : below(4) ? 0x09 : 0x0A);
+}
+
+static void latin_right(struct string *s, size_t length)
+{
+    while (s->length < length) put(s, between(0xA0, 0xFF));
+}
+
+static void katakana(struct string *s, size_t length)
+{
+    need(s, "\x1B)I");
+    while (s->length < length) put(s, between(0xA1, 0xDF));
+}
+
+// A designation, and one to three characters of its set.
+static void designations(struct string *s, size_t length)
+{
+    static const char *const all[] = {"\x1B(B", "\x1B(J", "\x1B)I", "\x1B-A", "\x1B-B", "\x1B-F", "\x1B-L", "\x1B$(A", "\x1B$(B", "\x1B$(C", "\x1B$)C"};
+    while (s->length + 16 < length) {
+        const char *d = ANY(all);
+        int top = is_left(d) ? 0 : 0x80;
+        put_all(s, d);
+        for (int n = between(1, 3); n > 0; n--) {
+            put(s, between(0x30, 0x5F) + top);
+            if (strchr(d, '$')) put(s, between(0x21, 0x7E) + top);
+        }
+    }
+    while (s->length < length) put(s, 0x0A);
+}
+
+// Directions, begun and reverted around a few characters.
+static void directions(struct string *s, size_t length)
+{
+    int depth = 0;
+    while (s->length + 8 < length) {
+        if (depth == 0 || (depth < 16 && below(2))) {
+            put_all(s, below(2) ? "\x9B" "1]" : "\x9B" "2]");
+            depth++;
+        } else {
+            put_all(s, "\x9B]");
+            depth--;
+        }
+        for (int n = depth ? between(0, 3) : 0; n > 0; n--) put(s, between(0x61, 0x7A));
+    }
+    while (s->length < length) put(s, 0x0A);
+}
+
+// Extended segments of a short name and a text of up to 40 octets, and a few characters between them.
+static void segments(struct string *s, size_t length)
+{
+    while (s->length + 64 < length) {
+        int width = between(0, 4), n = 6 + (width < 2 ? between(0, 40) : between(0, 10) * width);
+        put_all(s, "\x1B%/");
+        put(s, 0x30 + width);
+        put(s, 0x80 + n / 128);
+        put(s, 0x80 + n % 128);
+        put_all(s, "koi8r\x02");
+        for (n -= 6; n > 0; n--) put(s, between(0, 255));
+        for (n = between(0, 3); n > 0; n--) put(s, between(0x61, 0x7A));
+    }
+    while (s->length < length) put(s, 0x0A);
+}
+
+// ---- files
+
+static struct string text;
+static const char *folder;
+
+static FILE *create(const char *name)
+{
+    char path[4096];
+    snprintf(path, sizeof path, "%s/%s.corpus", folder, name);
+    FILE *f = fopen(path, "wb");
+    if (!f) {
+        perror(path);
+        exit(1);
+    }
+    return f;
+}
+
+static void store(FILE *f)
+{
+    uint32_t n = (uint32_t)text.length;
+    uint8_t head[4] = {(uint8_t)n, (uint8_t)(n >> 8), (uint8_t)(n >> 16), (uint8_t)(n >> 24)};
+    if (fwrite(head, 1, 4, f) != 4 || fwrite(text.octets, 1, n, f) != n) {
+        perror("corpora");
+        exit(1);
+    }
+}
+
+static void close_file(FILE *f)
+{
+    if (fclose(f)) {
+        perror("corpora");
+        exit(1);
+    }
+}
+
+typedef void fill(struct string *, size_t length);
+
+static void strings(const char *name, int count, size_t length, fill *with)
+{
+    FILE *f = create(name);
+    for (int i = 0; i < count; i++) {
+        begin(&text);
+        with(&text, length);
+        store(f);
+    }
+    close_file(f);
+}
+
+static void ladder(const char *kind, fill *with)
+{
+    char name[64];
+    snprintf(name, sizeof name, "ladder-%s", kind);
+    FILE *f = create(name);
+    for (size_t i = 1; i <= STEPS; i++)
+        for (size_t k = 0; k < (TIMES * STEPS + i / 2) / i; k++) {
+            begin(&text);
+            with(&text, LONGEST * i / STEPS);
+            store(f);
+        }
+    close_file(f);
+}
+
+static void all_notes(void)
+{
+    FILE *f = create("notes");
+    for (int i = 0; i < NOTES; i++) {
+        begin(&text);
+        note(&text, (size_t)between(44, 212));
+        store(f);
+    }
+    close_file(f);
+}
+
+int main(int count, char **words)
+{
+    if (count != 3) {
+        fprintf(stderr, "usage: corpora SEED FOLDER\n");
+        return 2;
+    }
+    seed = strtoull(words[1], NULL, 0);
+    folder = words[2];
+    all_notes();
+    strings("ascii", 1, LONGEST, ascii);
+    strings("kanji", 1, LONGEST, kanji);
+    strings("kanji-1000", 32, 4 + 2 * 1000, kanji);
+    strings("designations", 1, LONGEST, designations);
+    strings("tabs", 1, LONGEST, tabs);
+    strings("newlines", 1, LONGEST, newlines);
+    strings("fields", 1, LONGEST, fields);
+    strings("latin", 1, LONGEST, latin_right);
+    strings("katakana", 1, LONGEST, katakana);
+    strings("directions", 1, LONGEST, directions);
+    strings("segments", 1, LONGEST, segments);
+    ladder("notes", notes);
+    ladder("ascii", ascii);
+    ladder("kanji", kanji);
+    ladder("designations", designations);
+    ladder("directions", directions);
+    ladder("segments", segments);
+    return 0;
+}

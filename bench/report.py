@@ -1,0 +1,229 @@
+"""Prints the tables of a run of the benchmark, and writes them with a plot: report.py ROOM DOCS
+
+ROOM holds what bench/run measured: table.tsv, ladder.tsv, stack.tsv and code.txt.
+"""
+import datetime
+import os
+import platform
+import re
+import subprocess
+import sys
+from collections import defaultdict
+from pathlib import Path
+
+import plot
+
+ROOM, DOCS = Path(sys.argv[1]), Path(sys.argv[2])
+FUNCTIONS = ["check", "read", "write", "libX11 read", "libX11 write"]
+
+
+def rows(name):
+    return [line.split("\t") for line in (ROOM / name).read_text().splitlines()]
+
+
+class Measured:
+    """The figures of one corpus: of each function its time a string, and its ratios to the yardstick, to limit_table and to check."""
+
+    def __init__(self, path, strings, octets, units):
+        own = Path(path).parent == ROOM / "corpora"
+        self.name = Path(path).stem + ("" if own else " (beside)")
+        self.kind = Path(path).stem
+        self.strings, self.octets, self.units = int(strings), int(octets), int(units)
+        self.functions = {}
+
+    def ratio(self, function, to):
+        return self.functions.get(function, {}).get(to) or None
+
+
+def measured():
+    corpora = {}
+    for path, function, strings, octets, units, time, *ratios in rows("table.tsv"):
+        corpus = corpora.setdefault(path, Measured(path, strings, octets, units))
+        corpus.functions[function] = dict(zip(["time", "yardstick", "limit_table", "check"], [float(time), *map(float, ratios)]))
+    return list(corpora.values())
+
+
+def number(x, digits=2):
+    return "" if x is None else f"{x:,.{digits}f}"
+
+
+def table(head, lines):
+    """A table in Markdown whose columns are as wide as what they hold; all but the first are set to the right."""
+    widths = [max(len(line[i]) for line in [head, *lines]) for i in range(len(head))]
+    shown = lambda line: "| " + " | ".join(c.ljust(w) if i == 0 else c.rjust(w) for i, (c, w) in enumerate(zip(line, widths))) + " |"
+    rule = "|" + "|".join("-" * (w + 2) if i == 0 else "-" * (w + 1) + ":" for i, w in enumerate(widths)) + "|"
+    return "\n".join([shown(head), rule, *map(shown, lines)])
+
+
+def ratios(corpora, base):
+    present = [f for f in FUNCTIONS if any(c.ratio(f, base) for c in corpora)]
+    head = ["Corpus", "Strings", "Octets", "Units", f"{base}, ns a string", *present]
+    lines = []
+    for c in corpora:
+        time = c.functions[base]["time"]
+        lines.append([c.name, f"{c.strings:,}", f"{c.octets:,}", f"{c.units:,}" if c.units else "", number(time, 0), *(number(c.ratio(f, base)) for f in present)])
+    return table(head, lines)
+
+
+# ---- the figures that are asked for
+
+TARGETS = [
+    ("check", "base", 1.5, ["notes", "designations", "ascii"]),
+    ("check", "base", 2.0, ["kanji", "kanji-1000"]),
+    ("check", "base", 3.0, ["tabs", "newlines", "latin", "katakana"]),
+    ("read", "check", 3.0, ["notes", "designations"]),
+    ("read", "check", 3.0, None),
+    ("write", "base", 4.5, ["notes"]),
+]
+
+
+def targets(corpora, base):
+    lines = []
+    for function, to, most, kinds in TARGETS:
+        to = base if to == "base" else to
+        found = [(c.ratio(function, to), c.name) for c in corpora if kinds is None or c.kind in kinds]
+        found = [(r, name) for r, name in found if r]
+        if not found:
+            continue
+        worst, name = max(found)
+        what = ", ".join(kinds) if kinds else "every corpus"
+        lines.append([f"`{function}` to {to}: {what}", number(most, 1), number(worst), name, "yes" if worst <= most else "NO"])
+    return table(["Ratio of", "At most", "Largest", "On", "Met"], lines)
+
+
+# ---- straight lines
+
+
+def ladders():
+    """For each function and kind of string: the sizes (octets for a reader, units for the writer) and the times."""
+    found = defaultdict(list)
+    for path, function, octets, units, time in rows("ladder.tsv"):
+        kind = Path(path).stem.removeprefix("ladder-")
+        found[function, kind].append((int(units if function == "write" else octets), float(time)))
+    return found
+
+
+def straightness(found):
+    head = ["Function and strings", "Sizes", "ns for each octet or unit", "Largest deviation from the line"]
+    lines = []
+    for (function, kind), points in found.items():
+        slope, start = plot.line(points)
+        off = max(abs(t - (start + slope * n)) / (start + slope * n) for n, t in points)
+        lines.append([f"{function}, {kind}", f"{points[0][0]:,} to {points[-1][0]:,}", number(slope), f"{100 * off:.1f} %"])
+    return table(head, lines)
+
+
+# ---- the archive
+
+
+class Code:
+    """A function of the archive: the octets of its frame, what it calls, and how often packed minimum and packed addition stand in it."""
+
+    def __init__(self):
+        self.frame, self.calls, self.minimum, self.addition = 8, set(), 0, 0
+
+    def instruction(self, words):
+        self.frame += 8 if words[0] == "push" else 0
+        own = re.fullmatch(r"\$0x([0-9a-f]+),%rsp", words[-1])
+        self.frame += int(own[1], 16) if own and words[0] == "sub" else 0
+        self.minimum += bool(re.fullmatch(r"v?pminu[bwd]", words[0]))
+        self.addition += bool(re.fullmatch(r"v?padd(us|s)?[bwd]", words[0]))
+
+
+def functions_of_archive():
+    found, code = defaultdict(Code), None
+    for text in (ROOM / "code.txt").read_text().splitlines():
+        begun = re.match(r"[0-9a-f]+ <(.*)>:", text)
+        if begun:
+            code = found[begun[1]]
+        elif "R_X86_64_PLT32" in text or "R_X86_64_PC32" in text:
+            called = re.sub(r"[-+]0x[0-9a-f]+$", "", text.split()[-1]).removeprefix(".text.")
+            code.calls.add(called)
+        elif re.match(r" +[0-9a-f]+:\t", text):
+            code.instruction(text.split("\t", 1)[1].split())
+    return dict(found)
+
+
+def deepest(found, name, above=()):
+    """The octets of the frames on the deepest path of calls from a function; none where a function calls itself."""
+    if name in above:
+        return None
+    below = [deepest(found, c, (*above, name)) for c in found[name].calls if c in found]
+    return None if None in below else found[name].frame + max(below, default=0)
+
+
+def stack(found):
+    head = ["Function", "Measured, at most", "By the frames of its code"]
+    return table(head, [[f"`{name}`", f"{int(n):,}", f"{deepest(found, name) or 0:,}"] for name, n in rows("stack.tsv")])
+
+
+def packed(found):
+    some = sorted((name, c) for name, c in found.items() if c.minimum or c.addition)
+    where = "; ".join(f"`{name}` {c.minimum} and {c.addition}" for name, c in some)
+    total = sum(c.minimum for _, c in some), sum(c.addition for _, c in some)
+    return f"Packed minimum: {total[0]}; packed addition: {total[1]}{f' ({where})' if where else ''}."
+
+
+# ---- the page
+
+
+def said(*words):
+    return subprocess.run(words, capture_output=True, text=True, check=False).stdout.strip()
+
+
+def machine():
+    cpuinfo = Path("/proc/cpuinfo").read_text() if os.path.exists("/proc/cpuinfo") else ""
+    model = re.search(r"model name\s*: (.*)", cpuinfo)
+    return f"{model[1] if model else platform.processor()}, {os.cpu_count()} processors, {platform.system()} {platform.machine()}"
+
+
+def page(corpora):
+    base = "limit_table" if all("limit_table" in c.functions for c in corpora) else "yardstick"
+    found, code = ladders(), functions_of_archive()
+    load = " ".join(f"{x:.1f}" for x in os.getloadavg())
+    parts = [
+        "# Benchmark",
+        "Written by `bench/run`, which measures anew; `bench/run` itself says what it needs.",
+        f"- Date: {datetime.datetime.now(datetime.timezone.utc):%Y-%m-%d %H:%M} UTC, commit {said('git', '-C', str(DOCS), 'rev-parse', '--short', 'HEAD')}\n"
+        f"- Machine: {machine()}; load at the end {load}\n"
+        f"- C compiler: {said('gcc', '--version').splitlines()[0]}, -O3 -march=x86-64-v2",
+        "## Times",
+        "Each figure is a ratio: the processor time of a function on all strings of a corpus, to that of the yardstick on the same strings in the "
+        "same run (the median over the repetitions of the ratio in each). `check`, `read` (into a list) and `write` (checking the units, planning "
+        "and writing) are the proved library's, with one list and one work room used again. The yardstick is `bench/yardstick.c`, which answers "
+        "the number and the place of a refusal alone. libX11's functions convert to and from UTF-8; where nothing stands, libX11 does not convert "
+        "the corpus, or is not installed.",
+        ratios(corpora, "yardstick"),
+    ]
+    if base == "limit_table":
+        parts += ["The same by `limit_table`, another validator in C, that stood beside the repository in this run:", ratios(corpora, base)]
+    parts += ["## What is asked for", targets(corpora, base)]
+    if found:
+        parts += [
+            "## Straight lines",
+            "Strings of each kind, of lengths in sixteen equal steps. The line is that of least squares; a deviation is a part of the line's value. "
+            "A work room of many units is larger than a processor's nearer caches, which bends the writer's line a little.",
+            "![Time against size](benchmark.svg)",
+            straightness(found),
+        ]
+        (DOCS / "benchmark.svg").write_text(plot.svg(found))
+    parts += [
+        "## Stack",
+        "Octets of stack: what each function, with the call from C, changed of a stack that was filled before, on the corpora and on strings and "
+        "lists made wrong; and the sum of the frames on the deepest path of calls in the archive, which holds for every input, since no function "
+        "calls itself. Nothing is allocated.",
+        stack(code),
+        "## Vector instructions in the archive",
+        "The plan of the writer is meant to take sixteen values at once. No proof notices where the compiler stops doing so; these counts do.",
+        packed(code),
+    ]
+    return "\n\n".join(parts) + "\n"
+
+
+def main():
+    text = page(measured())
+    (DOCS / "BENCHMARK.md").write_text(text)
+    print(text)
+
+
+main()

@@ -1,0 +1,200 @@
+-- One turn of the writing by number: what is designated, the unit's octets on a side, and the writing of the rest.
+use mathlib.Core.Path.{_≡_, refl, sym, ap, ap₂, _∙_, subst}
+use mathlib.Core.Bool.{Bool, true, false}
+use mathlib.Core.List.{List, [], _∷_, _++_, append-assoc, append-nil}
+use mathlib.Core.Option.{Option}
+use Prim.Native.Nat.{ℕ, suc, _+_, _-_, _*_, _/_, _%_, _≤_, _<_}
+use native.Mathlib.Omega.{arith}
+use lib.Dec.{ltb, eqb}
+use borrow.Author.Tests.{ltb-true, ltb-false, lt-ltb}
+use lib.ListN.{length, getD, length-append}
+use Rattle.base.specs.Choice.{pick}
+use Rattle.charset.specs.declared.Side.{Side}
+use Rattle.state.specs.State.{Standing, fresh}
+use Rattle.state.specs.declared.Sets.{Sets}
+use Rattle.grammar.specs.Units.{TextUnit, octets}
+use Rattle.writing.specs.Writing.{Need, choose, after, met, need, cost, used, designated, writing}
+use Rattle.writing.proofs.Needs.{chosen-met}
+use Rattle.rows.specs.Rows.{tagAt, startFrom, unitTagged, unitFrom, unitsIn}
+use Rattle.plan.specs.Numbers.{setsInGL, numbered, classOf, needOfClass, afterFirst, afterSecond, chosenBy, afterChoice, change, sideAt}
+use Rattle.plan.specs.Costs.{restFrom, secondSlot}
+use Rattle.plan.proofs.Numbers.{Choice, choice-at, chosen-base, chosen-single, chosen-free, used-side}
+use Rattle.plan.proofs.Units.{need-tagged}
+use Rattle.plan.proofs.Rest.{class-below, fresh-number}
+use Rattle.emit.specs.Emit.{Written, sideOf, Ready}
+use Rattle.emit.proofs.Stores.{written-both, written-none, written-length, written-as, segment-octets, fixed-octets}
+
+-- the octets of a unit that is no character are the same on each side
+side-free : (o : List ℕ) (t a b s : ℕ) (d e : Side) → 15 ≤ t → octets d (unitTagged o t a b s) ≡ octets e (unitTagged o t a b s)
+side-free o t a b s d e h = go (ltb t 21) refl (ltb t 26) refl
+  where
+    go : (p : Bool) → ltb t 21 ≡ p → (q : Bool) → ltb t 26 ≡ q → octets d (unitTagged o t a b s) ≡ octets e (unitTagged o t a b s)
+    go true p q r =
+        let l = ltb-true t 21 p in
+        fixed-octets o d t a b s h (λ x y. omega arith) ∙ sym (fixed-octets o e t a b s h (λ x y. omega arith))
+    go false p true r =
+        segment-octets o d t a b s _ _ refl refl (ltb-false t 21 p) (ltb-true t 26 r) ∙ sym (segment-octets o e t a b s _ _ refl refl (ltb-false t 21 p) (ltb-true t 26 r))
+    go false p false r =
+        let l = ltb-false t 26 r in
+        fixed-octets o d t a b s h (λ x y. omega arith) ∙ sym (fixed-octets o e t a b s h (λ x y. omega arith))
+
+-- one turn of the writing
+turn : (u : TextUnit) (us : List TextUnit) (s t : Sets) (p : Option Standing) (d : Side) → choose (need u) (cost us) s ≡ p → after (choose (need u) (cost us) s) s ≡ t
+    → octets (used (need u) t) u ≡ octets d u → writing (u ∷ us) s ≡ designated p ++ (octets d u ++ writing us t)
+unfolding writing
+turn u us s t p d ep et ed =
+    ap₂ (λ (a : Option Standing) (b : Sets). designated a ++ (octets (used (need u) b) u ++ writing us b)) ep et
+    ∙ ap (λ (x : List ℕ). designated p ++ (x ++ writing us t)) ed
+
+class-character : (t : ℕ) → t < 15 → classOf t ≡ t
+unfolding classOf pick
+class-character t h = rw (lt-ltb t 16 (omega arith))
+
+module _ (o w : List ℕ) (n i k : ℕ) (h : i < n) (hk : k < 80) where
+  abbrev x : ℕ
+  x = classOf (tagAt w i)
+
+  abbrev unit : TextUnit
+  unit = unitFrom o w (72 * i)
+
+  abbrev rest : List TextUnit
+  rest = unitsIn o w (suc i) (n - suc i)
+
+  abbrev next : ℕ
+  next = afterChoice x k (λ m. restFrom o w n (suc i) (numbered m))
+
+  its-choice : Choice (needOfClass x) (cost rest) x k next (restFrom o w n (suc i) (numbered next))
+  its-choice = choice-at (cost rest) (λ m. cost rest (numbered m)) (λ j l. refl) x k hk (class-below (tagAt w i))
+
+  its-need : need unit ≡ needOfClass x
+  its-need = need-tagged o (tagAt w i) (getD w (72 * i + 66) 0) (getD w (72 * i + 67) 0) (startFrom w (72 * i))
+
+  next-met : met (needOfClass x) (numbered next) ≡ true
+  next-met = rw (its-choice .state) (chosen-met (needOfClass x) (cost rest) (numbered k))
+
+  its-side : octets (used (need unit) (numbered next)) unit ≡ octets (sideAt (tagAt w i) next) unit
+  its-side = go (ltb (tagAt w i) 15) refl
+    where
+      go : (b : Bool) → ltb (tagAt w i) 15 ≡ b → octets (used (need unit) (numbered next)) unit ≡ octets (sideAt (tagAt w i) next) unit
+      go false e =
+          side-free o (tagAt w i) (getD w (72 * i + 66) 0) (getD w (72 * i + 67) 0) (startFrom w (72 * i)) (used (need unit) (numbered next)) (sideAt (tagAt w i) next) (ltb-false (tagAt w i) 15 e)
+      go true e =
+          let l = ltb-true (tagAt w i) 15 e in
+          let c = class-character (tagAt w i) l in
+          ap (λ (d : Side). octets d unit)
+          (ap (λ (q : Need). used q (numbered next)) (its-need ∙ ap needOfClass c)
+          ∙ used-side (tagAt w i) next l (its-choice .below) (subst (λ (y : ℕ). met (needOfClass y) (numbered next) ≡ true) c next-met))
+
+  write-step : writing (unitsIn o w i (n - i)) (numbered k) ≡ designated (change k next) ++ (octets (sideAt (tagAt w i) next) unit ++ writing rest (numbered next))
+  unfolding unitsIn
+  write-step =
+      let e : n - i ≡ suc (n - suc i) = omega arith in
+      let c : choose (need unit) (cost rest) (numbered k) ≡ choose (needOfClass x) (cost rest) (numbered k) = ap (λ (q : Need). choose q (cost rest) (numbered k)) its-need in
+      ap (λ (m : ℕ). writing (unitsIn o w i m) (numbered k)) e
+      ∙ turn unit rest (numbered k) (numbered next) (change k next) (sideAt (tagAt w i) next)
+      (c ∙ sym (its-choice .changed)) (ap (λ (q : Option Standing). after q (numbered k)) c ∙ sym (its-choice .state)) its-side
+
+  next-below : next < 80
+  next-below = its-choice .below
+
+  -- the number chosen by what the row keeps is that one
+  by-row : Ready o w n → (y : ℕ) → y ≡ x → chosenBy y k (getD w (72 * i + k % 16) 0) (getD w (72 * i + secondSlot y k) 0) ≡ next
+  by-row r y e = rw e (go (ltb x 12) refl (ltb x 16) refl)
+    where
+      f : ℕ → ℕ
+      f m = restFrom o w n (suc i) (numbered m)
+
+      go : (a : Bool) → ltb x 12 ≡ a → (b : Bool) → ltb x 16 ≡ b → chosenBy x k (getD w (72 * i + k % 16) 0) (getD w (72 * i + secondSlot x k) 0) ≡ chosenBy x k (f (afterFirst x k)) (f (afterSecond x k))
+      go true qa b qb = chosen-single x k (getD w (72 * i + k % 16) 0) (getD w (72 * i + secondSlot x k) 0) (f (afterFirst x k)) (f (afterSecond x k)) (ltb-true x 12 qa) hk
+      go false qa true qb =
+          let c = r i h (ltb-false x 12 qa, ltb-true x 16 qb) in
+          chosen-base x k (c .base) (getD w (72 * i + k % 16) 0) (getD w (72 * i + secondSlot x k) 0) (f (afterFirst x k)) (f (afterSecond x k)) (c .first-cost k hk) (c .second-cost k hk)
+      go false qa false qb =
+          let l = ltb-false x 16 qb in
+          let z : x ≡ 16 = omega (arith, class-below (tagAt w i)) in
+          subst (λ (q : ℕ). chosenBy q k (getD w (72 * i + k % 16) 0) (getD w (72 * i + secondSlot q k) 0) ≡ chosenBy q k (f (afterFirst q k)) (f (afterSecond q k))) (sym z)
+          (chosen-free k (getD w (72 * i + k % 16) 0) (getD w (72 * i + secondSlot 16 k) 0) (f (afterFirst 16 k)) (f (afterSecond 16 k)))
+
+-- ---- the loop
+
+abbrev whole : List ℕ → List ℕ → ℕ → List ℕ
+whole o w n = writing (unitsIn o w 0 n) (fresh .sets)
+
+-- i units are written, and number k stands
+pub record Going (o w before : List ℕ) (n i k at : ℕ) (after : List ℕ) : Type 0 where
+  pub done : List ℕ
+  pub put : Written before 0 done at after
+  pub rest : done ++ writing (unitsIn o w i (n - i)) (numbered k) ≡ whole o w n
+  pub state : k < 80
+
+pub going-none : (o w before : List ℕ) (n : ℕ) → Going o w before n 0 1 0 before
+going-none o w before n =
+    record {
+      done = [];
+      put = written-none before 0;
+      rest = ap₂ (λ (m : ℕ) (s : Sets). writing (unitsIn o w 0 m) s) (let e : n - 0 ≡ n = omega arith in e) fresh-number;
+      state = omega arith;
+    }
+
+module _ (o w before : List ℕ) (n i k at : ℕ) (after : List ℕ) (g : Going o w before n i k at after) (r : Ready o w n) (h : i < n)
+    (x j : ℕ) (ex : x ≡ classOf (tagAt w i)) (ej : j ≡ chosenBy x k (getD w (72 * i + k % 16) 0) (getD w (72 * i + secondSlot x k) 0)) where
+  planned : j ≡ next o w n i k h (g .state)
+  planned = ej ∙ by-row o w n i k h (g .state) r x ex
+
+  abbrev unit′ : List ℕ
+  unit′ = octets (sideAt (tagAt w i) j) (unitFrom o w (72 * i))
+
+  abbrev rest′ : List ℕ
+  rest′ = writing (unitsIn o w (suc i) (n - suc i)) (numbered j)
+
+  step : writing (unitsIn o w i (n - i)) (numbered k) ≡ designated (change k j) ++ (unit′ ++ rest′)
+  step = rw planned (write-step o w n i k h (g .state))
+
+  pub j-below : j < 80
+  j-below = rw planned (next-below o w n i k h (g .state))
+
+  lengths : at + (length (designated (change k j)) + length unit′) ≤ length (whole o w n)
+  lengths =
+      omega (
+        arith,
+        g .put .next,
+        ap length (g .rest),
+        length-append (g .done) (writing (unitsIn o w i (n - i)) (numbered k)),
+        ap length step,
+        length-append (designated (change k j)) (unit′ ++ rest′),
+        length-append unit′ rest′,
+      )
+
+  pub room-change : length (whole o w n) ≤ length before → at + length (designated (change k j)) ≤ length after
+  room-change fits = omega (arith, lengths, written-length (g .put))
+
+  module _ (c t : ℕ) (ec : c ≡ getD setsInGL (j / 16) 0) (et : t ≡ tagAt w i) where
+    abbrev pub shownNow : List ℕ
+    shownNow = octets (sideOf (eqb c t)) (unitFrom o w (72 * i))
+
+    shown-same : shownNow ≡ unit′
+    unfolding sideAt
+    shown-same = ap₂ (λ (y z : ℕ). octets (sideOf (eqb y z)) (unitFrom o w (72 * i))) ec et
+
+    pub room-unit : length (whole o w n) ≤ length before → (a : ℕ) (mid : List ℕ) → Written after at (designated (change k j)) a mid → a + length shownNow ≤ length mid
+    room-unit fits a mid p = omega (arith, lengths, written-length (g .put), p .next, written-length p, ap length shown-same)
+
+    pub going-more : (a b : ℕ) (mid last : List ℕ) → Written after at (designated (change k j)) a mid → Written mid a shownNow b last → Going o w before n (i + 1) j b last
+    going-more a b mid last p q =
+        record {
+          done = g .done ++ (designated (change k j) ++ unit′);
+          put = written-both (g .put) (written-both p (written-as (sym shown-same) q));
+          rest =
+              let e : i + 1 ≡ suc i = omega arith in
+              rw e
+              (append-assoc (g .done) (designated (change k j) ++ unit′) rest′
+              ∙ ap (λ (y : List ℕ). g .done ++ y) (append-assoc (designated (change k j)) unit′ rest′ ∙ sym step)
+              ∙ g .rest);
+          state = j-below;
+        }
+
+pub going-end : (o w before : List ℕ) (n i k at : ℕ) (after : List ℕ) → Going o w before n i k at after → i ≤ n → n ≤ i → Written before 0 (whole o w n) at after
+unfolding unitsIn writing
+going-end o w before n i k at after g h h′ =
+    let e : n - i ≡ 0 = omega arith in
+    written-as (sym (g .rest) ∙ ap (λ (m : ℕ). g .done ++ writing (unitsIn o w i m) (numbered k)) e ∙ append-nil (g .done)) (g .put)

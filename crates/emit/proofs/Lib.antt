@@ -1,0 +1,4 @@
+pub mod Stores
+pub mod Chosen
+pub mod Forward
+pub mod Whole

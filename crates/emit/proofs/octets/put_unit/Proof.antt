@@ -1,0 +1,217 @@
+-- `emit::octets::put_unit` meets its contract, tag by tag.
+use native.Mathlib.Omega.{arith}
+use mathlib.Core.Path.{refl, ap}
+use lib.ListN.{length, getD, length-set}
+use Rattle.emit.proofs.Stores.{written-1, written-2, written-as, one-octet, two-octets, fixed-octets, segment-octets, segment-length}
+use Prim.Native.Nat.{_+_}
+use mathlib.Core.Logic.{⊎-elim}
+use Rattle.rows.specs.Rows.{startFrom}
+use Rattle.emit.specs.Emit.{sideOf}
+use borrow.Author.Needs.{needs}
+use Rattle.emit.proofs.octets.put_unit.Statement.{statement}
+use Rattle.emit.proofs.octets.put_unit.Tie as tie
+
+add-tag : tie.Need-add-tag
+add-tag c = search needs
+
+shared-slice-read-tag : tie.Need-shared-slice-read-tag
+shared-slice-read-tag c = search needs
+
+add-on-side : tie.Need-add-on-side
+add-on-side c = search needs
+
+shared-slice-read-on-side : tie.Need-shared-slice-read-on-side
+shared-slice-read-on-side c = search needs
+
+on-side-requires : tie.Need-on-side-requires
+on-side-requires c κs = search needs
+
+slice-write-out : tie.Need-slice-write-out
+slice-write-out c =
+    let w = c .before .before .before .before .before .before .before .args .work .now in
+    let r = c .before .before .before .before .before .before .before .args .row in
+    let e = one-octet (c .before .before .before .before .before .before .before .args .segments .now) (sideOf (c .before .before .before .before .before .before .before .args .left)) (getD w (r + 65) 0) (getD w (r + 66) 0) (getD w (r + 67) 0) (startFrom w r) _ (c .on-side .ensures) (c .before .before .if1 .taken) in
+    omega (arith, ap length e, c .before .before .before .before .before .before .before .pre .1)
+
+add-result : tie.Need-add-result
+add-result c = search needs
+
+same-length : tie.Need-same-length
+same-length c = search needs
+
+returns : tie.Need-returns
+returns c =
+    let w = c .before .before .before .before .before .before .before .args .work .now in
+    let r = c .before .before .before .before .before .before .before .args .row in
+    let e = one-octet (c .before .before .before .before .before .before .before .args .segments .now) (sideOf (c .before .before .before .before .before .before .before .args .left)) (getD w (r + 65) 0) (getD w (r + 66) 0) (getD w (r + 67) 0) (startFrom w r) _ (c .on-side .ensures) (c .before .before .if1 .taken) in
+    written-as e (written-1 _ _ _)
+
+add-on-side-2 : tie.Need-add-on-side-2
+add-on-side-2 c = search needs
+
+shared-slice-read-on-side-2 : tie.Need-shared-slice-read-on-side-2
+shared-slice-read-on-side-2 c = search needs
+
+on-side-requires-2 : tie.Need-on-side-requires-2
+on-side-requires-2 c κs = search needs
+
+slice-write-out-2 : tie.Need-slice-write-out-2
+slice-write-out-2 c =
+    let w = c .before .before .before .before .before .before .before .before .args .work .now in
+    let r = c .before .before .before .before .before .before .before .before .args .row in
+    let e = two-octets (c .before .before .before .before .before .before .before .before .args .segments .now) (sideOf (c .before .before .before .before .before .before .before .before .args .left)) (getD w (r + 65) 0) (getD w (r + 66) 0) (getD w (r + 67) 0) (startFrom w r) _ _ refl refl (c .before .before .before .if1 .left) (c .before .before .if2 .taken) in
+    omega (arith, ap length e, c .before .before .before .before .before .before .before .before .pre .1)
+
+add-on-side-3 : tie.Need-add-on-side-3
+add-on-side-3 c = search needs
+
+shared-slice-read-on-side-3 : tie.Need-shared-slice-read-on-side-3
+shared-slice-read-on-side-3 c = search needs
+
+on-side-requires-3 : tie.Need-on-side-requires-3
+on-side-requires-3 c κs = search needs
+
+add-out : tie.Need-add-out
+add-out c = search needs
+
+slice-write-out-3 : tie.Need-slice-write-out-3
+slice-write-out-3 c =
+    let w = c .before .before .before .before .before .before .before .before .before .before .args .work .now in
+    let r = c .before .before .before .before .before .before .before .before .before .before .args .row in
+    let e = two-octets (c .before .before .before .before .before .before .before .before .before .before .args .segments .now) (sideOf (c .before .before .before .before .before .before .before .before .before .before .args .left)) (getD w (r + 65) 0) (getD w (r + 66) 0) (getD w (r + 67) 0) (startFrom w r) _ _ (c .before .before .on-side2 .ensures) (c .on-side3 .ensures) (c .before .before .before .before .before .if1 .left) (c .before .before .before .before .if2 .taken) in
+    simp length-set (omega (arith, ap length e, c .before .before .before .before .before .before .before .before .before .before .pre .1))
+
+add-result-2 : tie.Need-add-result-2
+add-result-2 c = search needs
+
+same-length-2 : tie.Need-same-length-2
+same-length-2 c = search needs
+
+returns-2 : tie.Need-returns-2
+returns-2 c =
+    let w = c .before .before .before .before .before .before .before .before .before .before .args .work .now in
+    let r = c .before .before .before .before .before .before .before .before .before .before .args .row in
+    let e = two-octets (c .before .before .before .before .before .before .before .before .before .before .args .segments .now) (sideOf (c .before .before .before .before .before .before .before .before .before .before .args .left)) (getD w (r + 65) 0) (getD w (r + 66) 0) (getD w (r + 67) 0) (startFrom w r) _ _ (c .before .before .on-side2 .ensures) (c .on-side3 .ensures) (c .before .before .before .before .before .if1 .left) (c .before .before .before .before .if2 .taken) in
+    written-as e (written-2 _ _ _ _)
+
+add-count-of : tie.Need-add-count-of
+add-count-of c = search needs
+
+shared-slice-read-count-of : tie.Need-shared-slice-read-count-of
+shared-slice-read-count-of c = search needs
+
+add-count-of-2 : tie.Need-add-count-of-2
+add-count-of-2 c = search needs
+
+shared-slice-read-count-of-2 : tie.Need-shared-slice-read-count-of-2
+shared-slice-read-count-of-2 c = search needs
+
+count-of-requires : tie.Need-count-of-requires
+count-of-requires c κs = search needs
+
+add-four-octets : tie.Need-add-four-octets
+add-four-octets c = search needs
+
+shared-slice-read-four-octets : tie.Need-shared-slice-read-four-octets
+shared-slice-read-four-octets c = search needs
+
+add-four-octets-2 : tie.Need-add-four-octets-2
+add-four-octets-2 c = search needs
+
+shared-slice-read-four-octets-2 : tie.Need-shared-slice-read-four-octets-2
+shared-slice-read-four-octets-2 c = search needs
+
+add-four-octets-3 : tie.Need-add-four-octets-3
+add-four-octets-3 c = search needs
+
+shared-slice-read-four-octets-3 : tie.Need-shared-slice-read-four-octets-3
+shared-slice-read-four-octets-3 c = search needs
+
+add-four-octets-4 : tie.Need-add-four-octets-4
+add-four-octets-4 c = search needs
+
+shared-slice-read-four-octets-4 : tie.Need-shared-slice-read-four-octets-4
+shared-slice-read-four-octets-4 c = search needs
+
+four-octets-requires : tie.Need-four-octets-requires
+four-octets-requires c κs = search needs
+
+put-segment-requires : tie.Need-put-segment-requires
+put-segment-requires c κs =
+    let w = c .before .before .before .before .before .before .before .before .before .before .before .before .before .before .before .before .before .args .work .now in
+    let r = c .before .before .before .before .before .before .before .before .before .before .before .before .before .before .before .before .before .args .row in
+    let e = segment-octets (c .before .before .before .before .before .before .before .before .before .before .before .before .before .before .before .before .before .args .segments .now) (sideOf (c .before .before .before .before .before .before .before .before .before .before .before .before .before .before .before .before .before .args .left)) (getD w (r + 65) 0) (getD w (r + 66) 0) (getD w (r + 67) 0) (startFrom w r) _ _ (c .before .before .before .before .before .before .count-of .ensures .0) (c .before .four-octets .ensures) (c .before .before .before .before .before .before .before .before .before .before .if3 .taken) (c .before .before .before .before .before .before .before .before .before .if4 .taken) in
+    (c .before .before .before .before .before .before .before .before .before .before .if3 .taken, c .before .before .before .before .before .before .before .before .before .if4 .taken, c .before .before .before .before .before .before .count-of .ensures .1, omega (arith, ap length e, segment-length (c .before .before .before .before .before .before .before .before .before .before .before .before .before .before .before .before .before .args .segments .now) (27 + getD w (r + 65) 0) (c .before .before .before .before .before .before .count-of .result) (c .before .four-octets .result), c .before .before .before .before .before .before .before .before .before .before .before .before .before .before .before .before .before .pre .1))
+
+same-length-3 : tie.Need-same-length-3
+same-length-3 c = search needs
+
+returns-3 : tie.Need-returns-3
+returns-3 c =
+    let w = c .before .before .before .before .before .before .before .before .before .before .before .before .before .before .before .before .before .before .before .before .args .work .now in
+    let r = c .before .before .before .before .before .before .before .before .before .before .before .before .before .before .before .before .before .before .before .before .args .row in
+    let e = segment-octets (c .before .before .before .before .before .before .before .before .before .before .before .before .before .before .before .before .before .before .before .before .args .segments .now) (sideOf (c .before .before .before .before .before .before .before .before .before .before .before .before .before .before .before .before .before .before .before .before .args .left)) (getD w (r + 65) 0) (getD w (r + 66) 0) (getD w (r + 67) 0) (startFrom w r) _ _ (c .before .before .before .before .before .before .before .before .before .count-of .ensures .0) (c .before .before .before .before .four-octets .ensures) (c .before .before .before .before .before .before .before .before .before .before .before .before .before .if3 .taken) (c .before .before .before .before .before .before .before .before .before .before .before .before .if4 .taken) in
+    written-as e (c .before .before .put-segment .ensures)
+
+put-fixed-requires : tie.Need-put-fixed-requires
+put-fixed-requires c κs =
+    let w = c .before .before .before .before .before .before .before .before .args .work .now in
+    let r = c .before .before .before .before .before .before .before .before .args .row in
+    let e = fixed-octets (c .before .before .before .before .before .before .before .before .args .segments .now) (sideOf (c .before .before .before .before .before .before .before .before .args .left)) (getD w (r + 65) 0) (getD w (r + 66) 0) (getD w (r + 67) 0) (startFrom w r) (c .before .before .if2 .left) (λ a b. ⊎-elim (λ z. omega (arith, z .1 .left)) (λ z. omega (arith, z .left)) (c .before .if3 .came)) in
+    omega (arith, ap length e, c .before .before .before .before .before .before .before .before .pre .1)
+
+same-length-4 : tie.Need-same-length-4
+same-length-4 c = search needs
+
+returns-4 : tie.Need-returns-4
+returns-4 c =
+    let w = c .before .before .before .before .before .before .before .before .before .before .before .args .work .now in
+    let r = c .before .before .before .before .before .before .before .before .before .before .before .args .row in
+    let e = fixed-octets (c .before .before .before .before .before .before .before .before .before .before .before .args .segments .now) (sideOf (c .before .before .before .before .before .before .before .before .before .before .before .args .left)) (getD w (r + 65) 0) (getD w (r + 66) 0) (getD w (r + 67) 0) (startFrom w r) (c .before .before .before .before .before .if2 .left) (λ a b. ⊎-elim (λ z. omega (arith, z .1 .left)) (λ z. omega (arith, z .left)) (c .before .before .before .before .if3 .came)) in
+    written-as e (c .before .before .put-fixed .ensures)
+
+pub put-unit-spec : {M : Type 1} → statement M
+put-unit-spec =
+    tie.close
+    (tie.spec
+    add-tag
+    shared-slice-read-tag
+    add-on-side
+    shared-slice-read-on-side
+    on-side-requires
+    slice-write-out
+    add-result
+    same-length
+    returns
+    add-on-side-2
+    shared-slice-read-on-side-2
+    on-side-requires-2
+    slice-write-out-2
+    add-on-side-3
+    shared-slice-read-on-side-3
+    on-side-requires-3
+    add-out
+    slice-write-out-3
+    add-result-2
+    same-length-2
+    returns-2
+    add-count-of
+    shared-slice-read-count-of
+    add-count-of-2
+    shared-slice-read-count-of-2
+    count-of-requires
+    add-four-octets
+    shared-slice-read-four-octets
+    add-four-octets-2
+    shared-slice-read-four-octets-2
+    add-four-octets-3
+    shared-slice-read-four-octets-3
+    add-four-octets-4
+    shared-slice-read-four-octets-4
+    four-octets-requires
+    put-segment-requires
+    same-length-3
+    returns-3
+    put-fixed-requires
+    same-length-4
+    returns-4)

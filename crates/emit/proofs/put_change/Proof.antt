@@ -1,0 +1,57 @@
+-- `emit::put_change` meets its contract, by where the two numbers differ.
+use native.Mathlib.Omega.{arith}
+use mathlib.Core.Path.{ap}
+use lib.ListN.{length}
+use Rattle.emit.proofs.Stores.{written-none, written-as, change-none, change-gr, change-gl}
+use borrow.Author.Needs.{needs}
+use Rattle.emit.proofs.put_change.Statement.{statement}
+use Rattle.emit.proofs.put_change.Tie as tie
+
+returns : tie.Need-returns
+returns c = written-as (change-none _ _ (c .if1 .taken)) (written-none _ _)
+
+set-in-gr-requires : tie.Need-set-in-gr-requires
+set-in-gr-requires c κs = search needs
+
+put-designation-requires : tie.Need-put-designation-requires
+put-designation-requires c κs =
+    let e = change-gr (c .before .before .before .before .before .args .k) (c .before .before .before .before .before .args .j) _ (c .before .before .before .if1 .left) (c .before .before .if2 .taken) (c .before .set-in-gr .ensures .0) in
+    (c .before .set-in-gr .ensures .1, omega (arith, ap length e, c .before .before .before .before .before .pre .2))
+
+same-length : tie.Need-same-length
+same-length c = search needs
+
+returns-2 : tie.Need-returns-2
+returns-2 c =
+    let e = change-gr (c .before .before .before .before .before .before .before .before .args .k) (c .before .before .before .before .before .before .before .before .args .j) _ (c .before .before .before .before .before .before .if1 .left) (c .before .before .before .before .before .if2 .taken) (c .before .before .before .before .set-in-gr .ensures .0) in
+    written-as e (c .before .before .put-designation .ensures)
+
+set-in-gl-requires : tie.Need-set-in-gl-requires
+set-in-gl-requires c κs = search needs
+
+put-designation-requires-2 : tie.Need-put-designation-requires-2
+put-designation-requires-2 c κs =
+    let e = change-gl (c .before .before .before .before .before .args .k) (c .before .before .before .before .before .args .j) _ (c .before .before .before .if1 .left) (c .before .before .if2 .left) (c .before .set-in-gl .ensures .0) in
+    (c .before .set-in-gl .ensures .1, omega (arith, ap length e, c .before .before .before .before .before .pre .2))
+
+same-length-2 : tie.Need-same-length-2
+same-length-2 c = search needs
+
+returns-3 : tie.Need-returns-3
+returns-3 c =
+    let e = change-gl (c .before .before .before .before .before .before .before .before .args .k) (c .before .before .before .before .before .before .before .before .args .j) _ (c .before .before .before .before .before .before .if1 .left) (c .before .before .before .before .before .if2 .left) (c .before .before .before .before .set-in-gl .ensures .0) in
+    written-as e (c .before .before .put-designation2 .ensures)
+
+pub put-change-spec : {M : Type 1} → statement M
+put-change-spec =
+    tie.close
+    (tie.spec
+    returns
+    set-in-gr-requires
+    put-designation-requires
+    same-length
+    returns-2
+    set-in-gl-requires
+    put-designation-requires-2
+    same-length-2
+    returns-3)

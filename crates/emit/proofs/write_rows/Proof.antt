@@ -1,0 +1,79 @@
+-- `emit::write_rows` meets its contract, answer by answer.
+use native.Mathlib.Omega.{arith}
+use mathlib.Core.Path.{refl}
+use Rattle.emit.proofs.Whole.{planned-all, ready, wrote-many, wrote-no-work, wrote-long, wrote-room, wrote-all, room-for}
+use borrow.Author.Needs.{needs}
+use Rattle.emit.proofs.write_rows.Statement.{statement}
+use Rattle.emit.proofs.write_rows.Tie as tie
+
+returns : tie.Need-returns
+returns c =
+    let w = wrote-many (c .before .before .before .before .args .segments .now) (c .before .before .before .before .args .work .now) (c .before .before .before .before .args .n) (c .before .before .before .before .args .out .now) (c .if1 .taken) in
+    (w .answers, w .output, refl)
+
+add-if2 : tie.Need-add-if2
+add-if2 c = search needs
+
+mul-if2 : tie.Need-mul-if2
+mul-if2 c = search needs
+
+returns-2 : tie.Need-returns-2
+returns-2 c =
+    let w = wrote-no-work (c .before .before .before .before .before .args .segments .now) (c .before .before .before .before .before .args .work .now) (c .before .before .before .before .before .args .n) (c .before .before .before .before .before .args .out .now) (c .before .if1 .left) (c .if2 .taken) in
+    (w .answers, w .output, refl)
+
+plan-requires : tie.Need-plan-requires
+plan-requires c κs = search needs
+
+same-length : tie.Need-same-length
+same-length c = search needs
+
+returns-3 : tie.Need-returns-3
+returns-3 c =
+    let p = planned-all _ (c .before .before .before .before .before .before .before .before .before .before .args .work .now) _ _ _ (c .before .before .before .before .before .before .if1 .left) (c .before .before .before .before .before .if2 .left) (c .before .before .before .plan .ensures) in
+    let w = wrote-long (c .before .before .before .before .before .before .before .before .before .before .args .segments .now) (c .before .before .before .before .before .before .before .before .before .before .args .work .now) (c .before .before .before .before .before .before .before .before .before .before .args .n) (c .before .before .before .before .before .before .before .before .before .before .args .out .now) (c .before .before .before .before .before .before .if1 .left) (c .before .before .before .before .before .if2 .left) _ (p .0) (c .if3 .taken) in
+    (w .answers, w .output, p .1 .long)
+
+same-length-2 : tie.Need-same-length-2
+same-length-2 c = search needs
+
+returns-4 : tie.Need-returns-4
+returns-4 c =
+    let p = planned-all _ (c .before .before .before .before .before .before .before .before .before .before .before .args .work .now) _ _ _ (c .before .before .before .before .before .before .before .if1 .left) (c .before .before .before .before .before .before .if2 .left) (c .before .before .before .before .plan .ensures) in
+    let w = wrote-room (c .before .before .before .before .before .before .before .before .before .before .before .args .segments .now) (c .before .before .before .before .before .before .before .before .before .before .before .args .work .now) (c .before .before .before .before .before .before .before .before .before .before .before .args .n) (c .before .before .before .before .before .before .before .before .before .before .before .args .out .now) (c .before .before .before .before .before .before .before .if1 .left) (c .before .before .before .before .before .before .if2 .left) _ (p .0) (c .before .if3 .left) (c .if4 .taken) in
+    (w .answers, w .output, p .1 .long)
+
+emit-requires : tie.Need-emit-requires
+emit-requires c κs =
+    let p = planned-all _ (c .before .before .before .before .before .before .before .before .before .before .before .before .before .args .work .now) _ _ _ (c .before .before .before .before .before .before .before .before .before .if1 .left) (c .before .before .before .before .before .before .before .before .if2 .left) (c .before .before .before .before .before .before .plan .ensures) in
+    (c .before .before .before .before .before .before .before .before .before .if1 .left, omega (arith, c .before .before .before .before .before .before .before .before .if2 .left, p .1 .long), ready _ _ _ _ (p .1), room-for (c .before .before .before .before .before .before .before .before .before .before .before .before .before .args .segments .now) (c .before .before .before .before .before .before .before .before .before .before .before .before .before .args .work .now) (c .before .before .before .before .before .before .before .before .before .before .before .before .before .args .n) (c .before .before .before .before .before .before .before .before .before .before .before .before .before .args .out .now) (c .before .before .before .before .before .before .before .before .before .if1 .left) (c .before .before .before .before .before .before .before .before .if2 .left) _ (p .0) _ (p .1 .kept) (c .before .before .if4 .left))
+
+same-length-3 : tie.Need-same-length-3
+same-length-3 c = search needs
+
+same-length-4 : tie.Need-same-length-4
+same-length-4 c = search needs
+
+returns-5 : tie.Need-returns-5
+returns-5 c =
+    let p = planned-all _ (c .before .before .before .before .before .before .before .before .before .before .before .before .before .before .before .before .args .work .now) _ _ _ (c .before .before .before .before .before .before .before .before .before .before .before .before .if1 .left) (c .before .before .before .before .before .before .before .before .before .before .before .if2 .left) (c .before .before .before .before .before .before .before .before .before .plan .ensures) in
+    let w = wrote-all (c .before .before .before .before .before .before .before .before .before .before .before .before .before .before .before .before .args .segments .now) (c .before .before .before .before .before .before .before .before .before .before .before .before .before .before .before .before .args .work .now) (c .before .before .before .before .before .before .before .before .before .before .before .before .before .before .before .before .args .n) (c .before .before .before .before .before .before .before .before .before .before .before .before .before .before .before .before .args .out .now) (c .before .before .before .before .before .before .before .before .before .before .before .before .if1 .left) (c .before .before .before .before .before .before .before .before .before .before .before .if2 .left) _ (p .0) _ _ _ (p .1 .kept) (c .before .before .before .before .before .before .if3 .left) (c .before .before .before .before .before .if4 .left) (c .before .before .emit .ensures) in
+    (w .answers, w .output, p .1 .long)
+
+pub write-rows-spec : {M : Type 1} → statement M
+write-rows-spec =
+    tie.close
+    (tie.spec
+    returns
+    add-if2
+    mul-if2
+    returns-2
+    plan-requires
+    same-length
+    returns-3
+    same-length-2
+    returns-4
+    emit-requires
+    same-length-3
+    same-length-4
+    returns-5)

@@ -1,0 +1,277 @@
+-- What holds of all the pieces of a string: no two neighbours are of one run, so runs are longest; the octets of a run are all GL
+-- octets, or all GR octets; and the sets and the direction that its piece has are in force at each of its octets. All three are kept
+-- when a piece is joined to pieces that have them.
+use Prim.Native.Nat.{ℕ, zero, suc, _+_, _-_, _≤_, _<_, zero-le}
+use native.Mathlib.Omega.{arith}
+use native.Mathlib.Nat.{not-suc-le-zero}
+use mathlib.Core.Path.{_≡_, refl, ap, sym, _∙_}
+use mathlib.Core.Bool.{Bool, true, false, false≢true}
+use mathlib.Core.List.{List, [], _∷_, _++_}
+use lib.Dec.{eqb, ltb}
+use lib.ListN.{length, getD}
+use lib.Seq.{getD-drop}
+use borrow.Author.Tests.{ltb-true, ltb-false, lt-ltb, le-ltb, eqb-true}
+use Rattle.base.proofs.Ladder.{from-from}
+use Rattle.base.specs.Choice.{pick, from}
+use Rattle.base.specs.Kind as kind
+use Rattle.charset.specs.declared.Side.{Side}
+use Rattle.element.specs.Element.{elementOf, shapeOf, directedOf}
+use Rattle.grammar.specs.Reading.{size, elements, Octets}
+use Rattle.grammar.specs.Units.{TextUnit, kindOf, octets}
+use Rattle.grammar.proofs.Elements.{elements-end, elements-refused, elements-silent, elements-found}
+use Rattle.grammar.proofs.Sound.{Legal, Shown, sound}
+use Rattle.grammar.proofs.Agrees.{Right, refused, passed, read, right, fresh-legal, put-legal}
+use Rattle.state.specs.Directions.{inForceOf}
+use Rattle.state.specs.State.{on, fresh}
+use Rattle.state.specs.declared.State.{State}
+use Rattle.state.specs.declared.element.Part.{Part}
+use Rattle.state.specs.declared.element.Element.{Element}
+use Rattle.state.specs.declared.element.Element.the-variants.{End, Refused, Silent, Found}
+use Rattle.pieces.specs.PieceKind as pieceKind
+use Rattle.pieces.specs.Pieces.{noPiece, sideKindOf, pieceKindOf, pieceOf, isRun, sameRunOf, longer, joined, piecesOf, stateAt}
+use Rattle.pieces.specs.declared.Piece.{Piece}
+use Rattle.pieces.proofs.Joined.{Followed, same, over, other, followed, joined-by}
+use Rattle.pieces.proofs.Partition.{EndToEnd, none, more, tiled}
+use Rattle.pieces.proofs.Step.{Step, stops, goes, step, elementAt, rest, silent-fits, found-fits}
+use Rattle.pieces.proofs.Text.{text-side, text-keeps}
+
+-- ---- longest
+
+pub data Apart : List Piece → Type 0 where
+  nothing : Apart []
+  alone : {p : Piece} → Apart (p ∷ [])
+  before : {p q : Piece} {qs : List Piece} → sameRunOf (p .kind) (q .kind) ≡ false → Apart (q ∷ qs) → Apart (p ∷ q ∷ qs)
+
+like : (p q : Piece) (qs : List Piece) → p .kind ≡ q .kind → Apart (q ∷ qs) → Apart (p ∷ qs)
+like p q [] e h = alone
+like p q (r ∷ rs) e (before f h) = before {p = p} {q = r} (rw e f) h
+
+joined-apart-by : (p q : Piece) (qs : List Piece) → Followed (p .kind) (q .kind) → Apart (q ∷ qs) → Apart (joined p (q ∷ qs))
+unfolding pick
+joined-apart-by p q qs (same r i f g) h = rw (joined-by p q qs true f) (like (longer p q) q qs i h)
+joined-apart-by p q qs (over r f g) h = rw (joined-by p q qs false f) (before f h)
+joined-apart-by p q qs (other r f g) h = rw (joined-by p q qs false f) (before f h)
+
+joined-keeps-apart : (p : Piece) (ps : List Piece) → Apart ps → Apart (joined p ps)
+unfolding joined
+joined-keeps-apart p [] h = alone
+joined-keeps-apart p (q ∷ qs) h = joined-apart-by p q qs (followed (p .kind) (q .kind)) h
+
+-- ---- one side
+
+-- the octets of a piece that is a run
+abbrev pub OneSided : List ℕ → Piece → Type 0
+OneSided s p = isRun (p .kind) ≡ true → (i : ℕ) → p .start ≤ i → i < p .end → sideKindOf (getD s i 0) ≡ p .kind
+
+-- ---- what is in force
+
+-- two states have the same sets and the same direction in force
+pub record Same (a b : State) : Type 0 where
+  pub sets : a .sets ≡ b .sets
+  pub way : inForceOf (a .directions) ≡ inForceOf (b .directions)
+
+abbrev pub stateFrom : List ℕ → ℕ → State → ℕ → State
+stateFrom s at st i = stateAt at st (elements (from at s) 0 st) i
+
+-- at each octet of a run, and after it, its sets and its direction are in force
+abbrev pub InForce : List ℕ → ℕ → State → Piece → Type 0
+InForce s at st p = isRun (p .kind) ≡ true → (i : ℕ) → p .start ≤ i → i ≤ p .end → Same (stateFrom s at st i) (p .state)
+
+pub data Each (P : Piece → Type 0) : List Piece → Type 0 where
+  empty : Each P []
+  with-first : {p : Piece} {ps : List Piece} → P p → Each P ps → Each P (p ∷ ps)
+
+-- what two neighbours of one run have, the run has too
+module _ (P : Piece → Type 0) (join : (p q : Piece) → p .start < p .end → q .start ≡ p .end → q .start < q .end → p .kind ≡ q .kind → P p → P q → P (longer p q)) where
+  each-by : {e : ℕ} (p q : Piece) (qs : List Piece) → p .start < p .end → P p → Followed (p .kind) (q .kind) → EndToEnd (p .end) e (q ∷ qs) → Each P (q ∷ qs) → Each P (joined p (q ∷ qs))
+  unfolding pick
+  each-by p q qs n f (same r i x g) (more b l t) (with-first h k) = rw (joined-by p q qs true x) (with-first (join p q n b (omega arith) i f h) k)
+  each-by p q qs n f (over r x g) t h = rw (joined-by p q qs false x) (with-first f h)
+  each-by p q qs n f (other r x g) t h = rw (joined-by p q qs false x) (with-first f h)
+
+  joined-each : {e : ℕ} (p : Piece) (ps : List Piece) → p .start < p .end → P p → EndToEnd (p .end) e ps → Each P ps → Each P (joined p ps)
+  unfolding joined
+  joined-each p [] n f t h = with-first f empty
+  joined-each p (q ∷ qs) n f t h = each-by p q qs n f (followed (p .kind) (q .kind)) t h
+
+-- a piece that is a run is that of a character or a space, on the side of its first octet
+run-kind-by : (k z : ℕ) (t u v w x : Bool) → eqb k kind.character ≡ t → eqb k kind.space ≡ u
+    → isRun (pick t z (pick u z (pick v pieceKind.tab (pick w pieceKind.newline (pick x pieceKind.segment pieceKind.control))))) ≡ true
+    → (k < 2) × (pick t z (pick u z (pick v pieceKind.tab (pick w pieceKind.newline (pick x pieceKind.segment pieceKind.control)))) ≡ z)
+unfolding pick
+run-kind-by k z true u v w x e f r = (let i = eqb-true k 0 e in omega arith, refl)
+run-kind-by k z false true v w x e f r = (let i = eqb-true k 1 f in omega arith, refl)
+run-kind-by k z false false true w x e f r = absurd (false≢true r)
+run-kind-by k z false false false true x e f r = absurd (false≢true r)
+run-kind-by k z false false false false true e f r = absurd (false≢true r)
+run-kind-by k z false false false false false e f r = absurd (false≢true r)
+
+run-kind : (k b : ℕ) → isRun (pieceKindOf k b) ≡ true → (k < 2) × (pieceKindOf k b ≡ sideKindOf b)
+unfolding pieceKindOf
+run-kind k b r = run-kind-by k (sideKindOf b) (eqb k kind.character) (eqb k kind.space) (eqb k kind.tab) (eqb k kind.newline) (eqb k kind.segment) refl refl r
+
+module _ (s : List ℕ) where
+  -- the octets of a unit at a place
+  found-side : (at : ℕ) (st : State) (w : List ℕ) {p : Part} (u : TextUnit) (d : Side) (t : List ℕ) → from at s ≡ w → Shown (st .sets) w p u d t
+      → isRun (pieceKindOf (p .kind) (getD s at 0)) ≡ true → (i : ℕ) → at ≤ i → i < at + size p → sideKindOf (getD s i 0) ≡ pieceKindOf (p .kind) (getD s at 0)
+  unfolding from
+  found-side at st w {p} u d t is h r i a b =
+      let k = run-kind (p .kind) (getD s at 0) r in
+      let text : kindOf u < 2 = rw (h .kind) at (k .0) in
+      let z : i - at < length (octets d u) = omega (arith, h .size) in
+      let j : at + (i - at) ≡ i = omega arith in
+      let n : at + 0 ≡ at = omega arith in
+      ap (λ (x : ℕ). sideKindOf (getD s x 0)) (sym j) ∙ ap sideKindOf (there (i - at)) ∙ text-side d u t (h .fit) text (i - at) z
+      ∙ sym (ap sideKindOf (there 0)) ∙ ap (λ (x : ℕ). sideKindOf (getD s x 0)) n ∙ sym (k .1)
+    where
+      there : (j : ℕ) → getD s (at + j) 0 ≡ getD (octets d u ++ t) j 0
+      there j = sym (getD-drop at s j 0) ∙ ap (λ (x : List ℕ). getD x j 0) (is ∙ h .are)
+
+  -- a piece that is read with a state: it is of one side, text leaves what is in force, and the sets after it stand where they may
+  record Good (st : State) (q : Piece) : Type 0 where
+    sided : OneSided s q
+    steady : isRun (q .kind) ≡ true → Same st (q .state)
+    legal : Legal (q .state .sets)
+
+  nothing-good : (at : ℕ) (st : State) → Good st (noPiece at)
+  nothing-good at st = record { sided = λ r i a b. absurd (omega arith); steady = λ r. absurd (false≢true r); legal = fresh-legal }
+
+  good-by : (at : ℕ) (st : State) (w : List ℕ) → from at s ≡ w → Legal (st .sets) → {e : Element} → Right st w e → Good st (pieceOf s at e)
+  unfolding pieceOf
+  good-by at st w is l (refused h) = nothing-good at st
+  good-by at st w is l (passed {k} d c t h) = record { sided = λ r i a b. absurd (false≢true r); steady = λ r. absurd (false≢true r); legal = put-legal (on d c) (st .sets) (h .may) l }
+  good-by at st w is l (read {p} {next} u d t h e) =
+      record {
+        sided = λ r i a b. found-side at st w u d t is h r i a b;
+        steady = λ r. record { sets = refl; way = sym (text-keeps u (st .directions) next (rw (h .kind) at (run-kind (p .kind) (getD s at 0) r .0)) e) };
+        legal = l;
+      }
+
+  -- ---- the state at a place: that before the element there, and after the element that of what follows
+
+  abbrev StateBefore : ℕ → State → Piece → Type 0
+  StateBefore at st q = (i : ℕ) → i < q .end → stateFrom s at st i ≡ st
+
+  abbrev StateLater : ℕ → State → Piece → Type 0
+  StateLater at st q = (i : ℕ) → q .end ≤ i → stateFrom s at st i ≡ stateFrom s (q .end) (q .state) i
+
+  abbrev StateAfter : ℕ → State → Piece → Type 0
+  StateAfter at st q = (i : ℕ) → (q .end ≡ at → ⊥) → (i < q .end → stateFrom s at st i ≡ st) × (q .end ≤ i → stateFrom s at st i ≡ stateFrom s (q .end) (q .state) i)
+
+  -- an element of k octets
+  past : (at : ℕ) (st next : State) (k i : ℕ) (es : List Element) → stateFrom s at st i ≡ pick (ltb i (at + k)) st (stateAt (at + k) next es i) → es ≡ elements (from (at + k) s) 0 next
+      → (i < at + k → stateFrom s at st i ≡ st) × (at + k ≤ i → stateFrom s at st i ≡ stateFrom s (at + k) next i)
+  unfolding pick
+  past at st next k i es e f =
+      (λ h. e ∙ rw (lt-ltb i (at + k) h), λ h. e ∙ rw (le-ltb i (at + k) h) (ap (λ (x : List Element). stateAt (at + k) next x i) f))
+
+  state-after : (at : ℕ) (st : State) (e : Element) → elementAt s at st ≡ e → StateAfter at st (pieceOf s at e)
+  unfolding pieceOf stateAt
+  state-after at st End is i n = absurd (n refl)
+  state-after at st (Refused r o) is i n = absurd (n refl)
+  state-after at st (Silent k next) is i n =
+      past at st next k i _ (ap (λ (x : List Element). stateAt at st x i) (elements-silent (from at s) st (silent-fits s at st is .0) is)) (ap (λ (x : List ℕ). elements x 0 next) (from-from s at k))
+  state-after at st (Found p next) is i n =
+      past at st next (size p) i _ (ap (λ (x : List Element). stateAt at st x i) (elements-found (from at s) st (found-fits s at st is .0) is)) (ap (λ (x : List ℕ). elements x 0 next) (from-from s at (size p)))
+
+  -- at the place itself
+  first-state : (at : ℕ) (st : State) (e : Element) → elementAt s at st ≡ e → stateFrom s at st at ≡ st
+  unfolding pieceOf stateAt
+  first-state at st End is = ap (λ (x : List Element). stateAt at st x at) (elements-end (from at s) st is)
+  first-state at st (Refused r o) is = ap (λ (x : List Element). stateAt at st x at) (elements-refused (from at s) st is)
+  first-state at st (Silent k next) is =
+      let z = silent-fits s at st is in
+      state-after at st (Silent k next) is at (λ y. absurd (omega arith)) .0 (omega arith)
+  first-state at st (Found p next) is =
+      let z = found-fits s at st is in
+      state-after at st (Found p next) is at (λ y. absurd (omega arith)) .0 (omega arith)
+
+  -- ---- what is in force in a run
+
+  first-in-force : (at : ℕ) (st : State) (q : Piece) → (isRun (q .kind) ≡ true → Same st (q .state)) → StateBefore at st q → StateLater at st q → InForce s at st q
+  first-in-force at st q g f h r i x y = by (ltb i (q .end)) refl
+    where
+      by : (t : Bool) → ltb i (q .end) ≡ t → Same (stateFrom s at st i) (q .state)
+      by true m = rw (f i (ltb-true i (q .end) m)) (g r)
+      by false m =
+          let z : i ≡ q .end = let w = ltb-false i (q .end) m in omega arith in
+          let e : stateFrom s at st i ≡ q .state = h i (omega arith) ∙ (ap (λ (j : ℕ). stateFrom s (q .end) (q .state) j) z ∙ first-state (q .end) (q .state) (elementAt s (q .end) (q .state)) refl) in
+          rw e (record { sets = refl; way = refl })
+
+  longer-in-force : (at : ℕ) (st : State) (p q : Piece) → p .start < p .end → q .start ≡ p .end → q .start < q .end → p .kind ≡ q .kind → InForce s at st p → InForce s at st q → InForce s at st (longer p q)
+  longer-in-force at st p q n b l e f g r i x y = by (ltb i (p .end)) refl
+    where
+      by : (t : Bool) → ltb i (p .end) ≡ t → Same (stateFrom s at st i) (p .state)
+      by true m = f r i x (let z = ltb-true i (p .end) m in omega arith)
+      by false m =
+          let here = g (rw e at r) i (let z = ltb-false i (p .end) m in omega arith) y in
+          let start = g (rw e at r) (q .start) (omega arith) (omega arith) in
+          let seam = f r (q .start) (omega arith) (omega arith) in
+          record { sets = here .sets ∙ (sym (start .sets) ∙ seam .sets); way = here .way ∙ (sym (start .way) ∙ seam .way) }
+
+  each-later : (at : ℕ) (st : State) (q : Piece) → StateLater at st q → {a e : ℕ} {ps : List Piece} → EndToEnd a e ps → q .end ≤ a → Each (InForce s (q .end) (q .state)) ps → Each (InForce s at st) ps
+  each-later at st q f none h empty = empty
+  each-later at st q f (more {p = p} b l r) h (with-first g k) =
+      with-first {p = p} (λ x i y z. rw (f i (omega arith)) (g x i y z)) (each-later at st q f r (omega arith) k)
+
+  module _ (o : Octets s) where
+    from-octets : (at : ℕ) → Octets (from at s)
+    unfolding from
+    from-octets at i = rw (getD-drop at s i 0) (o (at + i))
+
+    good-from : (at : ℕ) (st : State) (w : List ℕ) → from at s ≡ w → Legal (st .sets) → Good st (pieceOf s at (elementOf w st))
+    unfolding pieceOf shapeOf directedOf
+    good-from at st [] is l = nothing-good at st
+    good-from at st (b ∷ t) is l = good-by at st (b ∷ t) is l (right st (b ∷ t) (sound st l b t (λ i. rw is at (from-octets at i))))
+
+    longer-sided : (p q : Piece) → p .start < p .end → q .start ≡ p .end → q .start < q .end → p .kind ≡ q .kind → OneSided s p → OneSided s q → OneSided s (longer p q)
+    longer-sided p q n b l e f g r i h k = by (ltb i (p .end)) refl
+      where
+        by : (t : Bool) → ltb i (p .end) ≡ t → sideKindOf (getD s i 0) ≡ p .kind
+        by true m = f r i h (ltb-true i (p .end) m)
+        by false m = g (rw e at r) i (let z = ltb-false i (p .end) m in omega arith) k ∙ sym e
+
+    -- ---- all the pieces
+
+    -- the pieces from a place on, read with a state
+    record Kept (at : ℕ) (st : State) (ps : List Piece) : Type 0 where
+      apart : Apart ps
+      sided : Each (OneSided s) ps
+      held : Each (InForce s at st) ps
+
+    kept-step : (n at : ℕ) (st : State) {q : Piece} → Step s at st q → Good st q → StateAfter at st q → length s - at < suc n
+        → ((b : ℕ) (next : State) → Legal (next .sets) → b ≤ length s → length s - b < n → Kept b next (rest s b next)) → Kept at st (rest s at st)
+    kept-step n at st (stops e x) g f k go = rw e (record { apart = nothing; sided = empty; held = empty })
+    kept-step n at st (goes {q} b l u e x) g f k go =
+        let h = go (q .end) (q .state) (g .legal) u (omega arith) in
+        let t = tiled s (suc (length s)) (q .end) (q .state) u (omega arith) in
+        let later : StateLater at st q = λ i y. f i (λ z. absurd (omega arith)) .1 y in
+        rw e (record {
+          apart = joined-keeps-apart q (rest s (q .end) (q .state)) (h .apart);
+          sided = joined-each (OneSided s) longer-sided q (rest s (q .end) (q .state)) (omega arith) (g .sided) (t .tiles) (h .sided);
+          held =
+              joined-each (InForce s at st) (longer-in-force at st) q (rest s (q .end) (q .state)) (omega arith)
+              (first-in-force at st q (g .steady) (λ i y. f i (λ z. absurd (omega arith)) .0 y) later) (t .tiles)
+              (each-later at st q later (t .tiles) (omega arith) (h .held));
+        })
+
+    kept : (n at : ℕ) (st : State) → Legal (st .sets) → at ≤ length s → length s - at < n → Kept at st (rest s at st)
+    kept zero at st l h k = absurd (not-suc-le-zero k)
+    kept (suc n) at st l h k =
+        kept-step n at st (step s at st) (good-from at st (from at s) refl l) (state-after at st (elementAt s at st) refl) k (λ b next m g i. kept n b next m g i)
+
+    kept-whole : Kept 0 fresh (piecesOf s)
+    unfolding piecesOf from
+    kept-whole = kept (suc (length s)) 0 fresh fresh-legal zero-le (omega arith)
+
+    -- no two neighbouring pieces are of one run: runs are longest
+    pub longest : Apart (piecesOf s)
+    longest = kept-whole .apart
+
+    -- the octets of each run are all of its side
+    pub one-sided : Each (OneSided s) (piecesOf s)
+    one-sided = kept-whole .sided
+
+    -- the sets and the direction of each run are in force at each of its octets
+    pub in-force : Each (InForce s 0 fresh) (piecesOf s)
+    in-force = kept-whole .held

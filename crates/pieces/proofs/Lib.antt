@@ -1,0 +1,5 @@
+pub mod Step
+pub mod Joined
+pub mod Partition
+pub mod Text
+pub mod Laws

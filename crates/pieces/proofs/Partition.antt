@@ -1,0 +1,93 @@
+-- The pieces of a string lie end to end, from its first octet to its end or to the offending element: a piece joined to pieces that
+-- do so does too. In an accepted string each octet then lies in exactly one of them.
+use Prim.Native.Nat.{ℕ, zero, suc, _+_, _-_, _≤_, _<_, zero-le}
+use native.Mathlib.Omega.{arith}
+use native.Mathlib.Nat.{not-suc-le-zero}
+use mathlib.Core.Path.{_≡_, refl, ap, sym, _∙_}
+use mathlib.Core.Bool.{Bool, true, false}
+use mathlib.Core.List.{List, [], _∷_}
+use lib.Dec.{ltb}
+use lib.ListN.{length}
+use borrow.Author.Tests.{le-leb, lt-leb, ltb-true, ltb-false}
+use Rattle.base.specs.Choice.{pick, from}
+use Rattle.base.specs.Refusal as refusal
+use Rattle.grammar.specs.Reading.{checkOf, Octets}
+use Rattle.grammar.proofs.Agrees.{accepted-where}
+use Rattle.state.specs.State.{fresh}
+use Rattle.state.specs.declared.State.{State}
+use Rattle.pieces.specs.Pieces.{sameRunOf, longer, joined, piecesOf, contains, holding}
+use Rattle.pieces.specs.declared.Piece.{Piece}
+use Rattle.pieces.proofs.Step.{Step, stops, goes, step, rest, noRefusal}
+
+-- pieces that lie end to end from a place to another
+pub data EndToEnd : ℕ → ℕ → List Piece → Type 0 where
+  none : {a : ℕ} → EndToEnd a a []
+  more : {a e : ℕ} {p : Piece} {ps : List Piece} → p .start ≡ a → a < p .end → EndToEnd (p .end) e ps → EndToEnd a e (p ∷ ps)
+
+joined-by : (t : Bool) {a e : ℕ} (p q : Piece) (qs : List Piece) → p .start ≡ a → a < p .end → EndToEnd (p .end) e (q ∷ qs) → EndToEnd a e (pick t (longer p q ∷ qs) (p ∷ q ∷ qs))
+unfolding pick
+joined-by true p q qs b l (more c m r) = more {p = longer p q} b (omega arith) r
+joined-by false p q qs b l r = more b l r
+
+joined-end-to-end : {a e : ℕ} (p : Piece) (ps : List Piece) → p .start ≡ a → a < p .end → EndToEnd (p .end) e ps → EndToEnd a e (joined p ps)
+unfolding joined
+joined-end-to-end p [] b l r = more b l r
+joined-end-to-end p (q ∷ qs) b l r = joined-by (sameRunOf (p .kind) (q .kind)) p q qs b l r
+
+-- the pieces from a place on: to the end of the string where no element is refused
+pub record Tiled (s : List ℕ) (at : ℕ) (st : State) : Type 0 where
+  pub last : ℕ
+  pub tiles : EndToEnd at last (rest s at st)
+  pub within : last ≤ length s
+  pub whole : noRefusal s at st ≡ true → last ≡ length s
+
+module _ (s : List ℕ) where
+  tiled-step : (n at : ℕ) (st : State) {q : Piece} → Step s at st q → at ≤ length s → length s - at < suc n
+      → ((b : ℕ) (next : State) → b ≤ length s → length s - b < n → Tiled s b next) → Tiled s at st
+  tiled-step n at st (stops e x) h k more-of =
+      record { last = at; tiles = rw e none; within = h; whole = λ z. let y = x z in omega arith }
+  tiled-step n at st (goes {q} b l u e x) h k more-of =
+      let t = more-of (q .end) (q .state) u (omega arith) in
+      record {
+        last = t .last;
+        tiles = rw e (joined-end-to-end q (rest s (q .end) (q .state)) b l (t .tiles));
+        within = t .within;
+        whole = λ z. t .whole (sym x ∙ z);
+      }
+
+  pub tiled : (n at : ℕ) (st : State) → at ≤ length s → length s - at < n → Tiled s at st
+  tiled zero at st h k = absurd (not-suc-le-zero k)
+  tiled (suc n) at st h k = tiled-step n at st (step s at st) h k (λ b next g i. tiled n b next g i)
+
+  pub pieces-tiled : Tiled s 0 fresh
+  pieces-tiled = tiled (suc (length s)) 0 fresh zero-le (omega arith)
+
+-- an octet before pieces that lie end to end, and one among them
+before : {a e : ℕ} {ps : List Piece} (i : ℕ) → EndToEnd a e ps → i < a → holding ps i ≡ 0
+unfolding holding contains pick
+before i none h = refl
+before i (more {p} {ps} b l r) h =
+    let z : i < p .start = omega arith in
+    let y : i < p .end = omega arith in
+    rw (lt-leb (p .start) i z) (before i r y)
+
+among-by : {e : ℕ} (p : Piece) (ps : List Piece) (i : ℕ) (t : Bool) → ltb i (p .end) ≡ t → p .start ≤ i → EndToEnd (p .end) e ps → (p .end ≤ i → holding ps i ≡ 1) → holding (p ∷ ps) i ≡ 1
+unfolding holding contains pick
+among-by p ps i true e h r f = rw (le-leb (p .start) i h, e) (ap (λ (n : ℕ). 1 + n) (before i r (ltb-true i (p .end) e)))
+among-by p ps i false e h r f = rw (le-leb (p .start) i h, e) (f (ltb-false i (p .end) e))
+
+among : {a e : ℕ} {ps : List Piece} (i : ℕ) → EndToEnd a e ps → a ≤ i → i < e → holding ps i ≡ 1
+among i none h k = absurd (omega arith)
+among i (more {p} {ps} b l r) h k = among-by p ps i (ltb i (p .end)) refl (omega arith) r (λ m. among i r m k)
+
+-- the pieces of an accepted string lie end to end, from its first octet to its last
+pub end-to-end : (s : List ℕ) → Octets s → checkOf s .number ≡ refusal.accepted → EndToEnd 0 (length s) (piecesOf s)
+unfolding piecesOf from
+end-to-end s o h =
+    let t = pieces-tiled s in
+    let z : t .last ≡ length s = t .whole (accepted-where s o .0 h .1) in
+    rw z at (t .tiles)
+
+-- "Each octet of an accepted string lies in exactly one run, tab, newline, control sequence or extended segment."
+pub exactly-one : (s : List ℕ) → Octets s → checkOf s .number ≡ refusal.accepted → (i : ℕ) → i < length s → holding (piecesOf s) i ≡ 1
+exactly-one s o h i k = among i (end-to-end s o h) zero-le k

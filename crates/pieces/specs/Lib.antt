@@ -1,0 +1,2 @@
+pub mod PieceKind
+pub mod Pieces

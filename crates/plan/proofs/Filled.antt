@@ -1,0 +1,123 @@
+-- Stores into a list, place by place and row by row.
+use mathlib.Core.Path.{_≡_, refl, ap, _∙_, subst, sym}
+use mathlib.Core.Bool.{Bool, true, false, cond}
+use mathlib.Core.List.{List, [], _∷_}
+use mathlib.Core.Logic.{_⊎_, inl, inr, ⊎-elim}
+use Prim.Native.Nat.{ℕ, _+_, _*_, _/_, _%_, _≤_, _<_}
+use native.Mathlib.Omega.{arith}
+use lib.ListN.{length, getD, set, replicate, length-set}
+use lib.Seq.{getD-set-same, getD-set-other}
+use lib.Dec.{ltb, eqb}
+use borrow.Author.Tests.{ltb-true, ltb-false, eqb-true, eqb-false}
+use Rattle.plan.specs.Costs.{Filled, Rows, Charges, Column}
+
+below-cases : (j k : ℕ) → j < k + 1 → (j < k) ⊎ (j ≡ k)
+below-cases j k h = go (ltb j k) refl
+  where
+    go : (b : Bool) → ltb j k ≡ b → (j < k) ⊎ (j ≡ k)
+    go true e = inl (ltb-true j k e)
+    go false e = inr (let l = ltb-false j k e in omega arith)
+
+-- ---- one place more
+
+pub filled-none : (f : ℕ → ℕ) (at : ℕ) (before : List ℕ) → Filled f at 0 before before
+filled-none f at before = record { there = λ r h. absurd (omega arith); kept = λ p h. refl; long = refl }
+
+pub filled-more : (f : ℕ → ℕ) (at m : ℕ) (before after : List ℕ) (v : ℕ) → Filled f at m before after → at + m < length after → v ≡ f m
+    → Filled f at (m + 1) before (set after (at + m) v)
+filled-more f at m before after v s h e =
+    record {
+      there = λ r l.
+          ⊎-elim
+          (λ q. getD-set-other after (at + m) (at + r) v 0 (λ z. omega arith) ∙ s .there r q)
+          (λ q. rw q (getD-set-same after (at + m) v 0 h ∙ e))
+          (below-cases r m l);
+      kept = λ p l.
+          getD-set-other after (at + m) p v 0 (λ z. ⊎-elim (λ q. omega arith) (λ q. omega arith) l)
+          ∙ s .kept p (⊎-elim (λ q. inl q) (λ q. inr (omega arith)) l);
+      long = length-set after (at + m) v ∙ s .long;
+    }
+
+pub filled-at : (f : ℕ → ℕ) (m : ℕ) (before after : List ℕ) (v : ℕ) → Filled f 0 m before after → m < length after → v ≡ f m
+    → Filled f 0 (m + 1) before (set after m v)
+filled-at f m before after v s h e =
+    let z : 0 + m ≡ m = omega arith in
+    subst (λ (i : ℕ). Filled f 0 (m + 1) before (set after i v)) z (filled-more f 0 m before after v s (omega arith) e)
+
+pub filled-end : {f : ℕ → ℕ} {at k : ℕ} {before after : List ℕ} (m : ℕ) → Filled f at k before after → k ≤ m → m ≤ k → Filled f at m before after
+filled-end {f} {at} {k} {before} {after} m s l h = subst (λ (i : ℕ). Filled f at i before after) (omega arith) s
+
+-- ---- a fact of each of five
+
+pub all-five : (P : ℕ → Type 0) → P 0 → P 1 → P 2 → P 3 → P 4 → (g : ℕ) → g < 5 → P g
+all-five P a b c d e g h = go (eqb g 0) refl (eqb g 1) refl (eqb g 2) refl (eqb g 3) refl
+  where
+    at : (n : ℕ) → eqb g n ≡ true → P n → P g
+    at n q p = subst P (sym (eqb-true g n q)) p
+
+    go : (t : Bool) → eqb g 0 ≡ t → (u : Bool) → eqb g 1 ≡ u → (v : Bool) → eqb g 2 ≡ v → (w : Bool) → eqb g 3 ≡ w → P g
+    go true q u r v s w z = at 0 q a
+    go false q true r v s w z = at 1 r b
+    go false q false r true s w z = at 2 s c
+    go false q false r false s true z = at 3 z d
+    go false q false r false s false z =
+        let n0 : g ≡ 0 → ⊥ = eqb-false g 0 q in
+        let n1 : g ≡ 1 → ⊥ = eqb-false g 1 r in
+        let n2 : g ≡ 2 → ⊥ = eqb-false g 2 s in
+        let n3 : g ≡ 3 → ⊥ = eqb-false g 3 z in
+        let y : 4 ≡ g = omega arith in
+        subst P y e
+
+-- ---- one row more
+
+pub rows-none : (f : ℕ → ℕ → ℕ) (cur : List ℕ) → length cur ≡ 80 → Rows f 0 cur
+rows-none f cur l = record { there = λ g r h k. absurd (omega arith); long = l }
+
+pub rows-more : (f : ℕ → ℕ → ℕ) (m : ℕ) (before after : List ℕ) → Rows f m before → Filled (f m) (16 * m) 16 before after → Rows f (m + 1) after
+rows-more f m before after s e =
+    record {
+      there = λ g r hg hr.
+          ⊎-elim
+          (λ q. e .kept (16 * g + r) (inl (omega arith)) ∙ s .there g r q hr)
+          (λ q. rw q (e .there r hr))
+          (below-cases g m hg);
+      long = e .long ∙ s .long;
+    }
+
+pub rows-end : {f : ℕ → ℕ → ℕ} {k : ℕ} {cur : List ℕ} → Rows f k cur → k ≤ 5 → 5 ≤ k → Rows f 5 cur
+rows-end {f} {k} {cur} s l h = subst (λ (i : ℕ). Rows f i cur) (omega arith) s
+
+pub rows-as : {f : ℕ → ℕ → ℕ} {cur : List ℕ} (g : ℕ → ℕ → ℕ) → ((i r : ℕ) → i < 5 → r < 16 → f i r ≡ g i r) → Rows f 5 cur → Rows g 5 cur
+rows-as g e s = record { there = λ i r h k. s .there i r h k ∙ e i r h k; long = s .long }
+
+pub rows-at : (f : ℕ → ℕ) {cur : List ℕ} → Rows (λ g r. f (16 * g + r)) 5 cur → (k : ℕ) → k < 80 → getD cur k 0 ≡ f k
+rows-at f {cur} s k h =
+    let z : 16 * (k / 16) + k % 16 ≡ k = omega arith in
+    subst (λ (i : ℕ). getD cur i 0 ≡ f i) z (s .there (k / 16) (k % 16) (omega arith) (omega arith))
+
+-- ---- five surcharges
+
+-- five of a price, with nothing at a place
+pub charges-set : (price place : ℕ) → place < 5 → Charges price place (set (replicate 5 price) place 0)
+charges-set price place h =
+    record {
+      five = length-set (replicate 5 price) place 0;
+      each = λ g hg. go g hg (eqb g place) refl;
+    }
+  where
+    all : (g : ℕ) → g < 5 → getD (replicate 5 price) g 0 ≡ price
+    all = all-five (λ g. getD (replicate 5 price) g 0 ≡ price) refl refl refl refl refl
+
+    go : (g : ℕ) → g < 5 → (t : Bool) → eqb g place ≡ t → getD (set (replicate 5 price) place 0) g 0 ≡ cond t 0 price
+    go g hg true e = rw (eqb-true g place e) (getD-set-same (replicate 5 price) place 0 0 h)
+    go g hg false e = getD-set-other (replicate 5 price) place g 0 0 (eqb-false g place e) ∙ all g hg
+
+pub column-of : (costs : List ℕ) (r : ℕ)
+    → Column costs r (getD costs r 0 ∷ getD costs (16 + r) 0 ∷ getD costs (32 + r) 0 ∷ getD costs (48 + r) 0 ∷ getD costs (64 + r) 0 ∷ [])
+column-of costs r = record { five = refl; each = all-five (λ g. getD fives g 0 ≡ getD costs (16 * g + r) 0) (ap (λ (m : ℕ). getD costs m 0) z) refl refl refl refl }
+  where
+    fives : List ℕ
+    fives = getD costs r 0 ∷ getD costs (16 + r) 0 ∷ getD costs (32 + r) 0 ∷ getD costs (48 + r) 0 ∷ getD costs (64 + r) 0 ∷ []
+
+    z : r ≡ 16 * 0 + r
+    z = omega arith

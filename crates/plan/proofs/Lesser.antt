@@ -1,0 +1,173 @@
+-- The least costs from all numbers by one rule: the lesser of two stretches of costs with surcharges, since no cost rises by more than a
+-- designation's price.
+use mathlib.Core.Path.{_≡_, refl, sym, ap, ap₂, _∙_, subst}
+use mathlib.Core.Bool.{Bool, true, false, cond, _||_}
+use mathlib.Core.List.{List}
+use mathlib.Core.Logic.{_⊎_, inl, inr}
+use Prim.Native.Nat.{ℕ, _+_, _-_, _*_, _≤_, _<_, min}
+use native.Mathlib.Omega.{arith}
+use lib.ListN.{length, getD}
+use lib.Dec.{leb, eqb}
+use borrow.Author.Tests.{eqb-true, eqb-false, eq-eqb, ne-eqb, leb-true, leb-false}
+use Rattle.writing.proofs.Sets.{upTo, up-to}
+use Rattle.plan.specs.Numbers.{withGL, withGR, priceOfClass, placesInGL, placesInGR, afterFirst, afterSecond, chosenBy, surcharge}
+use Rattle.plan.specs.Costs.{leastBy, SumsFit, Charges, Column, surcharges, Smooth, InGL, InGR, OnBoth}
+use Rattle.plan.proofs.Numbers.{bounded, first-gl, first-gr, second-gl, second-gr, first-space, second-space, price-gl, price-both, price-gr}
+
+-- ---- the least cost where the sets stay, and where one is designated
+
+least-stays : (x k : ℕ) (next : List ℕ) → ((afterFirst x k ≡ k) ⊎ (afterSecond x k ≡ k)) → leastBy x next k ≡ getD next k 0
+unfolding leastBy chosenBy
+least-stays x k next (inl e) = rw (eq-eqb (afterFirst x k) k e, eq-eqb k k refl) (omega arith)
+least-stays x k next (inr e) = go (eqb (afterFirst x k) k)
+  where
+    next-of : Bool → ℕ
+    next-of t = cond (t || eqb (afterSecond x k) k) k (cond (leb (getD next (afterFirst x k) 0) (getD next (afterSecond x k) 0)) (afterFirst x k) (afterSecond x k))
+
+    go : (t : Bool) → surcharge x k (next-of t) + getD next (next-of t) 0 ≡ getD next k 0
+    go true = rw (eq-eqb k k refl) (omega arith)
+    go false = rw (eq-eqb (afterSecond x k) k e, eq-eqb k k refl) (omega arith)
+
+least-goes : (x k : ℕ) (next : List ℕ) → (afterFirst x k ≡ k → ⊥) → (afterSecond x k ≡ k → ⊥)
+    → leastBy x next k ≡ priceOfClass x + min (getD next (afterFirst x k) 0) (getD next (afterSecond x k) 0)
+unfolding leastBy chosenBy
+least-goes x k next a b = rw (ne-eqb (afterFirst x k) k a, ne-eqb (afterSecond x k) k b) (go (leb u v) refl)
+  where
+    u : ℕ
+    u = getD next (afterFirst x k) 0
+
+    v : ℕ
+    v = getD next (afterSecond x k) 0
+
+    go : (t : Bool) → leb u v ≡ t
+        → surcharge x k (cond t (afterFirst x k) (afterSecond x k)) + getD next (cond t (afterFirst x k) (afterSecond x k)) 0 ≡ priceOfClass x + min u v
+    go true q = rw (ne-eqb (afterFirst x k) k a) (let l = leb-true u v q in omega arith)
+    go false q = rw (ne-eqb (afterSecond x k) k b) (let l = leb-false u v q in omega arith)
+
+-- the lesser of the two ways
+least-min : (x k : ℕ) (next : List ℕ) → getD next k 0 ≤ priceOfClass x + getD next (afterFirst x k) 0 → getD next k 0 ≤ priceOfClass x + getD next (afterSecond x k) 0
+    → min (surcharge x k (afterFirst x k) + getD next (afterFirst x k) 0) (surcharge x k (afterSecond x k) + getD next (afterSecond x k) 0) ≡ leastBy x next k
+least-min x k next a b = go (eqb (afterFirst x k) k) refl (eqb (afterSecond x k) k) refl
+  where
+    at : (j : ℕ) → eqb j k ≡ true → getD next j 0 ≡ getD next k 0
+    at j q = ap (λ (i : ℕ). getD next i 0) (eqb-true j k q)
+
+    go : (t : Bool) → eqb (afterFirst x k) k ≡ t → (u : Bool) → eqb (afterSecond x k) k ≡ u
+        → min (cond t 0 (priceOfClass x) + getD next (afterFirst x k) 0) (cond u 0 (priceOfClass x) + getD next (afterSecond x k) 0) ≡ leastBy x next k
+    go true q true r = omega (arith, at (afterFirst x k) q, at (afterSecond x k) r, least-stays x k next (inl (eqb-true (afterFirst x k) k q)))
+    go true q false r = omega (arith, at (afterFirst x k) q, least-stays x k next (inl (eqb-true (afterFirst x k) k q)))
+    go false q true r = omega (arith, at (afterSecond x k) r, least-stays x k next (inr (eqb-true (afterSecond x k) k r)))
+    go false q false r = omega (arith, least-goes x k next (eqb-false (afterFirst x k) k q) (eqb-false (afterSecond x k) k r))
+
+-- ---- surcharges
+
+surcharge-is : (x k j p t : ℕ) → priceOfClass x ≡ p → (j ≡ k → t ≡ 0) → ((j ≡ k → ⊥) → t ≡ p) → t ≡ surcharge x k j
+surcharge-is x k j p t e a b = go (eqb j k) refl
+  where
+    go : (z : Bool) → eqb j k ≡ z → t ≡ cond z 0 (priceOfClass x)
+    go true q = a (eqb-true j k q)
+    go false q = b (eqb-false j k q) ∙ sym e
+
+charged : (g l p : ℕ) → ((g ≡ l) → cond (eqb g l) 0 p ≡ 0) × (((g ≡ l) → ⊥) → cond (eqb g l) 0 p ≡ p)
+charged g l p = (λ e. rw (eq-eqb g l e), λ n. rw (ne-eqb g l n))
+
+cond-most : (t : Bool) (p : ℕ) → cond t 0 p ≤ p
+cond-most true p = omega arith
+cond-most false p = omega arith
+
+-- the table has nothing at 15, and the price at its other places
+module _ (p : ℕ) (t : upTo 32 (λ m. eqb (getD (surcharges p) m 0) (cond (eqb m 15) 0 p)) ≡ true) where
+  surcharged : (m : ℕ) → m < 32 → getD (surcharges p) m 0 ≡ cond (eqb m 15) 0 p
+  surcharged m h = eqb-true (getD (surcharges p) m 0) (cond (eqb m 15) 0 p) (up-to 32 (λ m. eqb (getD (surcharges p) m 0) (cond (eqb m 15) 0 p)) t m h)
+
+  surcharge-here : (r q : ℕ) → r < 13 → q < 16 → q ≡ r → getD (surcharges p) (15 - r + q) 0 ≡ 0
+  surcharge-here r q hr hq e = surcharged (15 - r + q) (omega arith) ∙ charged (15 - r + q) 15 p .0 (omega arith)
+
+  surcharge-there : (r q : ℕ) → r < 13 → q < 16 → (q ≡ r → ⊥) → getD (surcharges p) (15 - r + q) 0 ≡ p
+  surcharge-there r q hr hq n = surcharged (15 - r + q) (omega arith) ∙ charged (15 - r + q) 15 p .1 (λ e. n (omega arith))
+
+-- ---- the two ways to number 16 g + q
+
+module _ (x : ℕ) (next : List ℕ) (g q : ℕ) (hg : g < 5) (hq : q < 16) (sm : Smooth x next) where
+  by-ways : (u v : ℕ) → u ≡ surcharge x (16 * g + q) (afterFirst x (16 * g + q)) + getD next (afterFirst x (16 * g + q)) 0
+      → v ≡ surcharge x (16 * g + q) (afterSecond x (16 * g + q)) + getD next (afterSecond x (16 * g + q)) 0 → min u v ≡ leastBy x next (16 * g + q)
+  by-ways u v eu ev =
+      ap₂ min eu ev ∙ least-min x (16 * g + q) next (sm .first-near (16 * g + q) (omega arith)) (sm .second-near (16 * g + q) (omega arith))
+
+  way : (j a t p : ℕ) → a ≡ j → priceOfClass x ≡ p → (a ≡ 16 * g + q → t ≡ 0) → ((a ≡ 16 * g + q → ⊥) → t ≡ p)
+      → getD next a 0 + t ≡ surcharge x (16 * g + q) j + getD next j 0
+  way j a t p e c m n =
+      omega (arith, surcharge-is x (16 * g + q) a p t c m n, ap (λ (i : ℕ). surcharge x (16 * g + q) i + getD next i 0) e)
+
+  -- by GL's place l, and by GR's place r
+  gl-way : (l j p : ℕ) (ps : List ℕ) → withGL l (16 * g + q) ≡ j → priceOfClass x ≡ p → Charges p l ps
+      → getD next (16 * l + q) 0 + getD ps g 0 ≡ surcharge x (16 * g + q) j + getD next j 0
+  gl-way l j p ps e c ch =
+      let z : 16 * l + q ≡ withGL l (16 * g + q) = omega arith in
+      way j (16 * l + q) (getD ps g 0) p (z ∙ e) c (λ y. ch .each g hg ∙ charged g l p .0 (omega arith)) (λ n. ch .each g hg ∙ charged g l p .1 (λ y. n (omega arith)))
+
+  gr-way : (r j p : ℕ) (table vs : List ℕ) → upTo 32 (λ m. eqb (getD (surcharges p) m 0) (cond (eqb m 15) 0 p)) ≡ true → withGR r (16 * g + q) ≡ j → priceOfClass x ≡ p
+      → r < 13 → table ≡ surcharges p → Column next r vs → getD table (15 - r + q) 0 + getD vs g 0 ≡ surcharge x (16 * g + q) j + getD next j 0
+  gr-way r j p table vs t e c hr et col =
+      let z : 16 * g + r ≡ withGR r (16 * g + q) = omega arith in
+      omega (
+        arith,
+        col .each g hg,
+        ap (λ (y : List ℕ). getD y (15 - r + q) 0) et,
+        way j (16 * g + r) (getD (surcharges p) (15 - r + q) 0) p (z ∙ e) c (λ y. surcharge-here p t r q hr hq (omega arith)) (λ n. surcharge-there p t r q hr hq (λ y. n (omega arith))),
+      )
+
+  -- a space; a set of GL alone, of both sides, of GR alone
+  pub lesser-space : (ps qs : List ℕ) → x ≡ 15 → Charges 3 0 ps → Charges 3 1 qs
+      → min (getD next (0 + q) 0 + getD ps g 0) (getD next (16 + q) 0 + getD qs g 0) ≡ leastBy x next (16 * g + q)
+  unfolding priceOfClass
+  lesser-space ps qs e a b =
+      by-ways (getD next (0 + q) 0 + getD ps g 0) (getD next (16 + q) 0 + getD qs g 0)
+      (gl-way 0 (afterFirst x (16 * g + q)) 3 ps (rw e (first-space (16 * g + q))) (rw e) a)
+      (gl-way 1 (afterSecond x (16 * g + q)) 3 qs (rw e (second-space (16 * g + q))) (rw e) b)
+
+  pub lesser-gl : (l : ℕ) (ps : List ℕ) → InGL x l → Charges 3 l ps
+      → min (getD next (16 * l + q) 0 + getD ps g 0) (getD next (16 * l + q) 0 + getD ps g 0) ≡ leastBy x next (16 * g + q)
+  lesser-gl l ps (hx, el, hr) ch =
+      let p = price-gl x l (getD placesInGR x 0) hx el refl hr in
+      by-ways (getD next (16 * l + q) 0 + getD ps g 0) (getD next (16 * l + q) 0 + getD ps g 0)
+      (gl-way l (afterFirst x (16 * g + q)) 3 ps (first-gl x l (getD placesInGR x 0) (16 * g + q) el refl hx (p .1)) (p .0) ch)
+      (gl-way l (afterSecond x (16 * g + q)) 3 ps (second-gl x l (getD placesInGR x 0) (16 * g + q) el refl hx hr) (p .0) ch)
+
+  pub lesser-both : (l r : ℕ) (ps vs table : List ℕ) → OnBoth x l r → table ≡ surcharges 4 → Charges 4 l ps → Column next r vs
+      → min (getD next (16 * l + q) 0 + getD ps g 0) (getD table (15 - r + q) 0 + getD vs g 0) ≡ leastBy x next (16 * g + q)
+  lesser-both l r ps vs table (hx, el, er, hl, hr) et ch col =
+      let p = price-both x l r hx el er hl hr in
+      by-ways (getD next (16 * l + q) 0 + getD ps g 0) (getD table (15 - r + q) 0 + getD vs g 0)
+      (gl-way l (afterFirst x (16 * g + q)) 4 ps (first-gl x l r (16 * g + q) el er hx hl) p ch)
+      (gr-way r (afterSecond x (16 * g + q)) 4 table vs refl (second-gr x l r (16 * g + q) el er hx hr) p hr et col)
+
+  pub lesser-gr : (r : ℕ) (vs table : List ℕ) → InGR x r → table ≡ surcharges 3 → Column next r vs
+      → min (getD table (15 - r + q) 0 + getD vs g 0) (getD table (15 - r + q) 0 + getD vs g 0) ≡ leastBy x next (16 * g + q)
+  lesser-gr r vs table (hx, er, hr, hl) et col =
+      let p = price-gr x (getD placesInGL x 0) hx refl hl in
+      by-ways (getD table (15 - r + q) 0 + getD vs g 0) (getD table (15 - r + q) 0 + getD vs g 0)
+      (gr-way r (afterFirst x (16 * g + q)) 3 table vs refl (first-gr x (getD placesInGL x 0) r (16 * g + q) refl er hx hl) p hr et col)
+      (gr-way r (afterSecond x (16 * g + q)) 3 table vs refl (second-gr x (getD placesInGL x 0) r (16 * g + q) refl er hx hr) p hr et col)
+
+-- ---- the sums fit an octet
+
+pub fit-charges : {x : ℕ} {next : List ℕ} (i p l : ℕ) (ps : List ℕ) → Smooth x next → length next ≡ 80 → i ≤ 64 → p ≤ 4 → Charges p l ps → SumsFit next i ps
+fit-charges {x} {next} i p l ps sm len hi hp ch g hg =
+    record { inside = omega arith; sums = λ r hr. omega (arith, sm .small (i + r), ch .each g hg, cond-most (eqb g l) p) }
+
+pub fit-column : {x : ℕ} {next : List ℕ} (p i r : ℕ) (table vs : List ℕ) → upTo 32 (λ m. leb (getD (surcharges p) m 0) 4) ≡ true → table ≡ surcharges p → Smooth x next
+    → r < 13 → i ≡ 15 - r → Column next r vs → SumsFit table i vs
+fit-column {x} {next} p i r table vs t e sm hr ei col g hg =
+    record {
+      inside = omega (arith, ap length e);
+      sums = λ q hq.
+          omega (arith, ap (λ (z : List ℕ). getD z (i + q) 0) e, bounded (surcharges p) 4 t (i + q), col .each g hg, sm .small (16 * g + r));
+    }
+
+pub charges-as : {l : ℕ} {ps : List ℕ} {p p′ : ℕ} → p ≡ p′ → Charges p l ps → Charges p′ l ps
+charges-as {l} {ps} e c = subst (λ (p : ℕ). Charges p l ps) e c
+
+-- the last entry of a table is the price
+pub last-surcharge : (table : List ℕ) (p : ℕ) → table ≡ surcharges p → getD table 31 0 ≡ p
+last-surcharge table p e = ap (λ (z : List ℕ). getD z 31 0) e

@@ -1,0 +1,50 @@
+-- `plan::costs::both_costs` meets its contract: the lesser costs are the least.
+use native.Mathlib.Omega.{arith}
+use mathlib.Core.Path.{refl}
+use Rattle.plan.proofs.Filled.{rows-as}
+use Rattle.plan.proofs.Lesser.{charges-as, last-surcharge, fit-charges, fit-column, lesser-both}
+use borrow.Author.Needs.{needs}
+use Rattle.plan.proofs.costs.both_costs.Statement.{statement}
+use Rattle.plan.proofs.costs.both_costs.Tie as tie
+
+element-copy-out-four : tie.Need-element-copy-out-four
+element-copy-out-four c = search needs
+
+mul-i : tie.Need-mul-i
+mul-i c = search needs
+
+sub-j : tie.Need-sub-j
+sub-j c = search needs
+
+charges-requires : tie.Need-charges-requires
+charges-requires c κs = search needs
+
+column-requires : tie.Need-column-requires
+column-requires c κs = search needs
+
+lesser-costs-requires : tie.Need-lesser-costs-requires
+lesser-costs-requires c κs =
+    let f = last-surcharge (c .before .before .before .before .before .before .args .fours .now) 4 (c .before .before .before .before .before .before .pre .2) in (
+      fit-charges _ 4 _ _ (c .before .before .before .before .before .before .pre .0) (c .before .before .before .before .before .before .pre .1) (omega (arith, c .before .before .before .before .before .before .pre .4 .3)) (omega arith) (charges-as f (c .before .before .before .before .charges .ensures)),
+      fit-column 4 _ _ _ _ refl (c .before .before .before .before .before .before .pre .2) (c .before .before .before .before .before .before .pre .0) (c .before .before .before .before .before .before .pre .4 .4) refl (c .before .before .before .column .ensures),
+      c .before .before .before .before .before .before .pre .3,
+    )
+
+returns : tie.Need-returns
+returns c =
+    let f = last-surcharge (c .before .before .before .before .before .before .before .args .fours .now) 4 (c .before .before .before .before .before .before .before .pre .2) in
+    rows-as _
+    (λ g q hg hq. lesser-both (c .before .before .before .before .before .before .before .args .x) (c .before .before .before .before .before .before .before .args .next .now) g q hg hq (c .before .before .before .before .before .before .before .pre .0) _ _ _ _ _ (c .before .before .before .before .before .before .before .pre .4) (c .before .before .before .before .before .before .before .pre .2) (charges-as f (c .before .before .before .before .before .charges .ensures)) (c .before .before .before .before .column .ensures))
+    (c .lesser-costs .ensures)
+
+pub both-costs-spec : {M : Type 1} → statement M
+both-costs-spec =
+    tie.close
+    (tie.spec
+    element-copy-out-four
+    mul-i
+    sub-j
+    charges-requires
+    column-requires
+    lesser-costs-requires
+    returns)

@@ -1,0 +1,123 @@
+-- `plan::plan` meets its contract. The invariant: what the rows from i on cost is known from all numbers, and those rows are planned.
+use borrow.Author.Needs.{needs}
+use native.Mathlib.Omega.{arith}
+use Prim.Native.Nat.{_≤_}
+use mathlib.Core.Path.{_≡_, refl, _∙_}
+use lib.ListN.{length, replicate}
+use Rattle.plan.specs.Costs.{rowsOf, Planned}
+use Rattle.plan.proofs.Numbers.{bounded}
+use Rattle.plan.proofs.Rest.{Known, known-none, planned-none, known-low, known-bound, known-smooth, turn-near, turn-known, turn-planned, plan-end}
+use Rattle.plan.proofs.plan.Statement.{statement}
+use Rattle.plan.proofs.plan.Tie as tie
+
+abbrev Inv-loop : tie.InvT-loop
+Inv-loop work₀ n segments m fours threes cur₀ base₀ last₀ i₀ work cur base last i = (i ≤ rowsOf n (length work₀)) × (length cur ≡ 80) × Known segments work₀ (rowsOf n (length work₀)) i base last cur × Planned segments work₀ (rowsOf n (length work₀)) i work
+
+abbrev μ-loop : tie.MeasureT-loop
+μ-loop work₀ n segments m fours threes cur₀ base₀ last₀ i₀ work cur base last i = i
+
+array-write-fours : tie.Need-array-write-fours Inv-loop μ-loop
+array-write-fours c = search needs
+
+array-write-threes : tie.Need-array-write-threes Inv-loop μ-loop
+array-write-threes c = search needs
+
+rows-of-requires : tie.Need-rows-of-requires Inv-loop μ-loop
+rows-of-requires c κs = search needs
+
+loop-holds : tie.Need-loop-holds Inv-loop μ-loop
+loop-holds c =
+    rw (c .rows-of .ensures .0)
+    (search needs, refl, known-none _ _ _ (replicate 80 0) (bounded (replicate 80 0) 0 refl), planned-none _ _ _)
+
+sub-i : tie.Need-sub-i Inv-loop μ-loop
+sub-i c = search needs
+
+mul-row : tie.Need-mul-row Inv-loop μ-loop
+mul-row c = omega (arith, c .before .before .rows-of .ensures .0, c .before .before .rows-of .ensures .1, c .before .before .rows-of .ensures .2, c .before .loop .inv .0)
+
+size-from-requires : tie.Need-size-from-requires Inv-loop μ-loop
+size-from-requires c κs = omega (arith, c .before .before .before .rows-of .ensures .0, c .before .before .before .rows-of .ensures .1, c .before .before .before .rows-of .ensures .2, c .before .before .loop .inv .0, c .before .before .loop .inv .3 .long)
+
+add-class-of : tie.Need-add-class-of Inv-loop μ-loop
+add-class-of c = omega (arith, c .before .before .before .before .rows-of .ensures .0, c .before .before .before .before .rows-of .ensures .1, c .before .before .before .before .rows-of .ensures .2, c .before .before .before .loop .inv .0)
+
+slice-read-class-of : tie.Need-slice-read-class-of Inv-loop μ-loop
+slice-read-class-of c = omega (arith, c .before .before .before .before .before .rows-of .ensures .0, c .before .before .before .before .before .rows-of .ensures .1, c .before .before .before .before .before .rows-of .ensures .2, c .before .before .before .before .loop .inv .0, c .before .before .before .before .loop .inv .3 .long)
+
+class-of-requires : tie.Need-class-of-requires Inv-loop μ-loop
+class-of-requires c κs = search needs
+
+keep-requires : tie.Need-keep-requires Inv-loop μ-loop
+keep-requires c κs = (c .before .before .class-of .ensures .1, omega (arith, c .before .before .before .before .before .before .before .before .rows-of .ensures .0, c .before .before .before .before .before .before .before .before .rows-of .ensures .1, c .before .before .before .before .before .before .before .before .rows-of .ensures .2, c .before .before .before .before .before .before .before .loop .inv .0, c .before .before .before .before .before .before .before .loop .inv .3 .long))
+
+unit-before-requires : tie.Need-unit-before-requires Inv-loop μ-loop
+unit-before-requires c κs = (
+  c .before .before .before .before .before .before .before .before .class-of .ensures .1,
+  c .before .before .before .before .before .before .before .before .before .before .before .before .before .loop .inv .2 .low,
+  known-smooth _ (c .before .before .before .before .before .before .before .before .before .before .before .before .before .loop .inv .1) (c .before .before .before .before .before .before .before .before .before .before .before .before .before .loop .inv .2) (c .before .before .before .before .before .before .before .before .class-of .ensures .1),
+  refl,
+  refl,
+  turn-near _ _ _ _ _ _ _ _ _ (omega arith) (c .before .before .before .before .before .before .before .before .before .before .before .before .before .loop .inv .0) (c .before .before .before .before .before .before .before .before .before .before .before .before .before .loop .inv .2) (c .before .before .before .before .before .before .before .before .before .before .before .before .before .loop .inv .3) _ _ (c .before .before .before .before .before .before .before .before .class-of .ensures .0) (c .before .before .before .before .before .before .before .before .before .before .size-from .ensures .0),
+  c .before .before .before .before .before .before .before .before .before .before .before .before .before .loop .inv .1,
+)
+
+add-base : tie.Need-add-base Inv-loop μ-loop
+add-base c = omega (arith, known-bound (λ q. c .before .before .before .before .before .before .before .before .before .before .before .before .before .before .before .before .before .slice-known .given q .fits) (omega (arith, c .before .before .before .before .before .before .before .before .before .before .before .before .before .before .before .rows-of .ensures .0, c .before .before .before .before .before .before .before .before .before .before .before .before .before .before .before .rows-of .ensures .1)) (c .before .before .before .before .before .before .before .before .before .before .before .before .before .before .loop .inv .0) (c .before .before .before .before .before .before .before .before .before .before .before .before .before .before .loop .inv .2), c .before .before .before .before .before .before .before .before .before .before .before .size-from .ensures .1)
+
+add-base-2 : tie.Need-add-base-2 Inv-loop μ-loop
+add-base-2 c = omega (arith, known-bound (λ q. c .before .before .before .before .before .before .before .before .before .before .before .before .before .before .before .before .before .before .slice-known .given q .fits) (omega (arith, c .before .before .before .before .before .before .before .before .before .before .before .before .before .before .before .before .rows-of .ensures .0, c .before .before .before .before .before .before .before .before .before .before .before .before .before .before .before .before .rows-of .ensures .1)) (c .before .before .before .before .before .before .before .before .before .before .before .before .before .before .before .loop .inv .0) (c .before .before .before .before .before .before .before .before .before .before .before .before .before .before .before .loop .inv .2), c .before .before .before .before .before .before .before .before .before .before .before .before .size-from .ensures .1, c .before .unit-before .ensures .small)
+
+loop-less : tie.Need-loop-less Inv-loop μ-loop
+loop-less c = search needs
+
+loop-again : tie.Need-loop-again Inv-loop μ-loop
+loop-again c = (
+  omega arith,
+  c .before .unit-before .ensures .long ∙ c .before .before .before .before .before .before .before .before .before .before .before .before .before .before .before .loop .inv .1,
+  turn-known _ _ _ _ _ _ _ _ _ (omega arith) (c .before .before .before .before .before .before .before .before .before .before .before .before .before .before .before .loop .inv .0) (c .before .before .before .before .before .before .before .before .before .before .before .before .before .before .before .loop .inv .2) (c .before .before .before .before .before .before .before .before .before .before .before .before .before .before .before .loop .inv .3) _ _ (c .before .before .before .before .before .before .before .before .before .before .class-of .ensures .0) (c .before .before .before .before .before .before .before .before .before .before .before .before .size-from .ensures .0) _ _ _ (c .before .unit-before .ensures),
+  turn-planned _ _ _ _ _ _ _ _ _ (omega arith) (c .before .before .before .before .before .before .before .before .before .before .before .before .before .before .before .loop .inv .0) (c .before .before .before .before .before .before .before .before .before .before .before .before .before .before .before .loop .inv .2) (c .before .before .before .before .before .before .before .before .before .before .before .before .before .before .before .loop .inv .3) _ _ (c .before .before .before .before .before .before .before .before .before .before .class-of .ensures .0) (c .before .before .before .before .before .before .before .before .before .before .before .before .size-from .ensures .0) _ (c .before .before .before .before .before .before .before .keep .ensures),
+)
+
+array-read-result : tie.Need-array-read-result Inv-loop μ-loop
+array-read-result c = search needs
+
+cast-result : tie.Need-cast-result Inv-loop μ-loop
+cast-result c = omega (arith, known-low (c .before .loop .inv .1) (c .before .loop .inv .2) 1)
+
+add-result : tie.Need-add-result Inv-loop μ-loop
+add-result c = omega (arith, known-bound (λ q. c .before .before .before .before .slice-known .given q .fits) (omega (arith, c .before .before .rows-of .ensures .0, c .before .before .rows-of .ensures .1)) (c .before .loop .inv .0) (c .before .loop .inv .2), known-low (c .before .loop .inv .1) (c .before .loop .inv .2) 1)
+
+same-length : tie.Need-same-length Inv-loop μ-loop
+same-length c = search needs
+
+returns : tie.Need-returns Inv-loop μ-loop
+returns c = plan-end _ _ _ _ _ _ (c .before .loop .cur) _ _ (search needs) (c .before .loop .inv .2) (c .before .loop .inv .3) refl
+
+pub plan-spec : {M : Type 1} → statement M
+plan-spec =
+    tie.close
+    (tie.spec
+    Inv-loop
+    μ-loop
+    array-write-fours
+    array-write-threes
+    rows-of-requires
+    loop-holds
+    sub-i
+    mul-row
+    size-from-requires
+    add-class-of
+    slice-read-class-of
+    class-of-requires
+    keep-requires
+    unit-before-requires
+    add-base
+    add-base-2
+    loop-less
+    loop-again
+    array-read-result
+    cast-result
+    add-result
+    same-length
+    returns)

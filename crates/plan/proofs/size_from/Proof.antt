@@ -1,0 +1,125 @@
+-- `plan::size_from` meets its contract, tag by tag.
+use native.Mathlib.Omega.{arith}
+use Prim.Native.Nat.{ℕ, _+_}
+use mathlib.Core.Path.{ap, ap₂, _∙_}
+use Rattle.base.proofs.Ladder.{ladder, on-lt, on-ge}
+use Rattle.rows.specs.Rows.{partOf}
+use Rattle.plan.specs.Costs.{sizeOf}
+use borrow.Author.Needs.{needs}
+use Rattle.plan.proofs.size_from.Statement.{statement}
+use Rattle.plan.proofs.size_from.Tie as tie
+
+add-tag : tie.Need-add-tag
+add-tag c = search needs
+
+shared-slice-read-tag : tie.Need-shared-slice-read-tag
+shared-slice-read-tag c = search needs
+
+returns : tie.Need-returns
+unfolding sizeOf
+returns c = (search ladder depth 9, omega arith)
+
+returns-2 : tie.Need-returns-2
+unfolding sizeOf
+returns-2 c = (search ladder depth 9, omega arith)
+
+returns-3 : tie.Need-returns-3
+unfolding sizeOf
+returns-3 c = (search ladder depth 9, omega arith)
+
+returns-4 : tie.Need-returns-4
+unfolding sizeOf
+returns-4 c = (search ladder depth 9, omega arith)
+
+returns-5 : tie.Need-returns-5
+unfolding sizeOf
+returns-5 c = (search ladder depth 9, omega arith)
+
+add-count-of : tie.Need-add-count-of
+add-count-of c = search needs
+
+shared-slice-read-count-of : tie.Need-shared-slice-read-count-of
+shared-slice-read-count-of c = search needs
+
+add-count-of-2 : tie.Need-add-count-of-2
+add-count-of-2 c = search needs
+
+shared-slice-read-count-of-2 : tie.Need-shared-slice-read-count-of-2
+shared-slice-read-count-of-2 c = search needs
+
+count-of-requires : tie.Need-count-of-requires
+count-of-requires c κs = search needs
+
+add-four-octets : tie.Need-add-four-octets
+add-four-octets c = search needs
+
+shared-slice-read-four-octets : tie.Need-shared-slice-read-four-octets
+shared-slice-read-four-octets c = search needs
+
+add-four-octets-2 : tie.Need-add-four-octets-2
+add-four-octets-2 c = search needs
+
+shared-slice-read-four-octets-2 : tie.Need-shared-slice-read-four-octets-2
+shared-slice-read-four-octets-2 c = search needs
+
+add-four-octets-3 : tie.Need-add-four-octets-3
+add-four-octets-3 c = search needs
+
+shared-slice-read-four-octets-3 : tie.Need-shared-slice-read-four-octets-3
+shared-slice-read-four-octets-3 c = search needs
+
+add-four-octets-4 : tie.Need-add-four-octets-4
+add-four-octets-4 c = search needs
+
+shared-slice-read-four-octets-4 : tie.Need-shared-slice-read-four-octets-4
+shared-slice-read-four-octets-4 c = search needs
+
+four-octets-requires : tie.Need-four-octets-requires
+four-octets-requires c κs = search needs
+
+part-of-requires : tie.Need-part-of-requires
+part-of-requires c κs = search needs
+
+add-result : tie.Need-add-result
+add-result c = search needs
+
+returns-6 : tie.Need-returns-6
+unfolding sizeOf
+returns-6 c =
+    let e = c .part-of .ensures ∙ ap₂ (λ (n s : ℕ). partOf n s (c .before .before .before .before .before .before .before .before .before .before .before .before .before .before .before .before .before .args .m)) (c .before .before .before .before .before .before .count-of .ensures .0) (c .before .four-octets .ensures) in
+    let six = on-ge _ _ _ _ _ (c .before .before .before .before .before .before .before .before .before .before .if5 .left) (on-lt _ _ _ _ _ (c .before .before .before .before .before .before .before .before .before .if6 .taken) (ap (λ (p : ℕ). 6 + p) e)) in
+    (on-ge _ _ _ _ _ (c .before .before .before .before .before .before .before .before .before .before .before .before .before .before .if1 .left) (on-ge _ _ _ _ _ (c .before .before .before .before .before .before .before .before .before .before .before .before .before .if2 .left) (on-ge _ _ _ _ _ (c .before .before .before .before .before .before .before .before .before .before .before .before .if3 .left) (on-ge _ _ _ _ _ (c .before .before .before .before .before .before .before .before .before .before .before .if4 .left) six))), omega (arith, c .part-of .ensures, c .before .before .before .before .before .before .count-of .ensures .1))
+
+returns-7 : tie.Need-returns-7
+unfolding sizeOf
+returns-7 c = (search ladder depth 9, omega arith)
+
+pub size-from-spec : {M : Type 1} → statement M
+size-from-spec =
+    tie.close
+    (tie.spec
+    add-tag
+    shared-slice-read-tag
+    returns
+    returns-2
+    returns-3
+    returns-4
+    returns-5
+    add-count-of
+    shared-slice-read-count-of
+    add-count-of-2
+    shared-slice-read-count-of-2
+    count-of-requires
+    add-four-octets
+    shared-slice-read-four-octets
+    add-four-octets-2
+    shared-slice-read-four-octets-2
+    add-four-octets-3
+    shared-slice-read-four-octets-3
+    add-four-octets-4
+    shared-slice-read-four-octets-4
+    four-octets-requires
+    part-of-requires
+    add-result
+    returns-6
+    returns-7)

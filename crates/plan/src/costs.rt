@@ -1,0 +1,230 @@
+// The costs from all 80 numbers, octet by octet: five rows, for GL's places, by 16 columns, for GR's.
+ghost use mathlib.Core.Path.{_≡_};
+ghost use Prim.Native.Nat.{ℕ, _+_, _-_, _*_, _≤_, _<_, min};
+ghost use lib.ListN.{length, getD};
+ghost use Rattle.plan.specs.Costs.{Filled, Rows, SumFits, SumsFit, Charges, Column, surcharges, InGL, InGR, OnBoth, leastBy, Smooth, changes, Turned, RowKept};
+use crate::place_in_gl;
+use crate::place_in_gr;
+
+fn lesser(a: u8, b: u8) -> u8
+    ensures { λ r. ⌜ r ≡ min a b ⌝ }
+{
+    if a <= b { a } else { b }
+}
+
+// For each of 16 places the lesser of a's cost with the surcharge p and c's cost with the surcharge q.
+fn lesser_row(a: &[u8], i: usize, p: u8, c: &[u8], j: usize, q: u8, cur: &mut [u8; 80], at: usize)
+    requires { ⌜ (at + 16 ≤ 80) × SumFits (now a) i p × SumFits (now c) j q × (length (now cur) ≡ 80) ⌝ }
+    ensures { λ _. ⌜ Filled (λ r. min (getD (now (a .entry)) (i + r) 0 + p) (getD (now (c .entry)) (j + r) 0 + q)) at 16 (now (cur .entry)) (now (cur .exit)) ⌝ }
+{
+    let mut r: usize = 0;
+    while r < 16 {
+        let u = a[i + r];
+        let v = c[j + r];
+        cur[at + r] = lesser(u + p, v + q);
+        r += 1;
+    }
+}
+
+// The same for the five rows, with a surcharge for each.
+fn lesser_costs(a: &[u8], i: usize, p: [u8; 5], c: &[u8], j: usize, q: [u8; 5], cur: &mut [u8; 80])
+    requires { ⌜ SumsFit (now a) i p × SumsFit (now c) j q × (length (now cur) ≡ 80) ⌝ }
+    ensures { λ _. ⌜ Rows (λ g r. min (getD (now (a .entry)) (i + r) 0 + getD p g 0) (getD (now (c .entry)) (j + r) 0 + getD q g 0)) 5 (now (cur .exit)) ⌝ }
+{
+    let mut g: usize = 0;
+    while g < 5 {
+        lesser_row(a, i, p[g], c, j, q[g], cur, 16 * g);
+        g += 1;
+    }
+}
+
+// The price in each row, but nothing in the row of a place.
+fn charges(price: u8, place: usize) -> [u8; 5]
+    requires { ⌜ place < 5 ⌝ }
+    ensures { λ r. ⌜ Charges price place r ⌝ }
+{
+    let mut each = [price; 5];
+    each[place] = 0;
+    each
+}
+
+// The costs of the five rows in a column.
+fn column(costs: &[u8; 80], r: usize) -> [u8; 5]
+    requires { ⌜ r < 16 ⌝ }
+    ensures { λ v. ⌜ Column (now (costs .entry)) r v ⌝ }
+{
+    [
+        costs[r],
+        costs[16 + r],
+        costs[32 + r],
+        costs[48 + r],
+        costs[64 + r],
+    ]
+}
+
+// The least costs of a space before what next has: set 0 or set 2 in GL.
+fn space_costs(next: &[u8; 80], three: u8, cur: &mut [u8; 80])
+    requires { ⌜ Smooth 15 (now next) × (length (now next) ≡ 80) × (three ≡ 3) × (length (now cur) ≡ 80) ⌝ }
+    ensures { λ _. ⌜ Rows (λ g r. leastBy 15 (now (next .entry)) (16 * g + r)) 5 (now (cur .exit)) ⌝ }
+{
+    let p = charges(three, 0);
+    let q = charges(three, 1);
+    lesser_costs(next, 0, p, next, 16, q, cur);
+}
+
+// Those of a character whose set has a place in GL alone.
+fn gl_costs(x: usize, l: usize, next: &[u8; 80], three: u8, cur: &mut [u8; 80])
+    requires { ⌜ Smooth x (now next) × (length (now next) ≡ 80) × (three ≡ 3) × (length (now cur) ≡ 80) × InGL x l ⌝ }
+    ensures { λ _. ⌜ Rows (λ g r. leastBy x (now (next .entry)) (16 * g + r)) 5 (now (cur .exit)) ⌝ }
+{
+    let i = 16 * l;
+    let p = charges(three, l);
+    lesser_costs(next, i, p, next, i, p, cur);
+}
+
+// Those of a character whose set has a place on each side. From 15 - r on, the table has nothing at place r and a designation's price at
+// the other places: with the column's costs that is what GR's place r costs.
+fn both_costs(x: usize, l: usize, r: usize, next: &[u8; 80], fours: &[u8; 32], cur: &mut [u8; 80])
+    requires { ⌜ Smooth x (now next) × (length (now next) ≡ 80) × (now fours ≡ surcharges 4) × (length (now cur) ≡ 80) × OnBoth x l r ⌝ }
+    ensures { λ _. ⌜ Rows (λ g r. leastBy x (now (next .entry)) (16 * g + r)) 5 (now (cur .exit)) ⌝ }
+{
+    // Read from the table and not written out: with a constant the loop of lesser_row is unrolled and not done 16 at a time.
+    let four = fours[31];
+    let i = 16 * l;
+    let j = 15 - r;
+    let p = charges(four, l);
+    let v = column(next, r);
+    lesser_costs(next, i, p, fours, j, v, cur);
+}
+
+// Those of a character whose set has a place in GR alone.
+fn gr_costs(x: usize, r: usize, next: &[u8; 80], threes: &[u8; 32], cur: &mut [u8; 80])
+    requires { ⌜ Smooth x (now next) × (length (now next) ≡ 80) × (now threes ≡ surcharges 3) × (length (now cur) ≡ 80) × InGR x r ⌝ }
+    ensures { λ _. ⌜ Rows (λ g r. leastBy x (now (next .entry)) (16 * g + r)) 5 (now (cur .exit)) ⌝ }
+{
+    let j = 15 - r;
+    let v = column(next, r);
+    lesser_costs(threes, j, v, threes, j, v, cur);
+}
+
+// The least costs, but for the unit's own octets, of a unit of class x before what next has.
+fn costs_before(x: usize, next: &[u8; 80], fours: &[u8; 32], threes: &[u8; 32], cur: &mut [u8; 80])
+    requires { ⌜ (x < 16) × Smooth x (now next) × (length (now next) ≡ 80) × (now fours ≡ surcharges 4) × (now threes ≡ surcharges 3) × (length (now cur) ≡ 80) ⌝ }
+    ensures { λ _. ⌜ Rows (λ g r. leastBy x (now (next .entry)) (16 * g + r)) 5 (now (cur .exit)) ⌝ }
+{
+    if x == 15 {
+        space_costs(next, threes[31], cur);
+        return;
+    }
+    let l = place_in_gl(x);
+    let r = place_in_gr(x);
+    if 13 <= r {
+        gl_costs(x, l, next, threes[31], cur);
+        return;
+    }
+    if l < 5 {
+        both_costs(x, l, r, next, fours, cur);
+        return;
+    }
+    gr_costs(x, r, next, threes, cur);
+}
+
+// Takes 128 from each cost.
+fn lower(cur: &mut [u8; 80])
+    requires { ⌜ ((k : ℕ) → k < 80 → 128 ≤ getD (now cur) k 0) × (length (now cur) ≡ 80) ⌝ }
+    ensures { λ _. ⌜ Filled (λ k. getD (now (cur .entry)) k 0 - 128) 0 80 (now (cur .entry)) (now (cur .exit)) ⌝ }
+{
+    let mut k: usize = 0;
+    while k < 80 {
+        let v = cur[k];
+        cur[k] = v - 128;
+        k += 1;
+    }
+}
+
+fn changed(last: usize, x: usize) -> bool
+    ensures { λ r. ⌜ r ≡ changes last x ⌝ }
+{
+    if x == 16 {
+        return false;
+    }
+    if x == last {
+        return false;
+    }
+    if x == 15 {
+        return last != 0;
+    }
+    true
+}
+
+// What was taken from the costs, and the class that changed them last.
+pub struct Taken {
+    pub base: usize,
+    pub last: usize,
+}
+
+// The costs with a unit of class x before, where last is the class that changed them last.
+pub fn unit_before(
+    last: usize,
+    x: usize,
+    fours: &[u8; 32],
+    threes: &[u8; 32],
+    cur: &mut [u8; 80],
+) -> Taken
+    requires { ⌜ (x < 17) × (getD (now cur) 1 0 ≤ 200) × Smooth x (now cur) × (now fours ≡ surcharges 4) × (now threes ≡ surcharges 3) × ((k m : ℕ) → k < 80 → m < 80 → leastBy x (now cur) k ≤ 8 + leastBy x (now cur) m) × (length (now cur) ≡ 80) ⌝ }
+    ensures { λ r. ⌜ Turned last x (now (cur .entry)) (r .base) (r .last) (now (cur .exit)) ⌝ }
+{
+    if changed(last, x) {
+        let next = *cur;
+        costs_before(x, &next, fours, threes, cur);
+        if cur[1] <= 200 {
+            return Taken { base: 0, last: x };
+        }
+        lower(cur);
+        return Taken { base: 128, last: x };
+    }
+    Taken { base: 0, last }
+}
+
+// Keeps 16 costs, from a place on.
+fn keep_row(cur: &[u8; 80], from: usize, work: &mut [u8], at: usize)
+    requires { ⌜ (from + 16 ≤ 80) × (at + 16 ≤ length (now work)) ⌝ }
+    ensures { λ _. ⌜ Filled (λ r. getD (now (cur .entry)) (from + r) 0) at 16 (now (work .entry)) (now (work .exit)) ⌝ }
+{
+    let mut r: usize = 0;
+    while r < 16 {
+        work[at + r] = cur[from + r];
+        r += 1;
+    }
+}
+
+// Keeps the costs of the five rows in a column.
+fn keep_column(cur: &[u8; 80], r: usize, work: &mut [u8], at: usize)
+    requires { ⌜ (r < 16) × (at + 5 ≤ length (now work)) ⌝ }
+    ensures { λ _. ⌜ Filled (λ g. getD (now (cur .entry)) (16 * g + r) 0) at 5 (now (work .entry)) (now (work .exit)) ⌝ }
+{
+    let mut g: usize = 0;
+    while g < 5 {
+        work[at + g] = cur[16 * g + r];
+        g += 1;
+    }
+}
+
+// Keeps in a unit's row the costs that its choice compares.
+pub fn keep(x: usize, cur: &[u8; 80], work: &mut [u8], row: usize)
+    requires { ⌜ (x < 17) × (row + 65 ≤ length (now work)) ⌝ }
+    ensures { λ _. ⌜ RowKept x (now (cur .entry)) (now (work .entry)) row (now (work .exit)) ⌝ }
+{
+    if x < 12 {
+        return;
+    }
+    if x < 15 {
+        keep_row(cur, 16 * (x - 10), work, row);
+        keep_column(cur, x - 2, work, row + 16);
+        return;
+    }
+    if x == 15 {
+        keep_row(cur, 0, work, row);
+        keep_row(cur, 16, work, row + 16);
+    }
+}

@@ -1,0 +1,53 @@
+-- `records::turn` meets its contract, by what came before and what the record is refused for.
+use mathlib.Core.Path.{sym, _∙_}
+use Rattle.records.proofs.Turns.{stowable, turn-goes, turn-stops, turn-faulty}
+use borrow.Author.Needs.{needs}
+use Rattle.records.proofs.turn.Statement.{statement}
+use Rattle.records.proofs.turn.Tie as tie
+
+enum-known-progress : tie.Need-enum-known-progress
+enum-known-progress c = search needs
+
+judge-requires : tie.Need-judge-requires
+judge-requires c κs = search needs
+
+enum-known-step : tie.Need-enum-known-step
+enum-known-step c = search needs
+
+put-requires : tie.Need-put-requires
+put-requires c κs = stowable _ _ _ _ (sym (c .before .before .before .before .judge .ensures) ∙ c .before .before .step .given .1)
+
+enum-known-step-2 : tie.Need-enum-known-step-2
+enum-known-step-2 c = search needs
+
+enum-known-progress-2 : tie.Need-enum-known-progress-2
+enum-known-progress-2 c = search needs
+
+same-length : tie.Need-same-length
+same-length c = search needs
+
+returns : tie.Need-returns
+returns c =
+    let t = turn-goes (c .before .before .before .before .before .before .before .before .before .before .before .before .before .args .segments .now) (c .before .before .before .before .before .before .before .before .before .before .before .before .before .args .unit) (c .before .before .before .before .before .before .before .before .before .before .before .before .before .args .i) (c .before .before .before .before .before .before .before .before .before .before .before .before .before .args .progress) (c .before .before .before .before .before .before .before .before .before .before .before .before .before .args .work .now) _ _ (c .before .before .before .before .before .before .before .before .before .progress .given .1) (sym (c .before .before .before .before .before .before .before .judge .ensures) ∙ c .before .before .before .before .before .step .given .1) in
+    (t .0, c .before .before .put .ensures ∙ t .1)
+
+returns-2 : tie.Need-returns-2
+returns-2 c = turn-stops _ _ _ _ _ _ _ (c .before .before .before .before .before .progress .given .1) (sym (c .before .before .before .judge .ensures) ∙ c .before .step2 .given .1)
+
+returns-3 : tie.Need-returns-3
+returns-3 c = turn-faulty _ _ _ _ _ _ _ (c .before .progress2 .given .1)
+
+pub turn-spec : {M : Type 1} → statement M
+turn-spec =
+    tie.close
+    (tie.spec
+    enum-known-progress
+    judge-requires
+    enum-known-step
+    put-requires
+    enum-known-step-2
+    enum-known-progress-2
+    same-length
+    returns
+    returns-2
+    returns-3)

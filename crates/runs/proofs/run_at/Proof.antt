@@ -1,0 +1,23 @@
+-- `runs::run_at` meets its contract, by what it calls.
+use borrow.Author.Needs.{needs}
+use Rattle.runs.proofs.Turn.{on-accepted, on-refused}
+use Rattle.runs.proofs.run_at.Statement.{statement}
+use Rattle.runs.proofs.run_at.Tie as tie
+
+check-requires : tie.Need-check-requires
+check-requires c κs = search needs
+
+nth-requires : tie.Need-nth-requires
+nth-requires c κs = search needs
+
+returns : tie.Need-returns
+returns c = search (on-accepted, on-refused)
+
+no-run-requires : tie.Need-no-run-requires
+no-run-requires c κs = search needs
+
+returns-2 : tie.Need-returns-2
+returns-2 c = search (on-accepted, on-refused)
+
+pub run-at-spec : {M : Type 1} → statement M
+run-at-spec = tie.close (tie.spec check-requires nth-requires returns no-run-requires returns-2)

@@ -1,0 +1,78 @@
+-- The runs of a string, and what is answered of each. Document 01: "A run is a longest stretch of GL or of GR octets of characters and
+-- spaces, unbroken by any other octet."
+use Prim.Native.Nat.{ℕ, zero, suc, _+_, _-_}
+use mathlib.Core.Path.{_≡_}
+use mathlib.Core.List.{List, [], _∷_}
+use lib.Dec.{eqb}
+use lib.ListN.{length, take, drop}
+use denote.Ref.{RefT, ptr, now}
+use Rattle.base.specs.Answers.{answer, refusedAt}
+use Rattle.base.specs.Choice.{pick}
+use Rattle.base.specs.Direction as direction
+use Rattle.base.specs.Refusal as refusal
+use Rattle.base.specs.declared.Answer.{Answer}
+use Rattle.charset.specs.Charsets.{form-94x94, formOf}
+use Rattle.grammar.specs.Reading.{checkOf}
+use Rattle.state.specs.Directions.{inForceOf}
+use Rattle.pieces.specs.Pieces.{isRun, piecesOf, setIn}
+use Rattle.runs.specs.declared.Bounds.{Bounds}
+use Rattle.pieces.specs.declared.Piece.{Piece}
+use Rattle.runs.specs.declared.view.Run.{Run}
+
+-- the runs among pieces
+unfoldable pub runsIn : List Piece → List Piece
+runsIn [] = []
+runsIn (p ∷ ps) = pick (isRun (p .kind)) (p ∷ runsIn ps) (runsIn ps)
+
+-- the runs of a string
+unfoldable pub runsOf : List ℕ → List Piece
+runsOf s = runsIn (piecesOf s)
+
+-- how many octets a character of a set has
+unfoldable pub widthOf : ℕ → ℕ
+widthOf c = pick (eqb (formOf c) form-94x94) 2 1
+
+abbrev pub bounds : ℕ → ℕ → ℕ → ℕ → ℕ → Answer → Bounds
+bounds start end set width direction a =
+    record { start = start; end = end; set = set; width = width; direction = direction; answer = a }
+
+-- a run of a string of n octets, "with the set, octet width and direction in force": "A run shown answers 0, the string's length and
+-- the run's octets". Text changes neither the sets nor the open directions, so the state after the run's first element has what is in
+-- force for all of it.
+unfoldable pub shownOf : ℕ → Piece → Bounds
+shownOf n p =
+    bounds (p .start) (p .end) (setIn p) (widthOf (setIn p)) (inForceOf (p .state .directions))
+    (answer refusal.accepted n (p .end - p .start))
+
+-- "beside a refusal set and width are 0 and the direction is none"; where the empty part stands is free: at place 0
+abbrev pub noRun : Answer → Bounds
+noRun a = bounds 0 0 0 0 direction.none a
+
+-- the k-th of runs, counted from 0: "past the last run the empty part with 11 at 0"
+unfoldable pub nthOf : ℕ → ℕ → List Piece → Bounds
+nthOf n k [] = noRun (refusedAt refusal.bad-unit 0)
+nthOf n zero (p ∷ ps) = shownOf n p
+nthOf n (suc k) (p ∷ ps) = nthOf n k ps
+
+-- "Runs are asked for by number from 0 and shown only for accepted strings; for others the answer is the empty part with the string's
+-- refusal"
+unfoldable pub runAt : List ℕ → ℕ → Bounds
+runAt s k = pick (eqb (checkOf s .number) refusal.accepted) (nthOf (length s) k (runsOf s)) (noRun (checkOf s))
+
+-- the octets of the k-th run, none where there is no such run
+abbrev pub runOctets : List ℕ → ℕ → List ℕ
+runOctets s k = take (runAt s k .end - runAt s k .start) (drop (runAt s k .start) s)
+
+-- a reference points into what s refers to, so many octets from its start
+abbrev pub startsAt : RefT (List ℕ) → RefT (List ℕ) → ℕ → Type 0
+startsAt r s start = (ptr r .0 ≡ ptr s .0) × (ptr r .1 ≡ start + ptr s .1)
+
+-- a value is the k-th run of what s refers to: "It is handed back as that very part of the string, with the set, octet width and
+-- direction in force." What it holds, and where it starts.
+pub record Shown (s : RefT (List ℕ)) (k : ℕ) (r : Run) : Type 0 where
+  pub part : now (r .part) ≡ runOctets (now s) k
+  pub place : startsAt (r .part) s (runAt (now s) k .start)
+  pub answer : r .answer ≡ runAt (now s) k .answer
+  pub set : r .set ≡ runAt (now s) k .set
+  pub width : r .width ≡ runAt (now s) k .width
+  pub direction : r .direction ≡ runAt (now s) k .direction

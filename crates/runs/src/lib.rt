@@ -1,0 +1,156 @@
+// Runs: the stretches of text of one side, asked for by number.
+ghost use mathlib.Core.Path.{_≡_};
+ghost use Prim.Native.Nat.{_+_, _-_, _≤_};
+ghost use lib.ListN.{length, getD, take, drop};
+ghost use Rattle.runs.specs.Runs.{runsOf, widthOf, shownOf, noRun, nthOf, runAt, runOctets, startsAt, Shown};
+use base::Answer;
+use base::direction;
+use base::refusal;
+use charset::FORM_94X94;
+use pieces::Piece;
+use state::State;
+
+pub mod view;
+
+use crate::view::Run;
+
+// Where a run starts and ends in the string, the answer, and the set, octet width and direction in force.
+#[repr(C)]
+pub struct Bounds {
+    pub start: usize,
+    pub end: usize,
+    pub answer: Answer,
+    pub set: u8,
+    pub width: u8,
+    pub direction: u8,
+}
+
+// How many octets a character of a set has.
+pub fn width(set: u8) -> u8
+    ensures { λ r. ⌜ r ≡ widthOf set ⌝ }
+{
+    if charset::form_of(set) == FORM_94X94 {
+        return 2;
+    }
+    1
+}
+
+pub fn no_run(answer: Answer) -> Bounds
+    ensures { λ r. ⌜ r ≡ noRun answer ⌝ }
+{
+    Bounds {
+        start: 0,
+        end: 0,
+        answer: answer,
+        set: 0,
+        width: 0,
+        direction: direction::NONE,
+    }
+}
+
+// A run of a string of n octets.
+fn shown(n: usize, run: Piece) -> Bounds
+    requires { ⌜ run .start ≤ run .end ⌝ }
+    ensures { λ r. ⌜ r ≡ shownOf n run ⌝ }
+{
+    let set = pieces::set_in(run);
+    let width = width(set);
+    let state = run.state;
+    let directions = state.directions;
+    let direction = directions.in_force();
+    let answer = Answer {
+        place: n,
+        count: run.end - run.start,
+        number: refusal::ACCEPTED,
+    };
+    Bounds {
+        start: run.start,
+        end: run.end,
+        answer: answer,
+        set: set,
+        width: width,
+        direction: direction,
+    }
+}
+
+// The k-th run of a string, refused or not, where its runs are those before the offending element. The piece that was read last is
+// kept until the one after it is known.
+fn nth(s: &[u8], k: usize) -> Bounds
+    ensures { λ r. ⌜ r ≡ nthOf (length (now (s .entry))) k (runsOf (now (s .entry))) ⌝ }
+{
+    let mut at: usize = 0;
+    let mut left = k;
+    let mut st = State::FRESH;
+    let mut last = pieces::no_piece(0);
+    loop {
+        let next = pieces::piece_at(s, at, st);
+        let ending = pieces::ending(last.kind, next.kind);
+        if left < ending {
+            return shown(s.len(), last);
+        }
+        if next.end == at {
+            return no_run(Answer {
+                place: 0,
+                count: 0,
+                number: refusal::BAD_UNIT,
+            });
+        }
+        left -= ending;
+        last = pieces::extended(last, next);
+        at = next.end;
+        let state = next.state;
+        st = state;
+    }
+}
+
+// The k-th run of a string: where it lies, and its numbers.
+pub fn run_at(s: &[u8], k: usize) -> Bounds
+    ensures { λ r. ⌜ r ≡ runAt (now (s .entry)) k ⌝ }
+{
+    let answer = reading::check(s);
+    if answer.number == refusal::ACCEPTED {
+        return nth(s, k);
+    }
+    no_run(answer)
+}
+
+// That very part of the string.
+fn part<'a>(s: &'a [u8], start: usize, end: usize) -> &'a [u8]
+    requires { ⌜ (start ≤ end) × (end ≤ length (now s)) ⌝ }
+    ensures { λ r. ⌜ (now r ≡ take (end - start) (drop start (now (s .entry)))) × startsAt r (s .entry) start ⌝ }
+{
+    &s[start..end]
+}
+
+// The k-th run of a string, as that very part of it.
+pub fn run<'a>(s: &'a [u8], k: usize) -> Run<'a>
+    ensures { λ r. ⌜ Shown (s .entry) k r ⌝ }
+{
+    let b = run_at(s, k);
+    let p = part(s, b.start, b.end);
+    Run {
+        part: p,
+        answer: b.answer,
+        set: b.set,
+        width: b.width,
+        direction: b.direction,
+    }
+}
+
+// The octet at a place of a part, and 0 past its end.
+fn octet(part: &[u8], i: usize) -> u8
+    ensures { λ r. ⌜ r ≡ getD (now (part .entry)) i 0 ⌝ }
+{
+    if i < part.len() {
+        return part[i];
+    }
+    0
+}
+
+// The i-th octet of the k-th run, and 0 past its end: `run` for callers that hold none.
+pub fn run_octet(s: &[u8], k: usize, i: usize) -> u8
+    ensures { λ r. ⌜ r ≡ getD (runOctets (now (s .entry)) k) i 0 ⌝ }
+{
+    let r = run(s, k);
+    octet(r.part, i)
+}

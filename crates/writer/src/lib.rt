@@ -1,0 +1,68 @@
+// The writer: from a list of unit records to the shortest string that reads as it.
+ghost use mathlib.Core.Path.{_≡_};
+ghost use lib.ListN.{length};
+ghost use Rattle.writing.specs.Records.{writerAnswer, writerOutput};
+ghost use Rattle.writing.specs.Demand3.{Demand3For};
+ghost use Rattle.records.specs.Turn.{lookedAt};
+ghost use Rattle.writer.specs.Stowed.{reached, Stowed, finishAnswer, finishOutput};
+use base::Answer;
+use base::Unit;
+use base::limit;
+use base::refusal;
+use records::Progress;
+
+// Checks each record, and puts it into its row of the work room.
+fn stow(units: &[Unit], segments: &[u8], work: &mut [u8]) -> Progress
+    ensures { λ r. ⌜ (r ≡ reached (now (segments .entry)) (now (units .entry)) (lookedAt (length (now (units .entry)))))
+        × Stowed (now (segments .entry)) (now (units .entry)) (lookedAt (length (now (units .entry)))) (now (work .entry)) (now (work .exit)) ⌝ }
+{
+    let n = records::looked_at(units.len());
+    let mut progress = records::begin();
+    let mut i: usize = 0;
+    while i < n {
+        progress = records::turn(progress, units[i], i, segments, work);
+        i += 1;
+    }
+    progress
+}
+
+// The answer once the list is checked.
+pub fn finish(
+    progress: Progress,
+    n: usize,
+    segments: &[u8],
+    work: &mut [u8],
+    out: &mut [u8],
+) -> Answer
+    ensures { λ r. ⌜ (r ≡ finishAnswer progress n (now (segments .entry)) (now (work .entry)) (length (now (out .entry))))
+        × (now (out .exit) ≡ finishOutput progress n (now (segments .entry)) (now (work .entry)) (now (out .entry)))
+        × (length (now (work .exit)) ≡ length (now (work .entry))) ⌝ }
+{
+    if limit::UNITS < n {
+        return Answer {
+            place: 0,
+            count: 0,
+            number: refusal::TOO_LONG,
+        };
+    }
+    match progress {
+        Progress::Fine(_) => emit::write_rows(work, n, segments, out),
+        Progress::Faulty(number, place) => Answer {
+            place: place,
+            count: 0,
+            number: number,
+        },
+    }
+}
+
+// Writes the units of a list, whose extended segments stand in the octets lent, as the shortest string, or answers why not. The work room
+// is to have 72 octets for each unit and 72 more. What it holds after is left open; it keeps its length.
+pub fn write(units: &[Unit], segments: &[u8], work: &mut [u8], out: &mut [u8]) -> Answer
+    ensures { λ r. ⌜ (r ≡ writerAnswer (now (units .entry)) (now (segments .entry)) (length (now (work .entry))) (length (now (out .entry))))
+        × (now (out .exit) ≡ writerOutput (now (units .entry)) (now (segments .entry)) (length (now (work .entry))) (now (out .entry)))
+        × (length (now (work .exit)) ≡ length (now (work .entry)))
+        × Demand3For (now (units .entry)) (now (segments .entry)) (length (now (work .entry))) (now (out .entry)) r (now (out .exit)) ⌝ }
+{
+    let progress = stow(units, segments, work);
+    finish(progress, units.len(), segments, work, out)
+}

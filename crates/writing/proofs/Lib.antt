@@ -1,0 +1,15 @@
+pub mod Sets
+pub mod Needs
+pub mod Costs
+pub mod Bounds
+pub mod Choice
+pub mod Written
+pub mod Shortest
+pub mod Offence
+pub mod Bad
+pub mod Records
+pub mod Outcome
+pub mod Output
+pub mod Demand3
+pub mod Unused
+pub mod CheckedStrings

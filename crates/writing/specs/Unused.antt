@@ -1,0 +1,20 @@
+-- "Unused fields are ignored, also where readings are compared": which fields a kind uses.
+use mathlib.Core.Path.{_≡_}
+use mathlib.Core.List.{List, [], _∷_}
+use mathlib.Core.Logic.{_⊎_}
+use Rattle.base.specs.Kind as kind
+use Rattle.base.specs.declared.Unit.{Unit as UnitRecord}
+
+-- two records are alike in what their kind uses: "Only a character has a set; only a character and an extended segment have a code", and
+-- only an extended segment is found by its start and length
+pub record Alike (r q : UnitRecord) : Type 0 where
+  pub kinds : r .kind ≡ q .kind
+  pub sets : r .kind ≡ kind.character → r .set ≡ q .set
+  pub codes : (r .kind ≡ kind.character) ⊎ (r .kind ≡ kind.segment) → r .code ≡ q .code
+  pub starts : r .kind ≡ kind.segment → r .start ≡ q .start
+  pub lengths : r .kind ≡ kind.segment → r .length ≡ q .length
+
+-- two lists, record by record
+pub data AllAlike : List UnitRecord → List UnitRecord → Type 0 where
+  none : AllAlike [] []
+  more : {r q : UnitRecord} {rs qs : List UnitRecord} → Alike r q → AllAlike rs qs → AllAlike (r ∷ rs) (q ∷ qs)

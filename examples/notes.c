@@ -1,0 +1,201 @@
+/* notes.c: reads notes in Compound Text, lists their units and runs, rewrites
+   them in their shortest form, steps a reader over them, and shows refusals.
+
+   cc -std=c99 -I include -o notes examples/notes.c -L target/staticlib -lctext */
+
+#include <inttypes.h>
+#include <stdio.h>
+#include <stdlib.h>
+
+#include "ctext.h"
+
+static const char *const KINDS[] = {
+    "character", "space", "tab", "newline",
+    "left-to-right", "right-to-left", "revert", "segment"
+};
+
+static const char *const DIRECTIONS[] = { "none", "left-to-right", "right-to-left" };
+
+static void print_octets(const uint8_t *octets, size_t n)
+{
+    size_t i;
+    for (i = 0; i < n; i++)
+        printf(" %02X", octets[i]);
+    printf("\n");
+}
+
+static void print_answer(const char *what, ctext_answer a)
+{
+    printf("  %s: ", what);
+    if (a.number == CTEXT_ACCEPTED)
+        printf("accepted, place %zu, count %zu\n", a.place, a.count);
+    else if (a.number == CTEXT_NO_ROOM)
+        printf("refused %d at %zu, %zu needed: %s\n", a.number, a.place, a.count,
+               ctext_refusal_text(a.number));
+    else
+        printf("refused %d at %zu: %s\n", a.number, a.place, ctext_refusal_text(a.number));
+}
+
+static void print_unit(size_t index, ctext_unit unit)
+{
+    printf("  unit %zu: %s", index, KINDS[unit.kind]);
+    if (unit.kind == CTEXT_KIND_CHARACTER)
+        printf(", set %d", unit.set);
+    if (unit.kind == CTEXT_KIND_CHARACTER || unit.kind == CTEXT_KIND_SEGMENT)
+        printf(", code %X", (unsigned)unit.code);
+    printf(", octets %" PRIu32 " to %" PRIu32 "\n", unit.start, unit.start + unit.length);
+}
+
+/* The runs are asked for by number, until there is no such run. */
+static void print_runs(const uint8_t *note, size_t n)
+{
+    size_t k;
+    for (k = 0;; k++) {
+        ctext_run_bounds run = ctext_run(note, n, k);
+        if (run.answer.number != CTEXT_ACCEPTED)
+            return;
+        printf("  run %zu: set %d, width %d, direction %s:", k, run.set, run.width,
+               DIRECTIONS[run.direction]);
+        print_octets(ctext_run_octets(note, run), run.end - run.start);
+    }
+}
+
+/* The shortest form of the note, which is never longer than the note. */
+static void print_shortest(const uint8_t *note, size_t n, const ctext_unit *units, size_t count)
+{
+    size_t room = CTEXT_WORK_ROOM(count);
+    uint8_t *work = (uint8_t *)malloc(room);
+    uint8_t *out = (uint8_t *)malloc(n + 1);
+    if (work != NULL && out != NULL) {
+        ctext_answer a = ctext_write(units, count, note, n, work, room, out, n);
+        print_answer("write", a);
+        printf("  shortest:");
+        print_octets(out, a.count);
+    }
+    free(out);
+    free(work);
+}
+
+/* The list is asked for twice: first how long it is, then the list itself. */
+static void print_note(const uint8_t *note, size_t n)
+{
+    ctext_answer a = ctext_read(note, n, NULL, 0);
+    size_t count = a.number == CTEXT_NO_ROOM ? a.count : 0;
+    ctext_unit *units = (ctext_unit *)malloc((count + 1) * sizeof *units);
+    size_t i;
+    if (units == NULL)
+        return;
+    a = ctext_read(note, n, units, count);
+    print_answer("read", a);
+    if (a.number == CTEXT_ACCEPTED) {
+        for (i = 0; i < a.count; i++)
+            print_unit(i, units[i]);
+        print_runs(note, n);
+        print_shortest(note, n, units, count);
+    }
+    free(units);
+}
+
+/* A reader hands out the units one by one, also those of a refused note that
+   stand before the offending element. */
+static void print_steps(const uint8_t *note, size_t n)
+{
+    ctext_step step = ctext_next(note, n, ctext_open());
+    size_t given = 0;
+    while (step.given) {
+        given++;
+        step = ctext_next(note, n, step.reader);
+    }
+    printf("  steps: units given %zu, then", given);
+    if (step.answer.number == CTEXT_ACCEPTED)
+        printf(" the end\n");
+    else
+        printf(" refused %d at %zu\n", step.answer.number, step.answer.place);
+}
+
+static void show(const char *name, const uint8_t *note, size_t n)
+{
+    printf("%s:", name);
+    print_octets(note, n);
+    print_answer("check", ctext_check(note, n));
+    print_note(note, n);
+    print_steps(note, n);
+}
+
+/* A list made by hand, and what the writer answers where it does not fit. */
+static void show_lists(void)
+{
+    ctext_unit units[3] = {
+        { CTEXT_KIND_CHARACTER, CTEXT_SET_JISX0208, 0x3021, 0, 0 },
+        { CTEXT_KIND_SPACE, 0, 0, 0, 0 },
+        { CTEXT_KIND_CHARACTER, CTEXT_SET_JISX0201_LEFT, 0x5C, 0, 0 }
+    };
+    uint8_t work[CTEXT_WORK_ROOM(3)];
+    uint8_t out[16];
+    ctext_answer a;
+    printf("a list of three units:\n");
+    print_answer("no work room", ctext_write(units, 3, NULL, 0, work, sizeof work - 1, out, 16));
+    print_answer("no output", ctext_write(units, 3, NULL, 0, work, sizeof work, NULL, 0));
+    a = ctext_write(units, 3, NULL, 0, work, sizeof work, out, sizeof out);
+    print_answer("write", a);
+    printf("  shortest:");
+    print_octets(out, a.count);
+    units[2].code = 0xDC; /* the top bit is no part of a code */
+    print_answer("bad code", ctext_write(units, 3, NULL, 0, work, sizeof work, out, sizeof out));
+    units[1].kind = CTEXT_KIND_REVERT;
+    print_answer("no direction", ctext_write(units, 3, NULL, 0, work, sizeof work, out, sizeof out));
+}
+
+/* Readers made by hand: in the middle of a note, and past its end. */
+static void show_readers(void)
+{
+    static const uint8_t note[] = { 0x30, 0x21, 0x09 };
+    ctext_reader reader = ctext_open();
+    ctext_step step;
+    printf("readers made by hand:");
+    print_octets(note, sizeof note);
+    reader.gl = CTEXT_SET_JISX0208;
+    step = ctext_next(note, sizeof note, reader);
+    print_unit(step.reader.count - 1, step.unit);
+    printf("  the reader stands at %zu\n", step.reader.place);
+    reader.place = sizeof note + 1;
+    print_answer("past the end", ctext_next(note, sizeof note, reader).answer);
+    reader = ctext_open();
+    reader.gr = CTEXT_SET_ASCII;
+    print_answer("ASCII in GR", ctext_next(note, sizeof note, reader).answer);
+}
+
+#define SHOW(name, note) show(name, note, sizeof note)
+
+int main(void)
+{
+    static const uint8_t latin[] = { 0x48, 0x09, 0xE9 };
+    static const uint8_t japanese[] = { 0x1B, 0x24, 0x28, 0x42, 0x30, 0x21, 0x1B, 0x28, 0x42, 0x41 };
+    static const uint8_t korean[] = { 0x1B, 0x24, 0x29, 0x43, 0xC0, 0xB1, 0xC3, 0xCA };
+    static const uint8_t leap[] = {
+        0x6C, 0x65, 0x61, 0x70, 0x20, 0x73, 0x65, 0x63, 0x6F, 0x6E, 0x64, 0x20,
+        0x65, 0x6E, 0x74, 0x65, 0x72, 0x65, 0x64
+    };
+    static const uint8_t hebrew[] = {
+        0x9B, 0x32, 0x5D, 0x1B, 0x2D, 0x48, 0xF9, 0xEC, 0x20, 0x9B, 0x31, 0x5D, 0x41, 0x9B, 0x5D, 0xE9, 0x0A
+    };
+    static const uint8_t segment[] = { 0x1B, 0x25, 0x2F, 0x31, 0x80, 0x84, 0x61, 0x62, 0x02, 0xFF };
+    static const uint8_t cut[] = { 0x1B, 0x28 };
+    static const uint8_t old_form[] = { 0x41, 0x1B, 0x24, 0x42, 0x30, 0x21 };
+    static const uint8_t space[] = { 0x1B, 0x24, 0x28, 0x42, 0x20 };
+    static const uint8_t late_mark[] = { 0x41, 0x9B, 0x31, 0x5D };
+    show("empty", NULL, 0);
+    SHOW("Latin", latin);
+    SHOW("Japanese", japanese);
+    SHOW("Korean", korean);
+    SHOW("after it, leap second entered", leap);
+    SHOW("Hebrew", hebrew);
+    SHOW("extended segment", segment);
+    SHOW("cut", cut);
+    SHOW("old form", old_form);
+    SHOW("space under two octets", space);
+    SHOW("mark after text", late_mark);
+    show_lists();
+    show_readers();
+    return 0;
+}

@@ -1,0 +1,267 @@
+/* ctext.h: reading and writing X11 Compound Text (COMPOUND_TEXT, version 1.1).
+
+   The library keeps nothing between calls: no memory of its own, no global
+   state, no locale, no files. Every string starts from the fresh state, ASCII
+   in GL and ISO 8859-1 in GR. A call returns for every input, and any number
+   of threads may call.
+
+   What the library relies on, because C cannot guarantee it:
+   - A pointer and the length after it tell the truth: so many octets or
+     records stand there for the whole call. Beside a length of 0 the pointer
+     is not followed and may be null.
+   - What is lent for an answer (units of ctext_read, work and out of
+     ctext_write) overlaps nothing else that is lent to the same call.
+   - While a call runs, nobody else writes to what it was lent, and nobody
+     else looks at what it was lent for an answer.
+   Nothing else is left to the caller. Any octets, records, readers and
+   lengths may be passed, and what is lent for an answer may hold anything.
+
+   Octets are written in hexadecimal below. */
+
+#ifndef CTEXT_H
+#define CTEXT_H
+
+#include <stddef.h>
+#include <stdint.h>
+
+#define CTEXT_VERSION "1.0"
+
+/* The most octets of a string, units of a list, octets of an extended
+   segment, and directions open at once. */
+#define CTEXT_MOST_OCTETS 65535
+#define CTEXT_MOST_UNITS 65535
+#define CTEXT_MOST_SEGMENT 16383
+#define CTEXT_MOST_OPEN 16
+
+/* The octets of work room that ctext_write needs for a list of n units. */
+#define CTEXT_WORK_ROOM(n) (72 * ((size_t)(n) + 1))
+
+#ifdef __cplusplus
+extern "C" {
+#endif
+
+/* ---- Answers ----------------------------------------------------------- */
+
+/* number  CTEXT_ACCEPTED, or why the input is refused (below)
+   place   accepted: the input's length, in octets or units;
+           refused: where the offending element starts in the string, or the
+           index of the offending unit; 0 for 1, 10, 12, and for a run or a
+           reader that does not exist
+   count   accepted: the units read, or the octets written or shown;
+           refused: 0, but under CTEXT_NO_ROOM the records or octets needed */
+typedef struct ctext_answer {
+    size_t place;
+    size_t count;
+    uint8_t number;
+} ctext_answer;
+
+enum ctext_refusal {
+    CTEXT_ACCEPTED = 0,
+    CTEXT_TOO_LONG = 1,             /* string, list or shortest writing over 65,535 */
+    CTEXT_CUT = 2,                  /* end inside an element */
+    CTEXT_UNUSED = 3,               /* octet not used there */
+    CTEXT_UNKNOWN = 4,              /* unknown sequence */
+    CTEXT_NOT_APPROVED = 5,         /* set not approved for that form */
+    CTEXT_VERSION_SEQUENCE = 6,     /* version sequence, 1B 23 */
+    CTEXT_BAD_SEGMENT = 7,          /* bad extended segment, or a unit's over 16,383 octets */
+    CTEXT_DIRECTION = 8,            /* direction rule */
+    CTEXT_TOO_DEEP = 9,             /* a seventeenth open direction */
+    CTEXT_NO_ROOM = 10,             /* list or output too short; count is what is needed */
+    CTEXT_BAD_UNIT = 11,            /* bad unit; no such run; no such reader */
+    CTEXT_NO_WORK_ROOM = 12         /* work room under CTEXT_WORK_ROOM(units) */
+};
+
+/* The text of a number of refusal: a constant string, never null. */
+static inline const char *ctext_refusal_text(unsigned number)
+{
+    switch (number) {
+    case CTEXT_ACCEPTED: return "accepted";
+    case CTEXT_TOO_LONG: return "string, list or shortest writing over 65,535";
+    case CTEXT_CUT: return "end inside an element";
+    case CTEXT_UNUSED: return "octet not used there";
+    case CTEXT_UNKNOWN: return "unknown sequence";
+    case CTEXT_NOT_APPROVED: return "set not approved for that form";
+    case CTEXT_VERSION_SEQUENCE: return "version sequence";
+    case CTEXT_BAD_SEGMENT: return "bad extended segment";
+    case CTEXT_DIRECTION: return "direction rule";
+    case CTEXT_TOO_DEEP: return "too many directions open";
+    case CTEXT_NO_ROOM: return "output too short";
+    case CTEXT_BAD_UNIT: return "bad unit, or no such run or reader";
+    case CTEXT_NO_WORK_ROOM: return "work room too short";
+    default: return "no number of refusal";
+    }
+}
+
+/* ---- Units ------------------------------------------------------------- */
+
+enum ctext_kind {
+    CTEXT_KIND_CHARACTER = 0,
+    CTEXT_KIND_SPACE = 1,
+    CTEXT_KIND_TAB = 2,
+    CTEXT_KIND_NEWLINE = 3,
+    CTEXT_KIND_LEFT_TO_RIGHT = 4, /* begins a direction */
+    CTEXT_KIND_RIGHT_TO_LEFT = 5, /* begins a direction */
+    CTEXT_KIND_REVERT = 6,        /* ends the direction begun last */
+    CTEXT_KIND_SEGMENT = 7        /* extended segment */
+};
+
+enum ctext_set {
+    CTEXT_SET_ASCII = 0,           /* GL */
+    CTEXT_SET_JISX0201_RIGHT = 1,  /* GR */
+    CTEXT_SET_JISX0201_LEFT = 2,   /* GL */
+    CTEXT_SET_ISO8859_1_RIGHT = 3, /* 3 to 11: GR */
+    CTEXT_SET_ISO8859_2_RIGHT = 4,
+    CTEXT_SET_ISO8859_3_RIGHT = 5,
+    CTEXT_SET_ISO8859_4_RIGHT = 6,
+    CTEXT_SET_ISO8859_7_RIGHT = 7,
+    CTEXT_SET_ISO8859_6_RIGHT = 8,
+    CTEXT_SET_ISO8859_8_RIGHT = 9,
+    CTEXT_SET_ISO8859_5_RIGHT = 10,
+    CTEXT_SET_ISO8859_9_RIGHT = 11,
+    CTEXT_SET_GB2312 = 12,         /* 12 to 14: two octets, GL or GR */
+    CTEXT_SET_JISX0208 = 13,
+    CTEXT_SET_KSC5601 = 14
+};
+
+/* kind    one of enum ctext_kind
+   set     of a character: one of enum ctext_set
+   code    of a character: its octet less the top bit; of two octets
+           first * 256 + second, each less its top bit;
+           of an extended segment: its octet d, 30 to 34
+   start   where the unit's octets start in the string, and how many they are;
+   length  of an extended segment those of its name, 02 and text
+   Set and code are 0 where they mean nothing. */
+typedef struct ctext_unit {
+    uint8_t kind;
+    uint8_t set;
+    uint16_t code;
+    uint32_t start;
+    uint32_t length;
+} ctext_unit;
+
+/* ---- Reading a whole string -------------------------------------------- */
+
+/* Whether the n octets at s are accepted: 0, n and the number of units. Else
+   CTEXT_TOO_LONG, or the refusal of the first offending element. Reads s,
+   touches nothing. */
+ctext_answer ctext_check(const uint8_t *s, size_t n);
+
+/* The units of the n octets at s. The caller lends room records at units; n
+   records always suffice. Answers as ctext_check, but an accepted string of
+   more than room units is CTEXT_NO_ROOM. Accepted: the first count records
+   hold the units and the rest stay as they were. Refused: no record is
+   touched. */
+ctext_answer ctext_read(const uint8_t *s, size_t n, ctext_unit *units, size_t room);
+
+/* ---- Runs -------------------------------------------------------------- */
+
+/* The direction in force. */
+enum ctext_direction {
+    CTEXT_DIRECTION_NONE = 0,
+    CTEXT_DIRECTION_LEFT_TO_RIGHT = 1,
+    CTEXT_DIRECTION_RIGHT_TO_LEFT = 2
+};
+
+/* A run: the octets start to end of the string, end not included, and the set,
+   the octets of one of its characters (1 or 2) and the direction in force. */
+typedef struct ctext_run_bounds {
+    size_t start;
+    size_t end;
+    ctext_answer answer;
+    uint8_t set;
+    uint8_t width;
+    uint8_t direction;
+} ctext_run_bounds;
+
+/* The run of number k, from 0, of the n octets at s. A run is a longest stretch
+   of GL or of GR octets of characters and spaces, unbroken by any other octet.
+   Shown: 0, n and the run's octets. A refused string: its refusal. Past the
+   last run: CTEXT_BAD_UNIT at 0. Beside a refusal all else is 0. Reads s from
+   its start at every call, touches nothing. */
+ctext_run_bounds ctext_run(const uint8_t *s, size_t n, size_t k);
+
+/* The run's octets, end - start of them, where they stand in the string. */
+static inline const uint8_t *ctext_run_octets(const uint8_t *s, ctext_run_bounds run)
+{
+    return run.start == 0 ? s : s + run.start;
+}
+
+/* ---- A reader that steps ----------------------------------------------- */
+
+/* Where a reader stands. The caller keeps it, and the string. It may be copied,
+   stored, and made by hand.
+   levels  the open directions, a binary digit for each: the last opened lowest,
+           1 for right-to-left; digits from depth upwards mean nothing
+   place   the next octet
+   count   the units handed out; it stays at the largest number
+   gl, gr  the sets in force
+   depth   how many directions are open
+   marked  whether a direction mark was read
+   texted  whether a character or space was read
+   Of marked and texted 0 is no and anything else yes; a step gives 0 or 1. */
+typedef struct ctext_reader {
+    uint64_t levels;
+    size_t place;
+    size_t count;
+    uint8_t gl;
+    uint8_t gr;
+    uint8_t depth;
+    uint8_t marked;
+    uint8_t texted;
+} ctext_reader;
+
+/* given 1: unit is the next unit, and reader stands after it; answer is all 0.
+   given 0: there is none, answer says why, and reader stands where it stood;
+   unit is all 0. */
+typedef struct ctext_step {
+    ctext_reader reader;
+    ctext_answer answer;
+    ctext_unit unit;
+    uint8_t given;
+} ctext_step;
+
+/* A reader at the start of a string, in the fresh state. */
+ctext_reader ctext_open(void);
+
+/* One step over the n octets at s. A reader of ctext_open, taken on over the
+   same octets, hands out exactly the units before the end or the offending
+   element; the answer is then that of ctext_check, and every further step
+   repeats it. A string over 65,535 octets gives CTEXT_TOO_LONG and no unit. A
+   reader made by hand is read on by the rules from where it stands; one whose
+   place lies past the string, with a set on a side it may not use, or whose
+   depth is over 16, gives CTEXT_BAD_UNIT at 0. Reads s, touches nothing. */
+ctext_step ctext_next(const uint8_t *s, size_t n, ctext_reader reader);
+
+/* ---- Writing ----------------------------------------------------------- */
+
+/* The shortest string that reads as the count units. The extended segments of
+   the list stand in the m octets at segments: of such a unit start and length
+   name its octets there, so for units of ctext_read pass the string itself.
+   Fields that mean nothing for a unit's kind are ignored, and so are start and
+   length of all other units.
+
+   The caller lends w octets of work room, at least CTEXT_WORK_ROOM(count), and
+   o octets of output. For units of ctext_read the length of their string is
+   enough output.
+
+   Accepted: 0, count and the octets written, at the start of out; the rest of
+   out stays as it was. Refused, in this order: 1 for the list; the first
+   offending unit (11, 7, 8, 9); 12; 1 for the writing; CTEXT_NO_ROOM with the
+   octets needed. Then out is not touched. Whatever is answered, work may hold
+   anything afterwards. units and segments are only read. */
+ctext_answer ctext_write(const ctext_unit *units, size_t count,
+                         const uint8_t *segments, size_t m,
+                         uint8_t *work, size_t w,
+                         uint8_t *out, size_t o);
+
+/* The archive is for x86-64 Linux; another layout does not compile. */
+typedef char ctext_layout[sizeof(ctext_answer) == 24 && sizeof(ctext_unit) == 12
+                          && sizeof(ctext_run_bounds) == 48
+                          && sizeof(ctext_reader) == 32 && sizeof(ctext_step) == 72
+                          ? 1 : -1];
+
+#ifdef __cplusplus
+}
+#endif
+
+#endif

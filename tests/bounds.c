@@ -1,0 +1,299 @@
+/* bounds.c: every function of the library on memory of exactly the size that
+   is lent, for valgrind to watch, and its answers held against each other.
+
+   All strings of up to three elements out of a table are read, shown, stepped
+   over and written. What is lent is filled with a pattern or left as malloc
+   gives it, and what must stay is looked at afterwards. */
+
+#include <stdio.h>
+#include <stdlib.h>
+#include <string.h>
+
+#include "ctext.h"
+
+#define PATTERN 0xA5
+
+static const char *const ELEMENTS[] = {
+    "\x41", "\x7E", "\x20", "\x09", "\x0A", "\xA0", "\xE9", "\xFF", "\x30\x21", "\xB0\xA1",
+    "\x1B\x28\x42", "\x1B\x28\x4A", "\x1B\x29\x49", "\x1B\x2D\x48", "\x1B\x24\x28\x42",
+    "\x1B\x24\x29\x43", "\x9B\x31\x5D", "\x9B\x32\x5D", "\x9B\x5D",
+    "\x1B\x25\x2F\x31\x80\x84\x61\x62\x02\xFF", "\x1B\x25\x2F\x32\x80\x84\x61\x02\xFE\xFF",
+    /* refused, or cut at the end of the string */
+    "\x1B", "\x1B\x24\x28", "\x1B\x25\x2F\x30\x81", "\x1B\x25\x2F\x30\x81\x80\x61", "\x9B",
+    "\x1B\x23", "\x1B\x24\x42", "\x7F"
+};
+
+#define MANY (sizeof ELEMENTS / sizeof ELEMENTS[0])
+
+static unsigned long failures, strings, accepted;
+
+static void expect(int holds, const char *what, const uint8_t *s, size_t n)
+{
+    size_t i;
+    if (holds)
+        return;
+    printf("bounds: %s:", what);
+    for (i = 0; i < n && i < 40; i++)
+        printf(" %02X", s[i]);
+    printf("\n");
+    failures++;
+}
+
+/* Memory of exactly so many octets; of none, the null pointer. */
+static void *lend(size_t octets)
+{
+    void *memory = octets == 0 ? NULL : malloc(octets);
+    if (octets != 0 && memory == NULL)
+        exit(2);
+    return memory;
+}
+
+static int same_answer(ctext_answer a, ctext_answer b)
+{
+    return a.number == b.number && a.place == b.place && a.count == b.count;
+}
+
+static int same_unit(const ctext_unit *a, const ctext_unit *b)
+{
+    return a->kind == b->kind && a->set == b->set && a->code == b->code && a->start == b->start
+        && a->length == b->length;
+}
+
+static int untouched(const void *memory, size_t octets)
+{
+    const uint8_t *p = (const uint8_t *)memory;
+    size_t i;
+    for (i = 0; i < octets; i++)
+        if (p[i] != PATTERN)
+            return 0;
+    return 1;
+}
+
+/* The units of ctext_next are those of ctext_read, and so is the answer. */
+static void steps(const uint8_t *s, size_t n, const ctext_unit *units, ctext_answer check)
+{
+    ctext_step step = ctext_next(s, n, ctext_open());
+    size_t given = 0;
+    while (step.given && given < n) {
+        if (check.number == CTEXT_ACCEPTED && given < check.count)
+            expect(same_unit(&units[given], &step.unit), "a unit of a step", s, n);
+        given++;
+        step = ctext_next(s, n, step.reader);
+    }
+    expect(!step.given && same_answer(step.answer, check), "the answer of a step", s, n);
+    expect(check.number != CTEXT_ACCEPTED || given == check.count, "the number of steps", s, n);
+    step = ctext_next(s, n, step.reader);
+    expect(!step.given && same_answer(step.answer, check), "the answer repeated", s, n);
+}
+
+/* The runs stand one after the other and hold every character and space. */
+static void runs(const uint8_t *s, size_t n, const ctext_unit *units, ctext_answer check)
+{
+    size_t octets = 0, shown = 0, end = 0, k, i;
+    for (i = 0; check.number == CTEXT_ACCEPTED && i < check.count; i++)
+        if (units[i].kind <= CTEXT_KIND_SPACE)
+            octets += units[i].length;
+    for (k = 0; k <= n; k++) {
+        ctext_run_bounds run = ctext_run(s, n, k);
+        if (run.answer.number != CTEXT_ACCEPTED) {
+            expect(run.start == run.end && run.set == 0 && run.width == 0 && run.direction == 0,
+                   "the part beside a refusal", s, n);
+            expect(run.answer.number
+                       == (check.number == CTEXT_ACCEPTED ? CTEXT_BAD_UNIT : check.number),
+                   "the refusal of a run", s, n);
+            break;
+        }
+        expect(run.start >= end && run.start < run.end && run.end <= n, "a run's place", s, n);
+        expect(run.answer.place == n && run.answer.count == run.end - run.start,
+               "a run's answer", s, n);
+        end = run.end;
+        shown += run.end - run.start;
+    }
+    expect(shown == octets, "the octets of all runs", s, n);
+}
+
+/* What is written reads as the same list, and is written the same again. */
+static void rewritten(const uint8_t *out, size_t o, const ctext_unit *units, size_t count)
+{
+    ctext_unit *again = (ctext_unit *)lend(count * sizeof *again);
+    uint8_t *work = (uint8_t *)lend(CTEXT_WORK_ROOM(count));
+    uint8_t *twice = (uint8_t *)lend(o);
+    ctext_answer a = ctext_read(out, o, again, count);
+    size_t i;
+    expect(a.number == CTEXT_ACCEPTED && a.count == count, "reading what was written", out, o);
+    for (i = 0; i < a.count; i++)
+        expect(units[i].kind == again[i].kind && units[i].set == again[i].set
+                   && units[i].code == again[i].code,
+               "a unit of what was written", out, o);
+    a = ctext_write(again, count, out, o, work, CTEXT_WORK_ROOM(count), twice, o);
+    expect(a.number == CTEXT_ACCEPTED && a.count == o, "writing twice", out, o);
+    expect(o == 0 || memcmp(out, twice, o) == 0, "the octets written twice", out, o);
+    free(twice);
+    free(work);
+    free(again);
+}
+
+/* Work room and output one short, exact, and more than enough. */
+static void written(const uint8_t *s, size_t n, const ctext_unit *units, size_t count)
+{
+    size_t room = CTEXT_WORK_ROOM(count);
+    uint8_t *work = (uint8_t *)lend(room);
+    uint8_t *large = (uint8_t *)lend(n + 1);
+    uint8_t *exact;
+    ctext_answer a;
+    memset(large, PATTERN, n + 1);
+    a = ctext_write(units, count, s, n, work, room - 1, large, n + 1);
+    expect(a.number == CTEXT_NO_WORK_ROOM && a.place == 0 && a.count == 0, "work room", s, n);
+    expect(untouched(large, n + 1), "output of a refusal", s, n);
+    a = ctext_write(units, count, s, n, work, room, large, n + 1);
+    expect(a.number == CTEXT_ACCEPTED && a.place == count && a.count <= n, "writing", s, n);
+    expect(untouched(large + a.count, n + 1 - a.count), "the rest of the output", s, n);
+    exact = (uint8_t *)lend(a.count);
+    expect(same_answer(ctext_write(units, count, s, n, work, room, exact, a.count), a),
+           "writing into exact output", s, n);
+    expect(a.count == 0 || memcmp(exact, large, a.count) == 0, "the octets", s, n);
+    rewritten(exact, a.count, units, count);
+    if (a.count > 0) {
+        size_t needed = a.count;
+        memset(exact, PATTERN, needed);
+        a = ctext_write(units, count, s, n, work, room, exact, needed - 1);
+        expect(a.number == CTEXT_NO_ROOM && a.place == 0 && a.count == needed, "no room", s, n);
+        expect(untouched(exact, needed), "output too short", s, n);
+    }
+    free(exact);
+    free(large);
+    free(work);
+}
+
+static void try_string(const uint8_t *octets, size_t n)
+{
+    uint8_t *s = (uint8_t *)lend(n);
+    ctext_answer check, a;
+    size_t room;
+    ctext_unit *units;
+    if (n > 0)
+        memcpy(s, octets, n);
+    check = ctext_check(s, n);
+    strings++;
+    accepted += check.number == CTEXT_ACCEPTED;
+    room = check.number == CTEXT_ACCEPTED ? check.count : 2;
+    units = (ctext_unit *)lend(room * sizeof *units);
+    if (room > 0) {
+        memset(units, PATTERN, room * sizeof *units);
+        a = ctext_read(s, n, units, check.number == CTEXT_ACCEPTED ? room - 1 : room);
+        expect(a.number == (check.number == CTEXT_ACCEPTED ? CTEXT_NO_ROOM : check.number),
+               "a list too short", s, n);
+        expect(untouched(units, room * sizeof *units), "the list of a refusal", s, n);
+    }
+    a = ctext_read(s, n, units, room);
+    expect(same_answer(a, check), "the answer of the list", s, n);
+    steps(s, n, units, check);
+    runs(s, n, units, check);
+    if (a.number == CTEXT_ACCEPTED)
+        written(s, n, units, a.count);
+    expect(n == 0 || memcmp(s, octets, n) == 0, "the string itself", s, n);
+    free(units);
+    free(s);
+}
+
+static void try_elements(unsigned most, const uint8_t *before, size_t n)
+{
+    uint8_t octets[64];
+    size_t i;
+    try_string(before, n);
+    if (most == 0)
+        return;
+    if (n > 0)
+        memcpy(octets, before, n);
+    for (i = 0; i < MANY; i++) {
+        size_t more = strlen(ELEMENTS[i]);
+        memcpy(octets + n, ELEMENTS[i], more);
+        try_elements(most - 1, octets, n + more);
+    }
+}
+
+/* Readers made by hand, good and bad ones. */
+static void try_readers(void)
+{
+    static const uint8_t s[] = { 0x09, 0x09 };
+    unsigned gl, gr, depth, place;
+    for (gl = 0; gl < 20; gl++)
+        for (gr = 0; gr < 20; gr++)
+            for (depth = 0; depth < 20; depth++)
+                for (place = 0; place < 4; place++) {
+                    int good = (gl == 0 || gl == 2 || (gl >= 12 && gl <= 14))
+                        && (gr == 1 || (gr >= 3 && gr <= 14)) && depth <= CTEXT_MOST_OPEN
+                        && place <= sizeof s;
+                    ctext_reader r = ctext_open();
+                    ctext_step step;
+                    r.gl = (uint8_t)gl;
+                    r.gr = (uint8_t)gr;
+                    r.depth = (uint8_t)depth;
+                    r.place = place;
+                    r.count = SIZE_MAX;
+                    r.levels = UINT64_MAX;
+                    step = ctext_next(s, sizeof s, r);
+                    if (good && place < sizeof s)
+                        expect(step.given == 1 && step.unit.kind == CTEXT_KIND_TAB
+                                   && step.reader.place == place + 1
+                                   && step.reader.count == SIZE_MAX,
+                               "a good reader", s, 2);
+                    else
+                        expect(step.given == 0 && step.reader.place == place
+                                   && step.answer.number == (good ? 0 : CTEXT_BAD_UNIT)
+                                   && step.answer.place == (good ? place : 0),
+                               "a bad reader, or one at the end", s, 2);
+                }
+}
+
+/* Sixteen directions open, and a seventeenth. */
+static void try_depth(void)
+{
+    uint8_t s[3 * (CTEXT_MOST_OPEN + 1)];
+    ctext_answer a;
+    size_t i;
+    for (i = 0; i < sizeof s; i++)
+        s[i] = (uint8_t)"\x9B\x32\x5D"[i % 3];
+    a = ctext_check(s, sizeof s - 3);
+    expect(a.number == CTEXT_ACCEPTED && a.count == CTEXT_MOST_OPEN, "sixteen open", s, 3);
+    a = ctext_check(s, sizeof s);
+    expect(a.number == CTEXT_TOO_DEEP && a.place == sizeof s - 3, "seventeen open", s, 3);
+}
+
+/* The longest string and list, and one more. */
+static void try_limits(void)
+{
+    size_t most = CTEXT_MOST_OCTETS, n;
+    uint8_t *s = (uint8_t *)lend(most + 1);
+    ctext_unit *units = (ctext_unit *)lend((most + 1) * sizeof *units);
+    uint8_t *work = (uint8_t *)lend(CTEXT_WORK_ROOM(most + 1));
+    ctext_answer a;
+    memset(s, 0x20, most + 1);
+    for (n = most; n <= most + 1; n++) {
+        uint8_t expected = n > most ? CTEXT_TOO_LONG : CTEXT_ACCEPTED;
+        expect(ctext_check(s, n).number == expected, "a check at the limit", s, 1);
+        expect(ctext_read(s, n, units, most + 1).number == expected, "a list at the limit", s, 1);
+        expect(ctext_run(s, n, 0).answer.number == expected, "a run at the limit", s, 1);
+        expect(ctext_next(s, n, ctext_open()).given == (expected == CTEXT_ACCEPTED),
+               "a step at the limit", s, 1);
+        units[most] = units[0];
+        a = ctext_write(units, n, NULL, 0, work, CTEXT_WORK_ROOM(n), s, n);
+        expect(a.number == expected, "a writing at the limit", s, 1);
+    }
+    free(work);
+    free(units);
+    free(s);
+}
+
+int main(int argc, char **argv)
+{
+    unsigned most = argc > 1 ? (unsigned)atoi(argv[1]) : 3;
+    if (most > 5)
+        most = 5;
+    try_elements(most, NULL, 0);
+    try_readers();
+    try_depth();
+    try_limits();
+    printf("bounds: %lu strings, %lu accepted, %lu failures\n", strings, accepted, failures);
+    return failures != 0;
+}

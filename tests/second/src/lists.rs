@@ -1,0 +1,365 @@
+//! Lists of units to compare: random ones, damaged ones, and those at the limit.
+
+use crate::random::Random;
+use crate::sets;
+use crate::strings::{random_body, random_value};
+use crate::unit::*;
+use crate::writer;
+
+/// A list of units with the octets in which its extended segments stand.
+pub struct List {
+    pub units: Vec<Unit>,
+    pub segments: Vec<u8>,
+}
+
+/// A random list: few sets and many changes between them, in most cases with a
+/// writing.
+pub fn random_list(random: &mut Random) -> List {
+    let length = match random.below(12) {
+        0 => random.between(40, 200),
+        1..=3 => random.between(9, 40),
+        _ => random.between(0, 8),
+    };
+    let mut list = good_list(random, length);
+    if random.percent(25) {
+        for _ in 0..random.between(1, 2) {
+            damage(random, &mut list);
+        }
+    }
+    if random.percent(50) {
+        for unit in &mut list.units {
+            fill_unused(random, unit);
+        }
+    }
+    list
+}
+
+fn good_list(random: &mut Random, length: usize) -> List {
+    let mut maker = Maker::new(random);
+    for _ in 0..length {
+        maker.unit(random);
+    }
+    maker.list
+}
+
+struct Maker {
+    list: List,
+    /// The sets of the characters.
+    palette: Vec<u8>,
+    with_marks: bool,
+    with_segments: bool,
+    deep: bool,
+    depth: usize,
+}
+
+impl Maker {
+    fn new(random: &mut Random) -> Maker {
+        let palette = (0..random.between(1, 4))
+            .map(|_| random_set(random))
+            .collect();
+        let deep = random.percent(4);
+        Maker {
+            list: List {
+                units: Vec::new(),
+                segments: Vec::new(),
+            },
+            palette,
+            with_marks: deep || random.percent(25),
+            with_segments: random.percent(25),
+            deep,
+            depth: 0,
+        }
+    }
+
+    fn unit(&mut self, random: &mut Random) {
+        match random.below(100) {
+            0..=9 if self.with_segments => self.segment(random),
+            10..=24 if self.with_marks => self.mark(random),
+            25..=84 if self.deep => self.begin(random),
+            25..=34 => self.push(random.pick(&[TAB, NEWLINE])),
+            35..=49 => self.text(random, SPACE),
+            _ => self.text(random, CHARACTER),
+        }
+    }
+
+    fn push(&mut self, kind: u8) {
+        self.list.units.push(Unit {
+            kind,
+            ..Unit::default()
+        });
+    }
+
+    /// In a list with marks every character and space has one open.
+    fn text(&mut self, random: &mut Random, kind: u8) {
+        if self.with_marks && self.depth == 0 {
+            self.begin(random);
+        }
+        self.push(kind);
+        if kind == CHARACTER {
+            let set = random.pick(&self.palette);
+            let unit = self.list.units.last_mut().expect("the unit just pushed");
+            unit.set = set;
+            unit.code = random_code(random, set);
+        }
+    }
+
+    fn begin(&mut self, random: &mut Random) {
+        if self.depth < DEPTH || random.percent(20) {
+            self.push(random.pick(&[LEFT_TO_RIGHT, RIGHT_TO_LEFT]));
+            self.depth += 1;
+        }
+    }
+
+    fn mark(&mut self, random: &mut Random) {
+        if self.depth > 0 && random.percent(60) {
+            self.push(REVERT);
+            self.depth -= 1;
+        } else {
+            self.begin(random);
+        }
+    }
+
+    fn segment(&mut self, random: &mut Random) {
+        let (d, body) = random_body(random);
+        let start = self.list.segments.len();
+        self.list.units.push(Unit {
+            kind: SEGMENT,
+            set: 0,
+            code: u16::from(d),
+            start: start as u32,
+            length: body.len() as u32,
+        });
+        self.list.segments.extend(body);
+    }
+}
+
+/// Sets that may stand on both sides, and those of GL, are the ones that make
+/// the writer choose.
+fn random_set(random: &mut Random) -> u8 {
+    match random.below(10) {
+        0..=4 => random.between(12, 14) as u8,
+        5..=6 => random.pick(&[0, 2]),
+        _ => random.below(15) as u8,
+    }
+}
+
+fn random_code(random: &mut Random, set: u8) -> u16 {
+    let low = random_value(random, set);
+    let high = if sets::width(set) == 2 {
+        random_value(random, set)
+    } else {
+        0
+    };
+    u16::from_be_bytes([high, low])
+}
+
+/// Spoils a unit, or puts in one that is bad or misplaced.
+fn damage(random: &mut Random, list: &mut List) {
+    if random.percent(30) {
+        return insert_misplaced(random, list);
+    }
+    if list.units.is_empty() {
+        return;
+    }
+    let place = random.below(list.units.len());
+    let unit = &mut list.units[place];
+    match random.below(6) {
+        0 => unit.kind = random.octet(),
+        1 => unit.kind = random.between(6, 9) as u8,
+        2 => unit.set = random_bad_set(random),
+        3 => unit.code = random_bad_code(random, unit.code),
+        _ => spoil_part(random, unit, list.segments.len()),
+    }
+}
+
+fn random_bad_set(random: &mut Random) -> u8 {
+    match random.below(3) {
+        0 => 15,
+        1 => random.octet(),
+        _ => random.below(15) as u8,
+    }
+}
+
+/// Codes around the ends of each range, and codes with the top bits left on.
+fn random_bad_code(random: &mut Random, code: u16) -> u16 {
+    let edges = [
+        0x00, 0x20, 0x21, 0x7E, 0x7F, 0x80, 0xA0, 0xA1, 0xFE, 0xFF, 0x2F, 0x30, 0x34, 0x35,
+    ];
+    match random.below(4) {
+        0 => code ^ random.pick(&[0x80, 0x8000, 0x8080, 0x100]),
+        1 => random.pick(&edges),
+        2 => random.pick(&edges) << 8 | random.pick(&edges),
+        _ => random.number() as u16,
+    }
+}
+
+/// Starts and lengths at the ends of the octets and of the machine's numbers.
+fn spoil_part(random: &mut Random, unit: &mut Unit, octets: usize) {
+    let octets = octets as u32;
+    let edges = [
+        0,
+        1,
+        octets,
+        octets + 1,
+        octets.wrapping_sub(1),
+        16_383,
+        16_384,
+        1 << 31,
+        u32::MAX,
+        u32::MAX - 1,
+        u32::MAX - octets,
+        (1 << 31) + octets,
+    ];
+    unit.kind = SEGMENT;
+    if !(0x30..=0x34).contains(&unit.code) {
+        unit.code = random.between(0x2F, 0x35) as u16;
+    }
+    match random.below(3) {
+        0 => unit.start = random.pick(&edges),
+        1 => unit.length = random.pick(&edges),
+        _ => (unit.start, unit.length) = (random.pick(&edges), random.pick(&edges)),
+    }
+}
+
+/// A mark or text where it may be wrong, or a part out of the middle of the
+/// segments' octets.
+fn insert_misplaced(random: &mut Random, list: &mut List) {
+    let octets = list.segments.len();
+    let start = random.below(octets + 2);
+    let kinds = [SPACE, LEFT_TO_RIGHT, RIGHT_TO_LEFT, REVERT, SEGMENT];
+    let unit = Unit {
+        kind: random.pick(&kinds),
+        set: 0,
+        code: random.between(0x30, 0x34) as u16,
+        start: start as u32,
+        length: random.below(octets.saturating_sub(start) + 2) as u32,
+    };
+    let place = random.below(list.units.len() + 1);
+    list.units.insert(place, unit);
+}
+
+/// Puts anything into the fields that the kind does not use.
+fn fill_unused(random: &mut Random, unit: &mut Unit) {
+    if unit.kind != CHARACTER {
+        unit.set = random.octet();
+    }
+    if unit.kind != CHARACTER && unit.kind != SEGMENT {
+        unit.code = random.number() as u16;
+    }
+    if unit.kind != SEGMENT {
+        unit.start = random.number();
+        unit.length = random.number();
+    }
+}
+
+/// Lists of about 65,535 units, and lists whose writing has about 65,535 octets.
+pub fn limit_lists(random: &mut Random) -> Vec<List> {
+    let mut all = Vec::new();
+    for length in [LIMIT - 1, LIMIT, LIMIT + 1] {
+        all.push(same_units(TAB, length));
+        all.push(same_units(9, length));
+    }
+    for length in [LIMIT - 1, LIMIT, LIMIT + 1] {
+        all.push(list_with_writing(random, length));
+        all.push(segments_with_writing(length));
+    }
+    for length in [16_382, 16_383, 16_384, 16_385] {
+        all.push(long_segment(length));
+    }
+    all
+}
+
+fn same_units(kind: u8, length: usize) -> List {
+    let unit = Unit {
+        kind,
+        ..Unit::default()
+    };
+    List {
+        units: vec![unit; length],
+        segments: Vec::new(),
+    }
+}
+
+/// A random list with tabs at its end, whose shortest writing has this length.
+pub fn list_with_writing(random: &mut Random, length: usize) -> List {
+    let mut list = good_list(random, length / 10);
+    while writer::list_refusal(&list.units, &list.segments).is_some()
+        || writer::least_length(&list.units) > length
+    {
+        list = good_list(random, length / 10);
+    }
+    pad(&mut list, length);
+    list
+}
+
+/// Adds tabs until the shortest writing has this length.
+fn pad(list: &mut List, length: usize) {
+    let tabs = length - writer::least_length(&list.units);
+    list.units.extend(same_units(TAB, tabs).units);
+}
+
+/// Longest segments, all with the same octets, and tabs.
+fn segments_with_writing(length: usize) -> List {
+    let mut list = long_segment(16_383);
+    let unit = list.units[0];
+    list.units.extend([unit, unit]);
+    pad(&mut list, length);
+    list
+}
+
+/// A good segment but for its length.
+fn long_segment(length: usize) -> List {
+    let mut segments = vec![0x41; length];
+    segments[10] = 0x02;
+    let unit = Unit {
+        kind: SEGMENT,
+        set: 0,
+        code: 0x30,
+        start: 0,
+        length: length as u32,
+    };
+    List {
+        units: vec![unit],
+        segments,
+    }
+}
+
+#[cfg(test)]
+mod tests {
+    use super::*;
+
+    #[test]
+    fn random_lists_meet_every_answer() {
+        let mut random = Random::new(1);
+        let mut met = [0; 12];
+        for _ in 0..20_000 {
+            let list = random_list(&mut random);
+            let refusal = writer::list_refusal(&list.units, &list.segments);
+            met[refusal.map_or(0, |answer| usize::from(answer.number))] += 1;
+        }
+        assert!(met[0] > 10_000, "{met:?}");
+        let numbers = [7, 8, 9, 11];
+        assert!(numbers.iter().all(|&n| met[n] > 50), "{met:?}");
+    }
+
+    #[test]
+    fn lists_at_the_limit_are_what_they_say() {
+        let mut random = Random::new(1);
+        let answers: Vec<u8> = limit_lists(&mut random)
+            .iter()
+            .map(
+                |list| match writer::list_refusal(&list.units, &list.segments) {
+                    Some(refusal) => refusal.number,
+                    None if writer::least_length(&list.units) > LIMIT => 100,
+                    None => 0,
+                },
+            )
+            .collect();
+        let tabs_and_kind_9 = [0, 11, 0, 11, 1, 1];
+        let writings = [0, 0, 0, 0, 100, 100];
+        let segments = [0, 0, 7, 7];
+        assert_eq!(answers[..6], tabs_and_kind_9);
+        assert_eq!(answers[6..12], writings);
+        assert_eq!(answers[12..], segments);
+    }
+}

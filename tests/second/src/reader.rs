@@ -1,0 +1,187 @@
+//! The reader: elements by shape, then the direction rule, then units.
+
+use crate::sets::Sets;
+use crate::shape::{self, Element, Piece};
+use crate::unit::*;
+
+/// What the direction rule has to know of the elements before.
+#[derive(Clone, PartialEq, Eq, Debug, Default)]
+pub struct Marks {
+    /// The open directions, the innermost last.
+    pub open: Vec<Direction>,
+    /// Whether a direction mark has occurred.
+    pub marked: bool,
+    /// Whether a character or space has occurred.
+    pub texted: bool,
+}
+
+/// What an element or unit is to the direction rule.
+#[derive(Clone, Copy)]
+pub enum Part {
+    Text,
+    Begin(Direction),
+    Revert,
+    Free,
+}
+
+impl Marks {
+    /// Takes one more part, or gives the number of its refusal.
+    pub fn admit(&mut self, part: Part) -> Result<(), u8> {
+        match part {
+            Part::Text if self.marked && self.open.is_empty() => return Err(8),
+            Part::Text => self.texted = true,
+            Part::Begin(_) if self.texted && !self.marked => return Err(8),
+            Part::Begin(_) if self.open.len() >= DEPTH => return Err(9),
+            Part::Begin(direction) => {
+                self.marked = true;
+                self.open.push(direction);
+            }
+            Part::Revert if self.open.is_empty() => return Err(8),
+            Part::Revert => {
+                self.marked = true;
+                self.open.pop();
+            }
+            Part::Free => {}
+        }
+        Ok(())
+    }
+
+    /// The direction in force.
+    pub fn innermost(&self) -> Option<Direction> {
+        self.open.last().copied()
+    }
+}
+
+/// What an element is to the direction rule.
+fn part_of(piece: &Piece) -> Part {
+    match piece {
+        Piece::Character { .. } | Piece::Space => Part::Text,
+        Piece::Begin(direction) => Part::Begin(*direction),
+        Piece::Revert => Part::Revert,
+        Piece::Tab | Piece::Newline | Piece::Segment { .. } | Piece::Designation(..) => Part::Free,
+    }
+}
+
+/// The place and state of a reader that hands out units one by one.
+#[derive(Clone, PartialEq, Eq, Debug)]
+pub struct State {
+    pub place: usize,
+    pub sets: Sets,
+    pub marks: Marks,
+    /// The units handed out so far.
+    pub handed: usize,
+}
+
+impl State {
+    /// The state of a reader opened on a string.
+    pub fn fresh() -> State {
+        State {
+            place: 0,
+            sets: Sets::FRESH,
+            marks: Marks::default(),
+            handed: 0,
+        }
+    }
+
+    /// Whether a reader on a string of this length may hold the state.
+    fn is_good(&self, length: usize) -> bool {
+        self.place <= length && self.sets.are_good() && self.marks.open.len() <= DEPTH
+    }
+}
+
+/// Reads on from a state to the end or the offending element. Shows every
+/// element before it, with the direction in force after the element, to
+/// `take`, and gives the final answer.
+pub fn read_on(
+    s: &[u8],
+    mut state: State,
+    mut take: impl FnMut(&Element, Option<Direction>),
+) -> Answer {
+    if s.len() > LIMIT {
+        return Answer::refusal(1, 0);
+    }
+    if !state.is_good(s.len()) {
+        return Answer::refusal(11, 0);
+    }
+    while state.place < s.len() {
+        if let Err(number) = pass_element(s, &mut state, &mut take) {
+            return Answer::refusal(number, state.place);
+        }
+    }
+    Answer::accepted(s.len(), state.handed)
+}
+
+/// Takes the state past the element at its place, or leaves it there.
+fn pass_element(
+    s: &[u8],
+    state: &mut State,
+    take: &mut impl FnMut(&Element, Option<Direction>),
+) -> Result<(), u8> {
+    let element = shape::element(s, state.place, state.sets)?;
+    state.marks.admit(part_of(&element.piece))?;
+    state.place = element.end;
+    match element.piece {
+        Piece::Designation(side, set) => state.sets = state.sets.with(side, set),
+        _ => state.handed = state.handed.saturating_add(1),
+    }
+    take(&element, state.marks.innermost());
+    Ok(())
+}
+
+/// The unit of an element; a designation is none.
+fn unit_of(element: &Element) -> Option<Unit> {
+    let mut unit = Unit {
+        start: element.start as u32,
+        length: (element.end - element.start) as u32,
+        ..Unit::default()
+    };
+    match element.piece {
+        Piece::Designation(..) => return None,
+        Piece::Character { set, code, .. } => {
+            (unit.kind, unit.set, unit.code) = (CHARACTER, set, code);
+        }
+        Piece::Space => unit.kind = SPACE,
+        Piece::Tab => unit.kind = TAB,
+        Piece::Newline => unit.kind = NEWLINE,
+        Piece::Begin(Direction::LeftToRight) => unit.kind = LEFT_TO_RIGHT,
+        Piece::Begin(Direction::RightToLeft) => unit.kind = RIGHT_TO_LEFT,
+        Piece::Revert => unit.kind = REVERT,
+        Piece::Segment { d, start, length } => {
+            (unit.kind, unit.code) = (SEGMENT, u16::from(d));
+            (unit.start, unit.length) = (start as u32, length as u32);
+        }
+    }
+    Some(unit)
+}
+
+/// The units that a reader in this state hands out one by one, and the answer
+/// that it repeats from then on.
+pub fn units_from(s: &[u8], state: State) -> (Vec<Unit>, Answer) {
+    let mut units = Vec::new();
+    let answer = read_on(s, state, |element, _| units.extend(unit_of(element)));
+    (units, answer)
+}
+
+/// The check's answer.
+pub fn check(s: &[u8]) -> Answer {
+    read_on(s, State::fresh(), |_, _| {})
+}
+
+/// The list reader's answer, from the check's answer and the room of the list.
+pub fn answer_with_room(check: Answer, room: usize) -> Answer {
+    if check.is_accepted() && room < check.count {
+        Answer::too_short(check.count)
+    } else {
+        check
+    }
+}
+
+/// The units of an accepted string, or the refusal.
+pub fn read(s: &[u8]) -> Result<Vec<Unit>, Answer> {
+    let (units, answer) = units_from(s, State::fresh());
+    if answer.is_accepted() {
+        Ok(units)
+    } else {
+        Err(answer)
+    }
+}

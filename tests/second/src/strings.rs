@@ -1,0 +1,398 @@
+//! Strings to compare: all of a kind, random ones, and those at the limit.
+
+use crate::random::Random;
+use crate::reader;
+use crate::sets::{self, Sets, Side, DESIGNATIONS};
+use crate::unit::{DEPTH, LIMIT};
+
+/// Octets that some rule tells from their neighbours.
+pub const TELLING: [u8; 34] = [
+    0x00, 0x02, 0x09, 0x0A, 0x1B, 0x20, 0x21, 0x23, 0x24, 0x25, 0x28, 0x29, 0x2D, 0x2F, 0x30, 0x31,
+    0x32, 0x35, 0x41, 0x42, 0x43, 0x49, 0x4A, 0x5D, 0x7E, 0x7F, 0x80, 0x84, 0x9B, 0xA0, 0xA1, 0xB0,
+    0xFE, 0xFF,
+];
+
+/// Fewer of them, for longer strings.
+pub const FEW: [u8; 12] = [
+    0x02, 0x09, 0x1B, 0x20, 0x24, 0x28, 0x30, 0x31, 0x42, 0x5D, 0x9B, 0xB0,
+];
+
+/// Every octet.
+pub fn every_octet() -> Vec<u8> {
+    (0..=255).collect()
+}
+
+/// Beginnings after which octets mean something else.
+pub fn prefixes() -> Vec<Vec<u8>> {
+    let mut all: Vec<Vec<u8>> = DESIGNATIONS.iter().map(|d| d.octets.to_vec()).collect();
+    let marks: [&[u8]; 2] = [&[0x9B, 0x31, 0x5D], &[0x9B, 0x31, 0x5D, 0x9B, 0x5D]];
+    let segments: [&[u8]; 3] = [
+        &[0x1B, 0x25, 0x2F, 0x31, 0x80, 0x82],
+        &[0x1B, 0x25, 0x2F, 0x32, 0x80, 0x83],
+        &[0x1B, 0x25, 0x2F, 0x31, 0x80, 0x84],
+    ];
+    let sequences: [&[u8]; 6] = [
+        &[0x1B, 0x28],
+        &[0x1B, 0x2D],
+        &[0x1B, 0x24],
+        &[0x1B, 0x24, 0x29],
+        &[0x1B, 0x25, 0x2F],
+        &[0x1B, 0x25, 0x2F, 0x31],
+    ];
+    for prefix in marks.iter().chain(&segments).chain(&sequences) {
+        all.push(prefix.to_vec());
+    }
+    all
+}
+
+/// Shows every string over the alphabet of this length, after the prefix.
+pub fn all_strings(
+    prefix: &[u8],
+    alphabet: &[u8],
+    length: usize,
+    mut show: impl FnMut(&[u8]) -> bool,
+) {
+    let mut s = prefix.to_vec();
+    s.resize(prefix.len() + length, alphabet[0]);
+    let mut places = vec![0; length];
+    loop {
+        if !show(&s) {
+            return;
+        }
+        let Some(turn) = places.iter().rposition(|&p| p + 1 < alphabet.len()) else {
+            return;
+        };
+        places[turn] += 1;
+        places[turn + 1..].fill(0);
+        for (octet, &place) in s[prefix.len()..].iter_mut().zip(&places) {
+            *octet = alphabet[place];
+        }
+    }
+}
+
+/// A random string: pieces of the grammar, then damage in most cases.
+pub fn random_string(random: &mut Random) -> Vec<u8> {
+    let pieces = match random.below(10) {
+        0 => random.between(30, 120),
+        1..=3 => random.between(8, 30),
+        _ => random.between(0, 8),
+    };
+    let mut s = Builder::new(random).build(random, pieces);
+    let changes = random.pick(&[0, 0, 0, 1, 1, 1, 2, 3]);
+    for _ in 0..changes {
+        damage(random, &mut s);
+    }
+    s
+}
+
+/// One octet changed, inserted or dropped, or the end cut off.
+fn damage(random: &mut Random, s: &mut Vec<u8>) {
+    let place = random.below(s.len() + 1);
+    let octet = if random.percent(50) {
+        random.pick(&TELLING)
+    } else {
+        random.octet()
+    };
+    if place == s.len() {
+        s.push(octet);
+        return;
+    }
+    match random.below(4) {
+        0 => s[place] = octet,
+        1 => s.insert(place, octet),
+        2 => {
+            s.remove(place);
+        }
+        _ => s.truncate(place),
+    }
+}
+
+/// Builds strings that are mostly accepted.
+struct Builder {
+    s: Vec<u8>,
+    sets: Sets,
+    depth: usize,
+    marked: bool,
+    texted: bool,
+    /// Whether marks are wanted, and whether many of them.
+    with_marks: bool,
+    deep: bool,
+}
+
+impl Builder {
+    fn new(random: &mut Random) -> Builder {
+        let deep = random.percent(5);
+        Builder {
+            s: Vec::new(),
+            sets: Sets::FRESH,
+            depth: 0,
+            marked: false,
+            texted: false,
+            with_marks: deep || random.percent(40),
+            deep,
+        }
+    }
+
+    fn build(mut self, random: &mut Random, pieces: usize) -> Vec<u8> {
+        for _ in 0..pieces {
+            self.piece(random);
+        }
+        self.s
+    }
+
+    fn piece(&mut self, random: &mut Random) {
+        if self.deep && random.percent(60) {
+            return self.begin(random);
+        }
+        match random.below(100) {
+            0..=44 => self.text(random),
+            45..=64 => self.designation(random),
+            65..=72 => self.s.push(random.pick(&[0x09, 0x0A])),
+            73..=80 => self.begin(random),
+            81..=87 => self.revert(random),
+            88..=95 => self.s.extend(random_segment(random)),
+            96 => self.s.extend(odd_piece(random)),
+            _ => self.text(random),
+        }
+    }
+
+    /// Whether to go on: now and then the direction rule is left aside.
+    fn goes_on(&self, random: &mut Random, rule_holds: bool) -> bool {
+        rule_holds || random.percent(if self.deep { 15 } else { 2 })
+    }
+
+    fn text(&mut self, random: &mut Random) {
+        let open = !self.marked && !self.with_marks || self.depth > 0;
+        if !self.goes_on(random, open) {
+            return self.begin(random);
+        }
+        self.texted = true;
+        if random.percent(20) && sets::width(self.sets.gl) == 1 {
+            return self.s.push(0x20);
+        }
+        let (side, top) = random.pick(&[(Side::Gl, 0x00), (Side::Gr, 0x80)]);
+        let set = self.sets.on(side);
+        for _ in 0..sets::width(set) {
+            let octet = random_value(random, set);
+            self.s.push(octet | top);
+        }
+    }
+
+    fn designation(&mut self, random: &mut Random) {
+        let d = random.pick(&DESIGNATIONS);
+        self.s.extend_from_slice(d.octets);
+        self.sets = self.sets.with(d.side, d.set);
+    }
+
+    fn begin(&mut self, random: &mut Random) {
+        let may = (self.marked || !self.texted) && self.depth < DEPTH && self.with_marks;
+        if self.goes_on(random, may) {
+            self.s.extend([0x9B, random.pick(&[0x31, 0x32]), 0x5D]);
+            self.marked = true;
+            self.depth += 1;
+        }
+    }
+
+    fn revert(&mut self, random: &mut Random) {
+        let may = self.depth > 0;
+        if self.goes_on(random, may) {
+            self.s.extend([0x9B, 0x5D]);
+            self.marked = true;
+            self.depth = self.depth.saturating_sub(1);
+        }
+    }
+}
+
+/// An octet of a character, less its top bit; the first and last are frequent.
+pub fn random_value(random: &mut Random, set: u8) -> u8 {
+    let values = sets::values(set);
+    match random.below(8) {
+        0 => *values.start(),
+        1 => *values.end(),
+        _ => random.between(usize::from(*values.start()), usize::from(*values.end())) as u8,
+    }
+}
+
+/// The d and the octets of an extended segment, mostly good ones.
+pub fn random_body(random: &mut Random) -> (u8, Vec<u8>) {
+    let d = random.between(0x30, 0x34) as u8;
+    let name_length = random.between(1, 4);
+    let mut body: Vec<u8> = (0..name_length)
+        .map(|_| random_name_octet(random))
+        .collect();
+    body.push(0x02);
+    let octets_of_one = [1, 1, 2, 3, 4][usize::from(d - 0x30)];
+    let mut text_length = octets_of_one * random.below(5);
+    if random.percent(1) {
+        text_length = octets_of_one * random.below(300);
+    }
+    if random.percent(5) {
+        text_length += 1;
+    }
+    for _ in 0..text_length {
+        let telling = random.pick(&TELLING);
+        body.push(if random.percent(50) {
+            telling
+        } else {
+            random.octet()
+        });
+    }
+    if random.percent(5) {
+        let place = random.below(body.len());
+        body[place] = random.octet();
+    }
+    (d, body)
+}
+
+fn random_name_octet(random: &mut Random) -> u8 {
+    loop {
+        let octet = random.octet();
+        let good = (0x21..=0x7E).contains(&octet) || octet >= 0xA1;
+        if good && octet != 0x2A && octet != 0x3F {
+            return octet;
+        }
+    }
+}
+
+fn random_segment(random: &mut Random) -> Vec<u8> {
+    let (d, body) = random_body(random);
+    segment(d, &body)
+}
+
+fn segment(d: u8, body: &[u8]) -> Vec<u8> {
+    let (high, low) = (body.len() / 128, body.len() % 128);
+    let mut s = vec![0x1B, 0x25, 0x2F, d, 0x80 + high as u8, 0x80 + low as u8];
+    s.extend_from_slice(body);
+    s
+}
+
+/// A piece that is refused, or is a designation with something in it.
+fn odd_piece(random: &mut Random) -> Vec<u8> {
+    let forms: [&[u8]; 6] = [
+        &[0x1B, 0x28],
+        &[0x1B, 0x29],
+        &[0x1B, 0x2D],
+        &[0x1B, 0x24, 0x28],
+        &[0x1B, 0x24, 0x29],
+        &[0x1B, 0x25, 0x2F],
+    ];
+    match random.below(5) {
+        0 => vec![random.octet()],
+        1 => vec![random.pick(&[0x1B, 0x9B]), random.octet(), random.octet()],
+        2 => vec![0x1B, 0x23, 0x20, 0x30],
+        _ => {
+            let mut s = random.pick(&forms).to_vec();
+            for _ in 0..random.below(3) {
+                s.push(random.between(0x20, 0x2F) as u8);
+            }
+            s.push(random.between(0x30, 0x7F) as u8);
+            s
+        }
+    }
+}
+
+/// Strings of about 65,535 octets.
+pub fn limit_strings(random: &mut Random) -> Vec<Vec<u8>> {
+    let mut all = Vec::new();
+    for length in [LIMIT - 1, LIMIT, LIMIT + 1, LIMIT + 2] {
+        all.push(vec![0x20; length]);
+        all.push([&[0x00][..], &vec![0x41; length - 1]].concat());
+        all.push([&vec![0x41; length - 1][..], &[0x00]].concat());
+        all.push(repeated(&[0x1B, 0x24, 0x28, 0x42], &[0x30, 0x21], length));
+        all.push(repeated(&[], &[0x41, 0xE9, 0x09], length));
+        all.push(repeated(&[], &[0x1B, 0x28, 0x42], length));
+        all.push(ending_in_segment(length, 0));
+        all.push(ending_in_segment(length, 1));
+        all.push(random_limit_string(random, length));
+    }
+    all
+}
+
+/// The octets again and again, cut at the length.
+fn repeated(prefix: &[u8], octets: &[u8], length: usize) -> Vec<u8> {
+    let endless = prefix.iter().chain(octets.iter().cycle());
+    endless.take(length).copied().collect()
+}
+
+/// Tabs, three longest segments and a shorter one that lacks `missing` octets at
+/// the string's end.
+fn ending_in_segment(length: usize, missing: usize) -> Vec<u8> {
+    let mut body = vec![0x41; 16_383];
+    body[100] = 0x02;
+    let longest = segment(0x31, &body);
+    let last = segment(0x30, &body[..1_000]);
+    let tabs = length + missing - 3 * longest.len() - last.len();
+    let mut s = vec![0x09; tabs];
+    for part in [&longest, &longest, &longest, &last] {
+        s.extend_from_slice(part);
+    }
+    s.truncate(length);
+    s
+}
+
+/// A random accepted string with tabs at its end, of exactly this length.
+pub fn random_limit_string(random: &mut Random, length: usize) -> Vec<u8> {
+    let fresh_sets = [0x1B, 0x28, 0x42, 0x1B, 0x2D, 0x41];
+    let mut s = Vec::new();
+    while s.len() < length / 2 {
+        let longer = [&s[..], &fresh_sets, &random_string(random)].concat();
+        if reader::check(&longer).is_accepted() {
+            s = longer;
+        }
+    }
+    s.resize(length, 0x09);
+    s
+}
+
+#[cfg(test)]
+mod tests {
+    use super::*;
+
+    #[test]
+    fn all_strings_are_all() {
+        let mut seen = Vec::new();
+        all_strings(&[7], &[1, 2, 3], 2, |s| {
+            seen.push(s.to_vec());
+            true
+        });
+        assert_eq!(seen.len(), 9);
+        assert_eq!(seen[0], [7, 1, 1]);
+        assert_eq!(seen[5], [7, 2, 3]);
+        assert_eq!(seen[8], [7, 3, 3]);
+        let mut count = 0;
+        all_strings(&[], &every_octet(), 0, |_| {
+            count += 1;
+            true
+        });
+        assert_eq!(count, 1);
+    }
+
+    #[test]
+    fn random_strings_meet_every_answer() {
+        let mut random = Random::new(1);
+        let mut met = [0; 10];
+        for _ in 0..20_000 {
+            let answer = reader::check(&random_string(&mut random));
+            met[usize::from(answer.number)] += 1;
+        }
+        assert!(met[0] > 6_000, "{met:?}");
+        assert!(met[2..].iter().all(|&times| times > 20), "{met:?}");
+    }
+
+    #[test]
+    fn strings_at_the_limit_are_what_they_say() {
+        let mut random = Random::new(1);
+        let answers: Vec<(usize, u8)> = limit_strings(&mut random)
+            .iter()
+            .map(|s| (s.len(), reader::check(s).number))
+            .collect();
+        let of = |length| -> Vec<u8> {
+            let here = answers.iter().filter(|answer| answer.0 == length);
+            here.map(|answer| answer.1).collect()
+        };
+        assert_eq!(of(LIMIT - 1), [0, 3, 3, 0, 0, 2, 0, 2, 0]);
+        assert_eq!(of(LIMIT), [0, 3, 3, 2, 0, 0, 0, 2, 0]);
+        assert_eq!(of(LIMIT + 1), [1; 9]);
+        assert_eq!(of(LIMIT + 2), [1; 9]);
+    }
+}
