@@ -17,7 +17,7 @@ pub extern "C" fn ctext_read(s: &[u8], units: &mut [Unit]) -> Answer
 }
 
 // The units of a list, whose extended segments stand in the octets lent, are written as the shortest string, or the answer says why not.
-// The work room is to have 72 octets for each unit and 72 more. What it holds after is left open.
+// The work room is to have 72 octets for each unit and 72 more. What it holds after is left open; it keeps its length.
 #[no_mangle]
 pub extern "C" fn ctext_write(
     units: &[Unit],
