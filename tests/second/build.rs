@@ -3,7 +3,7 @@
 use std::env;
 use std::path::Path;
 
-const FEATURES: [&str; 4] = ["CHECK", "READ", "RUN", "WRITE"];
+const FEATURES: [&str; 5] = ["CHECK", "READ", "RUN", "NEXT", "WRITE"];
 
 fn main() {
     println!("cargo:rerun-if-changed=build.rs");

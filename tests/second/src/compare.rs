@@ -15,7 +15,7 @@ pub struct Difference {
     pub library: String,
 }
 
-type Compared = Result<(), Difference>;
+pub type Compared = Result<(), Difference>;
 
 /// Records and octets behind what is lent, which no call may change.
 const GUARD_RECORDS: usize = 2;
@@ -248,7 +248,7 @@ fn run_numbers(runs: usize) -> Vec<usize> {
 }
 
 /// Compares two values, and shows them only if they differ.
-fn same<T: PartialEq>(
+pub fn same<T: PartialEq>(
     second: T,
     library: T,
     call: impl Fn() -> String,
@@ -275,7 +275,7 @@ fn pattern_unit(place: usize) -> Unit {
     }
 }
 
-fn pattern_octet(place: usize) -> u8 {
+pub fn pattern_octet(place: usize) -> u8 {
     (place as u8).wrapping_mul(29) ^ 0xC6
 }
 

@@ -10,12 +10,17 @@
         feature = "check",
         feature = "read",
         feature = "run",
+        feature = "next",
         feature = "write"
     )),
     allow(dead_code)
 )]
 
+use std::mem::size_of;
+use std::ops::Range;
+
 use crate::runs::Shown;
+use crate::steps::{Handed, Position};
 use crate::unit::{Answer, Unit};
 
 /// A library under comparison.
@@ -26,6 +31,12 @@ pub trait Library {
     fn read(&self, s: &[u8], list: &mut [Unit], room: usize) -> Answer;
 
     fn run(&self, s: &[u8], number: usize) -> Shown;
+
+    fn open(&self) -> Position;
+
+    /// The string stands at the range in the memory; the rest are guards. It is
+    /// mutable so that what a call may not change can be looked at after it.
+    fn next(&self, memory: &mut [u8], string: Range<usize>, position: Position) -> Handed;
 
     /// Lends the first octets of the work room and of the output; the rest are
     /// guards.
@@ -44,6 +55,7 @@ pub struct Functions {
     pub check: bool,
     pub read: bool,
     pub run: bool,
+    pub next: bool,
     pub write: bool,
 }
 
@@ -52,6 +64,7 @@ impl Functions {
         check: false,
         read: false,
         run: false,
+        next: false,
         write: false,
     };
 }
@@ -61,6 +74,7 @@ pub const LINKED: Functions = Functions {
     check: cfg!(feature = "check"),
     read: cfg!(feature = "read"),
     run: cfg!(feature = "run"),
+    next: cfg!(feature = "next"),
     write: cfg!(feature = "write"),
 };
 
@@ -91,10 +105,52 @@ struct CRun {
     direction: u8,
 }
 
+#[repr(C)]
+struct CReader {
+    levels: u64,
+    place: usize,
+    count: usize,
+    gl: u8,
+    gr: u8,
+    depth: u8,
+    marked: u8,
+    texted: u8,
+}
+
+/// A reader that is passed, with the octets behind its fields: they mean
+/// nothing, so they hold a pattern.
+#[repr(C)]
+struct CPassedReader {
+    levels: u64,
+    place: usize,
+    count: usize,
+    gl: u8,
+    gr: u8,
+    depth: u8,
+    marked: u8,
+    texted: u8,
+    behind: [u8; 3],
+}
+
+#[repr(C)]
+struct CStep {
+    reader: CReader,
+    answer: CAnswer,
+    unit: CUnit,
+    given: u8,
+}
+
+/// The header's sizes.
+const _: () = assert!(
+    size_of::<CReader>() == 32 && size_of::<CPassedReader>() == 32 && size_of::<CStep>() == 72
+);
+
 extern "C" {
     fn ctext_check(s: *const u8, n: usize) -> CAnswer;
     fn ctext_read(s: *const u8, n: usize, units: *mut CUnit, room: usize) -> CAnswer;
     fn ctext_run(s: *const u8, n: usize, k: usize) -> CRun;
+    fn ctext_open() -> CReader;
+    fn ctext_next(s: *const u8, n: usize, reader: CPassedReader) -> CStep;
     fn ctext_write(
         units: *const CUnit,
         count: usize,
@@ -149,6 +205,31 @@ impl Library for Proved {
         }
     }
 
+    fn open(&self) -> Position {
+        #[cfg(feature = "next")]
+        // Safety: nothing is lent.
+        let reader = unsafe { ctext_open() };
+        #[cfg(not(feature = "next"))]
+        let reader = not_linked(());
+        position_from_c(reader)
+    }
+
+    fn next(&self, memory: &mut [u8], string: Range<usize>, position: Position) -> Handed {
+        assert!(string.start <= string.end && string.end <= memory.len());
+        let (s, n) = (memory.as_mut_ptr().wrapping_add(string.start), string.len());
+        #[cfg(feature = "next")]
+        // Safety: so many octets stand at the pointer.
+        let step = unsafe { ctext_next(s, n, position_to_c(position)) };
+        #[cfg(not(feature = "next"))]
+        let step: CStep = not_linked((s, n, position_to_c(position)));
+        Handed {
+            position: position_from_c(step.reader),
+            answer: from_c(step.answer),
+            unit: unit_from_c(&step.unit),
+            given: step.given,
+        }
+    }
+
     fn write(&self, units: &[Unit], segments: &[u8], work: Lent, out: Lent) -> Answer {
         assert!(work.lent <= work.octets.len() && out.lent <= out.octets.len());
         let records: Vec<CUnit> = units.iter().map(to_c).collect();
@@ -177,6 +258,7 @@ impl Library for Proved {
     feature = "check",
     feature = "read",
     feature = "run",
+    feature = "next",
     feature = "write"
 )))]
 fn not_linked<A, B>(_: A) -> B {
@@ -208,5 +290,32 @@ fn unit_from_c(unit: &CUnit) -> Unit {
         code: unit.code,
         start: unit.start,
         length: unit.length,
+    }
+}
+
+fn position_from_c(reader: CReader) -> Position {
+    Position {
+        levels: reader.levels,
+        place: reader.place,
+        count: reader.count,
+        gl: reader.gl,
+        gr: reader.gr,
+        depth: reader.depth,
+        marked: reader.marked,
+        texted: reader.texted,
+    }
+}
+
+fn position_to_c(position: Position) -> CPassedReader {
+    CPassedReader {
+        levels: position.levels,
+        place: position.place,
+        count: position.count,
+        gl: position.gl,
+        gr: position.gr,
+        depth: position.depth,
+        marked: position.marked,
+        texted: position.texted,
+        behind: [0xA5, 0x5A, 0xC6],
     }
 }

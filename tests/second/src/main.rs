@@ -1,12 +1,16 @@
-//! A second implementation of the reader, the runs and the writer of Compound
-//! Text, made from the paper alone, and its comparison with the proved library.
+//! A second implementation of the reader, whole and in steps, the runs and the
+//! writer of Compound Text, made from the paper alone, and its comparison with
+//! the proved library.
 
 #![deny(unsafe_code)]
 
 mod compare;
+#[cfg(test)]
+mod faults;
 mod ffi;
 mod lists;
 mod oracle;
+mod positions;
 mod random;
 mod reader;
 mod runs;
@@ -14,6 +18,8 @@ mod session;
 mod sets;
 mod shape;
 mod shrink;
+mod stepping;
+mod steps;
 mod strings;
 #[cfg(test)]
 mod tests;
@@ -28,7 +34,7 @@ use ffi::Functions;
 use session::Plan;
 
 const USAGE: &str = "\
-second compare [--long] [--minutes N] [--seed N] [--only check,read,run,write]
+second compare [--long] [--minutes N] [--seed N] [--only check,read,run,next,write]
 second answer|units|runs|write   lines of hexadecimal octets on standard input
 second step                      lines `place gl gr directions marked texted handed octets`";
 
@@ -101,7 +107,7 @@ fn number(word: &str) -> Result<u64, String> {
 /// The functions named, as far as they are linked.
 fn only(names: &str) -> Result<Functions, String> {
     let names: Vec<&str> = names.split(',').collect();
-    let known = ["check", "read", "run", "write"];
+    let known = ["check", "read", "run", "next", "write"];
     if let Some(name) = names.iter().find(|name| !known.contains(name)) {
         return Err(format!("unknown function {name}"));
     }
@@ -109,6 +115,7 @@ fn only(names: &str) -> Result<Functions, String> {
         check: ffi::LINKED.check && names.contains(&"check"),
         read: ffi::LINKED.read && names.contains(&"read"),
         run: ffi::LINKED.run && names.contains(&"run"),
+        next: ffi::LINKED.next && names.contains(&"next"),
         write: ffi::LINKED.write && names.contains(&"write"),
     })
 }

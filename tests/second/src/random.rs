@@ -39,6 +39,10 @@ impl Random {
         self.next() as u32
     }
 
+    pub fn word(&mut self) -> u64 {
+        self.next()
+    }
+
     pub fn pick<T: Copy>(&mut self, from: &[T]) -> T {
         from[self.below(from.len())]
     }

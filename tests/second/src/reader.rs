@@ -90,13 +90,9 @@ impl State {
 }
 
 /// Reads on from a state to the end or the offending element. Shows every
-/// element before it, with the direction in force after the element, to
-/// `take`, and gives the final answer.
-pub fn read_on(
-    s: &[u8],
-    mut state: State,
-    mut take: impl FnMut(&Element, Option<Direction>),
-) -> Answer {
+/// element before it, with the state after the element, to `take`, and gives
+/// the final answer.
+pub fn read_on(s: &[u8], mut state: State, mut take: impl FnMut(&Element, &State)) -> Answer {
     if s.len() > LIMIT {
         return Answer::refusal(1, 0);
     }
@@ -115,7 +111,7 @@ pub fn read_on(
 fn pass_element(
     s: &[u8],
     state: &mut State,
-    take: &mut impl FnMut(&Element, Option<Direction>),
+    take: &mut impl FnMut(&Element, &State),
 ) -> Result<(), u8> {
     let element = shape::element(s, state.place, state.sets)?;
     state.marks.admit(part_of(&element.piece))?;
@@ -124,12 +120,12 @@ fn pass_element(
         Piece::Designation(side, set) => state.sets = state.sets.with(side, set),
         _ => state.handed = state.handed.saturating_add(1),
     }
-    take(&element, state.marks.innermost());
+    take(&element, state);
     Ok(())
 }
 
 /// The unit of an element; a designation is none.
-fn unit_of(element: &Element) -> Option<Unit> {
+pub fn unit_of(element: &Element) -> Option<Unit> {
     let mut unit = Unit {
         start: element.start as u32,
         length: (element.end - element.start) as u32,

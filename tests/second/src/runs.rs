@@ -49,11 +49,12 @@ fn labels(s: &[u8]) -> Result<Vec<Option<Label>>, Answer> {
     let mut labels = vec![None; s.len()];
     // A space is named by the set that stands in GL.
     let mut gl = State::fresh().sets.gl;
-    let answer = reader::read_on(s, State::fresh(), |element, direction| {
+    let answer = reader::read_on(s, State::fresh(), |element, state| {
         if let Piece::Designation(Side::Gl, set) = element.piece {
             gl = set;
         }
-        let label = label_of(element, gl, direction_number(direction));
+        let direction = direction_number(state.marks.innermost());
+        let label = label_of(element, gl, direction);
         labels[element.start..element.end].fill(label);
     });
     if answer.is_accepted() {

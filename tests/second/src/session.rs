@@ -2,13 +2,16 @@
 
 use std::time::{Duration, Instant};
 
-use crate::compare::{Comparer, Difference};
+use crate::compare::{Compared, Comparer, Difference};
 use crate::ffi::{Functions, Library};
 use crate::lists::{self, List};
 use crate::oracle::{show_octets, show_units};
+use crate::positions;
 use crate::random::Random;
 use crate::reader::{self, State};
 use crate::shrink::shrink;
+use crate::stepping::show_position;
+use crate::steps::Position;
 use crate::strings;
 use crate::unit::{Unit, LIMIT};
 
@@ -36,10 +39,17 @@ pub fn compare<L: Library>(library: L, plan: &Plan) -> u64 {
     session.differences
 }
 
+/// The comparison of one string by some of the functions.
+type StringComparison<L> = fn(&Comparer<L>, &[u8]) -> Compared;
+
 struct Session<L: Library> {
     comparer: Comparer<L>,
     random: Random,
     strings: u64,
+    /// The strings over which an opened reader was stepped.
+    stepped: u64,
+    /// The readers made by hand, each with a string.
+    readers: u64,
     lists: u64,
     differences: u64,
     /// What has been printed, so that it is printed once.
@@ -57,6 +67,8 @@ impl<L: Library> Session<L> {
             },
             random: Random::new(plan.seed),
             strings: 0,
+            stepped: 0,
+            readers: 0,
             lists: 0,
             differences: 0,
             printed: Vec::new(),
@@ -68,6 +80,8 @@ impl<L: Library> Session<L> {
     fn short_part(&mut self) {
         self.all_short_strings();
         self.random_strings(200_000);
+        self.all_readers();
+        self.random_readers(200_000);
         self.random_lists(100_000);
         self.limits();
     }
@@ -105,6 +119,23 @@ impl<L: Library> Session<L> {
         }
     }
 
+    /// Readers made by hand with every octet in their fields, over short
+    /// strings.
+    fn all_readers(&mut self) {
+        positions::all_positions(|s, position| self.reader(s, position));
+    }
+
+    fn random_readers(&mut self, count: usize) {
+        for _ in 0..count {
+            if !self.goes_on() {
+                return;
+            }
+            let s = strings::random_string(&mut self.random);
+            let position = positions::random_position(&mut self.random, &s);
+            self.reader(&s, position);
+        }
+    }
+
     fn random_lists(&mut self, count: usize) {
         for _ in 0..count {
             if !self.goes_on() {
@@ -119,18 +150,21 @@ impl<L: Library> Session<L> {
     fn limits(&mut self) {
         for s in strings::limit_strings(&mut self.random) {
             self.string(&s);
+            let position = positions::random_position(&mut self.random, &s);
+            self.reader(&s, position);
         }
         for list in lists::limit_lists(&mut self.random) {
             self.list(list);
         }
     }
 
-    /// All strings of three octets, then random strings and lists until the
-    /// time is over.
+    /// All strings of three octets, then random strings, readers and lists
+    /// until the time is over.
     fn long_part(&mut self, time: Duration) {
         self.all_strings(&[], &strings::every_octet(), 3);
         while self.goes_on() && self.started.elapsed() < time {
             self.random_strings(20_000);
+            self.random_readers(20_000);
             self.random_lists(20_000);
             self.one_at_the_limit();
         }
@@ -153,12 +187,34 @@ impl<L: Library> Session<L> {
             return;
         }
         self.strings += 1;
-        if let Err(first) = self.comparer.string(s) {
-            let (smallest, difference) = self.smallest_string(s, first);
-            self.differ(
-                &format!("string: {}", show_briefly(&smallest, show_octets)),
-                &difference,
+        self.compare_string(s, Comparer::string);
+        if self.comparer.functions.next {
+            self.stepped += 1;
+            self.compare_string(s, Comparer::opened);
+        }
+        self.report();
+    }
+
+    fn compare_string(&mut self, s: &[u8], compare: StringComparison<L>) {
+        if let Err(first) = compare(&self.comparer, s) {
+            let (smallest, difference) = self.smallest_string(s, compare, first);
+            self.differ(&show_string(&smallest), &difference);
+        }
+    }
+
+    fn reader(&mut self, s: &[u8], position: Position) {
+        if !self.goes_on() || !self.comparer.functions.next {
+            return;
+        }
+        self.readers += 1;
+        if let Err(first) = self.comparer.reader(s, position) {
+            let (s, position, difference) = self.smallest_reader(s, position, first);
+            let input = format!(
+                "{}\n  reader: {}",
+                show_string(&s),
+                show_position(&position)
             );
+            self.differ(&input, &difference);
         }
         self.report();
     }
@@ -181,14 +237,31 @@ impl<L: Library> Session<L> {
         self.report();
     }
 
-    /// Drops whole elements first, then octets. The difference found first is
-    /// shown only if it does not come again.
-    fn smallest_string(&self, s: &[u8], first: Difference) -> (Vec<u8>, Difference) {
-        let differs = |s: &[u8]| self.comparer.string(s).is_err();
-        let elements = shrink(elements(s), |elements| differs(&elements.concat()));
-        let smallest = shrink(elements.concat(), differs);
-        let difference = self.comparer.string(&smallest).err().unwrap_or(first);
+    /// The difference found first is shown only if it does not come again.
+    fn smallest_string(
+        &self,
+        s: &[u8],
+        compare: StringComparison<L>,
+        first: Difference,
+    ) -> (Vec<u8>, Difference) {
+        let smallest = shrink_string(s, |s| compare(&self.comparer, s).is_err());
+        let difference = compare(&self.comparer, &smallest).err().unwrap_or(first);
         (smallest, difference)
+    }
+
+    /// The string with the position as it is, then the position.
+    fn smallest_reader(
+        &self,
+        s: &[u8],
+        position: Position,
+        first: Difference,
+    ) -> (Vec<u8>, Position, Difference) {
+        let differs = |s: &[u8], position| self.comparer.reader(s, position).is_err();
+        let s = shrink_string(s, |s| differs(s, position));
+        let position = positions::simplest(position, |position| differs(&s, position));
+        let s = shrink_string(&s, |s| differs(s, position));
+        let difference = self.comparer.reader(&s, position).err();
+        (s, position, difference.unwrap_or(first))
     }
 
     fn smallest_list(&self, list: List, first: Difference) -> (List, Difference) {
@@ -216,7 +289,8 @@ impl<L: Library> Session<L> {
     /// Progress on standard error, every few seconds.
     fn report(&mut self) {
         // The clock is asked rarely, since it takes as long as a short string.
-        let asked = (self.strings + self.lists).is_multiple_of(64);
+        let compared = self.strings + self.readers + self.lists;
+        let asked = compared.is_multiple_of(64);
         if asked && self.reported.elapsed() >= BETWEEN_REPORTS {
             self.reported = Instant::now();
             let seconds = self.started.elapsed().as_secs();
@@ -226,10 +300,21 @@ impl<L: Library> Session<L> {
 
     fn summary(&self) -> String {
         format!(
-            "second: {} strings, {} lists compared, {} differences",
-            self.strings, self.lists, self.differences
+            "second: {} strings ({} stepped), {} readers made by hand, {} lists compared, \
+             {} differences",
+            self.strings, self.stepped, self.readers, self.lists, self.differences
         )
     }
+}
+
+/// Drops whole elements first, then octets.
+fn shrink_string(s: &[u8], differs: impl Fn(&[u8]) -> bool) -> Vec<u8> {
+    let elements = shrink(elements(s), |elements| differs(&elements.concat()));
+    shrink(elements.concat(), differs)
+}
+
+fn show_string(s: &[u8]) -> String {
+    format!("string: {}", show_briefly(s, show_octets))
 }
 
 /// The elements of a string up to the offending one, and then single octets.
@@ -260,90 +345,15 @@ fn show_briefly<T: PartialEq>(items: &[T], show: impl Fn(&[T]) -> String) -> Str
 #[cfg(test)]
 mod tests {
     use super::*;
-    use crate::ffi::Lent;
-    use crate::runs::{self, Shown};
+    use crate::faults::{Fault, Faulty};
     use crate::unit::*;
-    use crate::writer;
-
-    #[derive(Clone, Copy, PartialEq)]
-    enum Fault {
-        None,
-        /// A refusal has a count.
-        CountOfRefusal,
-        /// The list is filled before a later element is refused.
-        ListOfRefusal,
-        /// A record behind the last unit is cleared.
-        RecordTooMany,
-        /// A run of GR octets is handed back one octet late.
-        PlaceOfRun,
-        /// A space at the end of the list is written as a tab.
-        LastSpace,
-        /// An octet behind the string is cleared.
-        OctetTooMany,
-        /// An octet behind the work room is cleared.
-        WorkTooMuch,
-    }
-
-    struct Faulty(Fault);
-
-    impl Library for Faulty {
-        fn check(&self, s: &[u8]) -> Answer {
-            let mut answer = reader::check(s);
-            if self.0 == Fault::CountOfRefusal && answer.number == 8 {
-                answer.count = 1;
-            }
-            answer
-        }
-
-        fn read(&self, s: &[u8], list: &mut [Unit], room: usize) -> Answer {
-            let (units, answer) = reader::units_from(s, State::fresh());
-            let answer = reader::answer_with_room(answer, room);
-            let early = self.0 == Fault::ListOfRefusal && room >= units.len();
-            if answer.is_accepted() || early {
-                list[..units.len()].copy_from_slice(&units);
-            }
-            if answer.is_accepted() && self.0 == Fault::RecordTooMany {
-                list[units.len()] = Unit::default();
-            }
-            answer
-        }
-
-        fn run(&self, s: &[u8], number: usize) -> Shown {
-            let mut shown = runs::shown(s.len(), &runs::runs(s), number);
-            if let (Fault::PlaceOfRun, Some((start, _))) = (self.0, &mut shown.part) {
-                *start += usize::from(s[*start] >= 0xA0);
-            }
-            shown
-        }
-
-        fn write(&self, units: &[Unit], segments: &[u8], work: Lent, out: Lent) -> Answer {
-            if self.0 == Fault::WorkTooMuch {
-                work.octets[work.lent] = 0;
-            }
-            if let Some(refusal) = writer::list_refusal(units, segments) {
-                return refusal;
-            }
-            let mut string = writer::shortest_lazy(units, segments);
-            let answer = writer::answer(units.len(), string.len(), work.lent, out.lent);
-            if let (Fault::LastSpace, Some(0x20)) = (self.0, string.last()) {
-                string.pop();
-                string.push(0x09);
-            }
-            if answer.is_accepted() {
-                out.octets[..string.len()].copy_from_slice(&string);
-                if self.0 == Fault::OctetTooMany {
-                    out.octets[string.len()] = 0;
-                }
-            }
-            answer
-        }
-    }
 
     fn session(fault: Fault) -> Session<Faulty> {
         let all = Functions {
             check: true,
             read: true,
             run: true,
+            next: true,
             write: true,
         };
         let plan = Plan {
@@ -351,15 +361,29 @@ mod tests {
             seed: 3,
             long: None,
         };
-        Session::new(Faulty(fault), &plan)
+        Session::new(Faulty::new(fault), &plan)
     }
 
     /// The smallest string that shows the fault, out of this one.
     fn smallest(fault: Fault, s: &[u8]) -> (Vec<u8>, String) {
+        smallest_by(Comparer::string, fault, s)
+    }
+
+    fn smallest_by(compare: StringComparison<Faulty>, fault: Fault, s: &[u8]) -> (Vec<u8>, String) {
         let session = session(fault);
-        let first = session.comparer.string(s).expect_err("a difference");
-        let (smallest, difference) = session.smallest_string(s, first);
+        let first = compare(&session.comparer, s).expect_err("a difference");
+        let (smallest, difference) = session.smallest_string(s, compare, first);
         (smallest, difference.call)
+    }
+
+    /// The smallest reader made by hand that shows the fault, and its string.
+    fn smallest_reader(fault: Fault, s: &[u8], position: Position) -> (Vec<u8>, Position) {
+        let session = session(fault);
+        assert_eq!(session.comparer.opened(s), Ok(()));
+        let first = session.comparer.reader(s, position);
+        let first = first.expect_err("a difference");
+        let (s, position, _) = session.smallest_reader(s, position, first);
+        (s, position)
     }
 
     #[test]
@@ -367,9 +391,12 @@ mod tests {
         let mut session = session(Fault::None);
         session.all_strings(&[0x1B], &strings::FEW, 3);
         session.random_strings(2_000);
+        session.random_readers(2_000);
         session.random_lists(2_000);
         assert_eq!(session.differences, 0);
         assert_eq!(session.strings, 12 * 12 * 12 + 2_000);
+        assert_eq!(session.stepped, session.strings);
+        assert_eq!(session.readers, 2_000);
         assert_eq!(session.lists, 2_000);
     }
 
@@ -396,6 +423,74 @@ mod tests {
         assert_eq!(found.0, []);
         let found = smallest(Fault::WorkTooMuch, &s);
         assert_eq!(found.0, []);
+    }
+
+    #[test]
+    fn faults_of_steps_are_found_and_shrunk() {
+        let s = [0x41, 0x1B, 0x2D, 0x42, 0xB0, 0x20, 0x1B, 0x28, 0x42];
+        let refused = [0x41, 0x41, 0x20, 0x1B, 0x28];
+        let found = |fault, s: &[u8]| smallest_by(Comparer::opened, fault, s);
+        assert_eq!(found(Fault::Opened, &s), (vec![], "ctext_open".to_string()));
+        let (smallest, call) = found(Fault::NoUnitBeforeRefusal, &refused);
+        assert_eq!(smallest, [0x20, 0x1B]);
+        assert_eq!(call, "ctext_next number 0");
+        let (smallest, call) = found(Fault::EndMovesReader, &s);
+        assert_eq!(smallest, [0x1B, 0x2D, 0x42]);
+        assert_eq!(call, "ctext_next number 0");
+        let (smallest, call) = found(Fault::EndIsOnce, &s);
+        assert_eq!(smallest, []);
+        assert_eq!(call, "ctext_next number 1");
+        let (smallest, call) = found(Fault::KeepsCount, &s);
+        assert_eq!(smallest, [0x41]);
+        assert_eq!(call, "ctext_next number 0, at first and called again");
+        let (smallest, call) = found(Fault::LooksBehind, &refused);
+        assert_eq!(smallest, [0x1B]);
+        assert_eq!(call, "ctext_next number 0");
+        let (smallest, call) = found(Fault::WritesBehind, &s);
+        assert_eq!(smallest, []);
+        assert_eq!(
+            call,
+            "ctext_next, the string among its guards after all calls"
+        );
+    }
+
+    #[test]
+    fn readers_are_shrunk() {
+        let s = [0x41, 0x1B, 0x2D, 0x42, 0xB0, 0x20, 0x9B, 0x5D];
+        let position = Position {
+            levels: u64::MAX,
+            place: 5,
+            count: usize::MAX,
+            gl: 2,
+            gr: 13,
+            depth: 16,
+            marked: 255,
+            texted: 2,
+        };
+        let opened = Position::OPENED;
+        let found = |fault, position| smallest_reader(fault, &s[..6], position);
+        let deep = Position {
+            depth: 17,
+            ..opened
+        };
+        let deeper = Position {
+            depth: 17,
+            ..position
+        };
+        assert_eq!(found(Fault::DepthLimit, deeper), (vec![], deep));
+        let idle = Position {
+            levels: u64::MAX,
+            ..opened
+        };
+        assert_eq!(found(Fault::IdleDigits, position), (vec![], idle));
+        let full = Position {
+            count: usize::MAX,
+            ..opened
+        };
+        assert_eq!(found(Fault::CountWraps, position), (vec![0x41], full));
+        let (smallest, reader) = found(Fault::FlagIsOne, position);
+        assert_eq!(smallest, []);
+        assert_eq!((reader.marked, reader.texted), (0, 2));
     }
 
     #[test]

@@ -1,0 +1,188 @@
+//! Libraries with a known fault, to test the comparison itself.
+
+use std::cell::Cell;
+use std::ops::Range;
+
+use crate::ffi::{Lent, Library};
+use crate::reader::{self, State};
+use crate::runs::{self, Shown};
+use crate::steps::{self, Handed, Position};
+use crate::unit::*;
+use crate::writer;
+
+#[derive(Clone, Copy, PartialEq)]
+pub enum Fault {
+    None,
+    /// A refusal has a count.
+    CountOfRefusal,
+    /// The list is filled before a later element is refused.
+    ListOfRefusal,
+    /// A record behind the last unit is cleared.
+    RecordTooMany,
+    /// A run of GR octets is handed back one octet late.
+    PlaceOfRun,
+    /// A space at the end of the list is written as a tab.
+    LastSpace,
+    /// An octet behind the string is cleared.
+    OctetTooMany,
+    /// An octet behind the work room is cleared.
+    WorkTooMuch,
+    /// A reader is opened with ASCII on both sides.
+    Opened,
+    /// A refused string hands out no unit.
+    NoUnitBeforeRefusal,
+    /// A reader at the end passes the designations before it.
+    EndMovesReader,
+    /// Past its end a reader answers that there is none.
+    EndIsOnce,
+    /// The units are counted by the library, since the last opening.
+    KeepsCount,
+    /// A cut element is looked for behind the string.
+    LooksBehind,
+    /// A step clears the octet behind the string.
+    WritesBehind,
+    /// A reader made by hand may be one deeper.
+    DepthLimit,
+    /// Digits that mean nothing make a reader bad.
+    IdleDigits,
+    /// The count goes from the largest number to 0.
+    CountWraps,
+    /// A flag is yes only if it is 1.
+    FlagIsOne,
+}
+
+pub struct Faulty {
+    fault: Fault,
+    /// The units handed out since the last opening, and whether an end was met.
+    handed: Cell<usize>,
+    ended: Cell<bool>,
+}
+
+impl Faulty {
+    pub fn new(fault: Fault) -> Faulty {
+        Faulty {
+            fault,
+            handed: Cell::new(0),
+            ended: Cell::new(false),
+        }
+    }
+
+    /// The position that a faulty step starts from.
+    fn taken(&self, mut position: Position) -> Position {
+        match self.fault {
+            Fault::DepthLimit if position.depth == 17 => position.depth = 16,
+            Fault::IdleDigits if position != position.without_idle_digits() => position.gl = 255,
+            Fault::FlagIsOne => {
+                position.marked = (position.marked == 1).into();
+                position.texted = (position.texted == 1).into();
+            }
+            _ => {}
+        }
+        position
+    }
+
+    /// What a faulty step hands back in place of the right thing.
+    fn spoil(&self, s: &[u8], from: Position, steps: &[Handed]) -> Handed {
+        let (first, last) = (steps[0], steps[steps.len() - 1]);
+        let mut handed = first;
+        match self.fault {
+            Fault::NoUnitBeforeRefusal if !last.answer.is_accepted() => {
+                handed = Handed {
+                    position: from,
+                    ..last
+                };
+            }
+            Fault::EndMovesReader if first.given == 0 && first.answer.is_accepted() => {
+                handed.position.place = s.len();
+            }
+            Fault::EndIsOnce if first.given == 0 && self.ended.replace(true) => {
+                handed.answer = Answer::refusal(11, 0);
+            }
+            Fault::KeepsCount if first.given == 1 => {
+                self.handed.set(self.handed.get() + 1);
+                handed.position.count = self.handed.get();
+            }
+            Fault::CountWraps if first.given == 1 => {
+                handed.position.count = from.count.wrapping_add(1);
+            }
+            _ => {}
+        }
+        handed
+    }
+}
+
+impl Library for Faulty {
+    fn check(&self, s: &[u8]) -> Answer {
+        let mut answer = reader::check(s);
+        if self.fault == Fault::CountOfRefusal && answer.number == 8 {
+            answer.count = 1;
+        }
+        answer
+    }
+
+    fn read(&self, s: &[u8], list: &mut [Unit], room: usize) -> Answer {
+        let (units, answer) = reader::units_from(s, State::fresh());
+        let answer = reader::answer_with_room(answer, room);
+        let early = self.fault == Fault::ListOfRefusal && room >= units.len();
+        if answer.is_accepted() || early {
+            list[..units.len()].copy_from_slice(&units);
+        }
+        if answer.is_accepted() && self.fault == Fault::RecordTooMany {
+            list[units.len()] = Unit::default();
+        }
+        answer
+    }
+
+    fn run(&self, s: &[u8], number: usize) -> Shown {
+        let mut shown = runs::shown(s.len(), &runs::runs(s), number);
+        if let (Fault::PlaceOfRun, Some((start, _))) = (self.fault, &mut shown.part) {
+            *start += usize::from(s[*start] >= 0xA0);
+        }
+        shown
+    }
+
+    fn open(&self) -> Position {
+        self.handed.set(0);
+        self.ended.set(false);
+        let mut opened = Position::OPENED;
+        if self.fault == Fault::Opened {
+            opened.gr = opened.gl;
+        }
+        opened
+    }
+
+    fn next(&self, memory: &mut [u8], mut string: Range<usize>, position: Position) -> Handed {
+        if self.fault == Fault::WritesBehind {
+            memory[string.end] = 0;
+        }
+        let cut = reader::check(&memory[string.clone()]).number == 2;
+        if self.fault == Fault::LooksBehind && cut {
+            string.end += 1;
+        }
+        let s = &memory[string];
+        let from = self.taken(position);
+        self.spoil(s, position, &steps::steps(s, from))
+    }
+
+    fn write(&self, units: &[Unit], segments: &[u8], work: Lent, out: Lent) -> Answer {
+        if self.fault == Fault::WorkTooMuch {
+            work.octets[work.lent] = 0;
+        }
+        if let Some(refusal) = writer::list_refusal(units, segments) {
+            return refusal;
+        }
+        let mut string = writer::shortest_lazy(units, segments);
+        let answer = writer::answer(units.len(), string.len(), work.lent, out.lent);
+        if let (Fault::LastSpace, Some(0x20)) = (self.fault, string.last()) {
+            string.pop();
+            string.push(0x09);
+        }
+        if answer.is_accepted() {
+            out.octets[..string.len()].copy_from_slice(&string);
+            if self.fault == Fault::OctetTooMany {
+                out.octets[string.len()] = 0;
+            }
+        }
+        answer
+    }
+}
