@@ -5,11 +5,11 @@ use mathlib.Core.List.{List, [], _∷_}
 use mathlib.Core.Logic.{_⊎_, inl, inr, ⊎-elim}
 use Prim.Native.Nat.{ℕ, _+_, _*_, _/_, _%_, _≤_, _<_}
 use native.Mathlib.Omega.{arith}
-use lib.ListN.{length, getD, set, replicate, length-set}
+use lib.ListN.{length, getD, set, length-set}
 use lib.Seq.{getD-set-same, getD-set-other}
 use lib.Dec.{ltb, eqb}
 use borrow.Author.Tests.{ltb-true, ltb-false, eqb-true, eqb-false}
-use Rattle.plan.specs.Costs.{Filled, Rows, Charges, Column}
+use Rattle.plan.specs.Costs.{Filled, ColumnFilled, Columns, Charges, Column}
 
 below-cases : (j k : ℕ) → j < k + 1 → (j < k) ⊎ (j ≡ k)
 below-cases j k h = go (ltb j k) refl
@@ -68,49 +68,61 @@ all-five P a b c d e g h = go (eqb g 0) refl (eqb g 1) refl (eqb g 2) refl (eqb 
         let y : 4 ≡ g = omega arith in
         subst P y e
 
--- ---- one row more
+-- ---- one place of a column more, one column more
 
-pub rows-none : (f : ℕ → ℕ → ℕ) (cur : List ℕ) → length cur ≡ 80 → Rows f 0 cur
-rows-none f cur l = record { there = λ g r h k. absurd (omega arith); long = l }
+pub column-none : (f : ℕ → ℕ) (r : ℕ) (before : List ℕ) → ColumnFilled f r 0 before before
+column-none f r before = record { there = λ g h. absurd (omega arith); kept = λ g q h n. refl; long = refl }
 
-pub rows-more : (f : ℕ → ℕ → ℕ) (m : ℕ) (before after : List ℕ) → Rows f m before → Filled (f m) (16 * m) 16 before after → Rows f (m + 1) after
-rows-more f m before after s e =
+pub column-more : (f : ℕ → ℕ) (r m : ℕ) (before after : List ℕ) (v : ℕ) → ColumnFilled f r m before after → r < 16 → 16 * m + r < length after → v ≡ f m
+    → ColumnFilled f r (m + 1) before (set after (16 * m + r) v)
+column-more f r m before after v s hr h e =
+    record {
+      there = λ g l.
+          ⊎-elim
+          (λ q. getD-set-other after (16 * m + r) (16 * g + r) v 0 (λ z. omega arith) ∙ s .there g q)
+          (λ q. rw q (getD-set-same after (16 * m + r) v 0 h ∙ e))
+          (below-cases g m l);
+      kept = λ g q hq n. getD-set-other after (16 * m + r) (16 * g + q) v 0 (λ z. n (omega arith)) ∙ s .kept g q hq n;
+      long = length-set after (16 * m + r) v ∙ s .long;
+    }
+
+pub column-end : {f : ℕ → ℕ} {r k : ℕ} {before after : List ℕ} → ColumnFilled f r k before after → k ≤ 5 → 5 ≤ k → ColumnFilled f r 5 before after
+column-end {f} {r} {k} {before} {after} s l h = subst (λ (i : ℕ). ColumnFilled f r i before after) (omega arith) s
+
+pub columns-none : (f : ℕ → ℕ → ℕ) (table : List ℕ) → length table ≡ 80 → Columns f 0 table
+columns-none f table l = record { there = λ g r h k. absurd (omega arith); long = l }
+
+pub columns-more : (f : ℕ → ℕ → ℕ) (m : ℕ) (before after : List ℕ) → m < 16 → Columns f m before → ColumnFilled (λ g. f g m) m 5 before after
+    → Columns f (m + 1) after
+columns-more f m before after h s e =
     record {
       there = λ g r hg hr.
           ⊎-elim
-          (λ q. e .kept (16 * g + r) (inl (omega arith)) ∙ s .there g r q hr)
-          (λ q. rw q (e .there r hr))
-          (below-cases g m hg);
+          (λ q. e .kept g r (omega arith) (λ z. omega arith) ∙ s .there g r hg q)
+          (λ q. rw q (e .there g hg))
+          (below-cases r m hr);
       long = e .long ∙ s .long;
     }
 
-pub rows-end : {f : ℕ → ℕ → ℕ} {k : ℕ} {cur : List ℕ} → Rows f k cur → k ≤ 5 → 5 ≤ k → Rows f 5 cur
-rows-end {f} {k} {cur} s l h = subst (λ (i : ℕ). Rows f i cur) (omega arith) s
+pub columns-end : {f : ℕ → ℕ → ℕ} {k : ℕ} {table : List ℕ} → Columns f k table → k ≤ 16 → 16 ≤ k → Columns f 16 table
+columns-end {f} {k} {table} s l h = subst (λ (i : ℕ). Columns f i table) (omega arith) s
 
-pub rows-as : {f : ℕ → ℕ → ℕ} {cur : List ℕ} (g : ℕ → ℕ → ℕ) → ((i r : ℕ) → i < 5 → r < 16 → f i r ≡ g i r) → Rows f 5 cur → Rows g 5 cur
-rows-as g e s = record { there = λ i r h k. s .there i r h k ∙ e i r h k; long = s .long }
+pub columns-as : {f : ℕ → ℕ → ℕ} {table : List ℕ} (g : ℕ → ℕ → ℕ) → ((i r : ℕ) → i < 5 → r < 16 → f i r ≡ g i r) → Columns f 16 table
+    → Columns g 16 table
+columns-as g e s = record { there = λ i r h k. s .there i r h k ∙ e i r h k; long = s .long }
 
-pub rows-at : (f : ℕ → ℕ) {cur : List ℕ} → Rows (λ g r. f (16 * g + r)) 5 cur → (k : ℕ) → k < 80 → getD cur k 0 ≡ f k
-rows-at f {cur} s k h =
+pub columns-at : (f : ℕ → ℕ) {table : List ℕ} → Columns (λ g r. f (16 * g + r)) 16 table → (k : ℕ) → k < 80 → getD table k 0 ≡ f k
+columns-at f {table} s k h =
     let z : 16 * (k / 16) + k % 16 ≡ k = omega arith in
-    subst (λ (i : ℕ). getD cur i 0 ≡ f i) z (s .there (k / 16) (k % 16) (omega arith) (omega arith))
+    subst (λ (i : ℕ). getD table i 0 ≡ f i) z (s .there (k / 16) (k % 16) (omega arith) (omega arith))
 
 -- ---- five surcharges
 
 -- five of a price, with nothing at a place
-pub charges-set : (price place : ℕ) → place < 5 → Charges price place (set (replicate 5 price) place 0)
-charges-set price place h =
-    record {
-      five = length-set (replicate 5 price) place 0;
-      each = λ g hg. go g hg (eqb g place) refl;
-    }
-  where
-    all : (g : ℕ) → g < 5 → getD (replicate 5 price) g 0 ≡ price
-    all = all-five (λ g. getD (replicate 5 price) g 0 ≡ price) refl refl refl refl refl
-
-    go : (g : ℕ) → g < 5 → (t : Bool) → eqb g place ≡ t → getD (set (replicate 5 price) place 0) g 0 ≡ cond t 0 price
-    go g hg true e = rw (eqb-true g place e) (getD-set-same (replicate 5 price) place 0 0 h)
-    go g hg false e = getD-set-other (replicate 5 price) place g 0 0 (eqb-false g place e) ∙ all g hg
+pub charges-of : (price place a b c d e : ℕ) → a ≡ cond (eqb 0 place) 0 price → b ≡ cond (eqb 1 place) 0 price → c ≡ cond (eqb 2 place) 0 price
+    → d ≡ cond (eqb 3 place) 0 price → e ≡ cond (eqb 4 place) 0 price → Charges price place (a ∷ b ∷ c ∷ d ∷ e ∷ [])
+charges-of price place a b c d e qa qb qc qd qe =
+    record { five = refl; each = all-five (λ g. getD (a ∷ b ∷ c ∷ d ∷ e ∷ []) g 0 ≡ cond (eqb g place) 0 price) qa qb qc qd qe }
 
 pub column-of : (costs : List ℕ) (r : ℕ)
     → Column costs r (getD costs r 0 ∷ getD costs (16 + r) 0 ∷ getD costs (32 + r) 0 ∷ getD costs (48 + r) 0 ∷ getD costs (64 + r) 0 ∷ [])

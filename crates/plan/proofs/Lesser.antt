@@ -1,7 +1,7 @@
 -- The least costs from all numbers by one rule: the lesser of two stretches of costs with surcharges, since no cost rises by more than a
 -- designation's price.
 use mathlib.Core.Path.{_≡_, refl, sym, ap, ap₂, _∙_, subst}
-use mathlib.Core.Bool.{Bool, true, false, cond, _||_}
+use mathlib.Core.Bool.{Bool, true, false, cond, _||_, true≢false}
 use mathlib.Core.List.{List}
 use mathlib.Core.Logic.{_⊎_, inl, inr}
 use Prim.Native.Nat.{ℕ, _+_, _-_, _*_, _≤_, _<_, min}
@@ -117,22 +117,13 @@ module _ (x : ℕ) (next : List ℕ) (g q : ℕ) (hg : g < 5) (hq : q < 16) (sm 
         way j (16 * g + r) (getD (surcharges p) (15 - r + q) 0) p (z ∙ e) c (λ y. surcharge-here p t r q hr hq (omega arith)) (λ n. surcharge-there p t r q hr hq (λ y. n (omega arith))),
       )
 
-  -- a space; a set of GL alone, of both sides, of GR alone
-  pub lesser-space : (ps qs : List ℕ) → x ≡ 15 → Charges 3 0 ps → Charges 3 1 qs
-      → min (getD next (0 + q) 0 + getD ps g 0) (getD next (16 + q) 0 + getD qs g 0) ≡ leastBy x next (16 * g + q)
-  unfolding priceOfClass
-  lesser-space ps qs e a b =
-      by-ways (getD next (0 + q) 0 + getD ps g 0) (getD next (16 + q) 0 + getD qs g 0)
-      (gl-way 0 (afterFirst x (16 * g + q)) 3 ps (rw e (first-space (16 * g + q))) (rw e) a)
-      (gl-way 1 (afterSecond x (16 * g + q)) 3 qs (rw e (second-space (16 * g + q))) (rw e) b)
-
-  pub lesser-gl : (l : ℕ) (ps : List ℕ) → InGL x l → Charges 3 l ps
-      → min (getD next (16 * l + q) 0 + getD ps g 0) (getD next (16 * l + q) 0 + getD ps g 0) ≡ leastBy x next (16 * g + q)
-  lesser-gl l ps (hx, el, hr) ch =
-      let p = price-gl x l (getD placesInGR x 0) hx el refl hr in
-      by-ways (getD next (16 * l + q) 0 + getD ps g 0) (getD next (16 * l + q) 0 + getD ps g 0)
-      (gl-way l (afterFirst x (16 * g + q)) 3 ps (first-gl x l (getD placesInGR x 0) (16 * g + q) el refl hx (p .1)) (p .0) ch)
-      (gl-way l (afterSecond x (16 * g + q)) 3 ps (second-gl x l (getD placesInGR x 0) (16 * g + q) el refl hx hr) (p .0) ch)
+  -- a unit that GL alone serves; a character of a set of both sides, of GR alone
+  pub lesser-gl : (l m : ℕ) (ps qs : List ℕ) → InGL x l m → Charges 3 l ps → Charges 3 m qs
+      → min (getD next (16 * l + q) 0 + getD ps g 0) (getD next (16 * m + q) 0 + getD qs g 0) ≡ leastBy x next (16 * g + q)
+  lesser-gl l m ps qs s a b =
+      by-ways (getD next (16 * l + q) 0 + getD ps g 0) (getD next (16 * m + q) 0 + getD qs g 0)
+      (gl-way l (afterFirst x (16 * g + q)) 3 ps (s .first (16 * g + q)) (s .dear) a)
+      (gl-way m (afterSecond x (16 * g + q)) 3 qs (s .second (16 * g + q)) (s .dear) b)
 
   pub lesser-both : (l r : ℕ) (ps vs table : List ℕ) → OnBoth x l r → table ≡ surcharges 4 → Charges 4 l ps → Column next r vs
       → min (getD next (16 * l + q) 0 + getD ps g 0) (getD table (15 - r + q) 0 + getD vs g 0) ≡ leastBy x next (16 * g + q)
@@ -149,6 +140,49 @@ module _ (x : ℕ) (next : List ℕ) (g q : ℕ) (hg : g < 5) (hq : q < 16) (sm 
       by-ways (getD table (15 - r + q) 0 + getD vs g 0) (getD table (15 - r + q) 0 + getD vs g 0)
       (gr-way r (afterFirst x (16 * g + q)) 3 table vs refl (first-gr x (getD placesInGL x 0) r (16 * g + q) refl er hx hl) p hr et col)
       (gr-way r (afterSecond x (16 * g + q)) 3 table vs refl (second-gr x (getD placesInGL x 0) r (16 * g + q) refl er hx hr) p hr et col)
+
+-- ---- the classes that GL alone serves
+
+-- by the tests of a class: that of a space, or a set that has no place in GR
+pub in-gl : (x l m r : ℕ) → x < 16 → l ≡ getD placesInGL x 0 → r ≡ getD placesInGR x 0 → m ≡ cond (eqb x 15) 1 l → (eqb x 15 || leb 13 r) ≡ true → InGL x l m
+unfolding priceOfClass
+in-gl x l m r hx el er em t = go (eqb x 15) refl
+  where
+    go : (b : Bool) → eqb x 15 ≡ b → InGL x l m
+    go true q =
+        let e = eqb-true x 15 q in
+        let zl : 0 ≡ l = sym (el ∙ ap (λ (y : ℕ). getD placesInGL y 0) e) in
+        let zm : 1 ≡ m = sym (em ∙ ap (λ (b : Bool). cond b 1 l) q) in
+        record {
+          dear = rw e refl;
+          first-place = omega arith;
+          second-place = omega arith;
+          first = λ k. rw (← zl, e) (first-space k);
+          second = λ k. rw (← zm, e) (second-space k);
+        }
+    go false q =
+        let n = eqb-false x 15 q in
+        let h : x < 15 = omega arith in
+        let hr : 13 ≤ r = leb-true 13 r (rw q at t) in
+        let p = price-gl x l r h el er hr in
+        let zm : l ≡ m = sym (em ∙ ap (λ (b : Bool). cond b 1 l) q) in
+        record {
+          dear = p .0;
+          first-place = p .1;
+          second-place = omega (arith, p .1);
+          first = λ k. first-gl x l r k el er h (p .1);
+          second = λ k. rw (← zm) (second-gl x l r k el er h hr);
+        }
+
+-- any other class has a place in GR
+pub not-in-gl : (x r : ℕ) → x < 16 → (eqb x 15 || leb 13 r) ≡ false → (x < 15) × (r < 13)
+not-in-gl x r hx t = go (eqb x 15) refl
+  where
+    go : (b : Bool) → eqb x 15 ≡ b → (x < 15) × (r < 13)
+    go true q = absurd (true≢false (rw q at t))
+    go false q =
+        let n = eqb-false x 15 q in
+        (omega arith, leb-false 13 r (rw q at t))
 
 -- ---- the sums fit an octet
 

@@ -10,9 +10,9 @@ use lib.Dec.{ltb, leb, eqb}
 use borrow.Author.Tests.{lt-ltb, le-ltb, eqb-false}
 use Rattle.base.specs.Choice.{pick}
 use Rattle.plan.specs.Numbers.{priceOfClass, afterFirst, afterSecond, afterChoice}
-use Rattle.plan.specs.Costs.{Filled, Rows, leastBy, changes, Turned, secondSlot, RowKept}
+use Rattle.plan.specs.Costs.{Filled, Columns, leastBy, changes, Turned, secondSlot, RowKept}
 use Rattle.plan.proofs.Numbers.{first-gl, second-gr, first-space, second-space, gl-two, gr-most}
-use Rattle.plan.proofs.Filled.{rows-at}
+use Rattle.plan.proofs.Filled.{columns-at}
 
 -- ---- what a row keeps: two stretches, of the costs after the first designation and after the second
 
@@ -84,9 +84,9 @@ module _ (last x : ℕ) (before after : List ℕ) (l : length before ≡ 80) whe
   turned-still e h =
       record { still = λ _. (refl, refl, refl); moved = λ q. absurd (false≢true (sym e ∙ q)); low = h; small = omega arith; long = refl }
 
-  module _ (s : Rows (λ g r. leastBy x before (16 * g + r)) 5 after) where
+  module _ (s : Columns (λ g r. leastBy x before (16 * g + r)) 16 after) where
     now : (k : ℕ) → k < 80 → getD after k 0 ≡ leastBy x before k
-    now k h = rows-at (λ m. leastBy x before m) s k h
+    now k h = columns-at (λ m. leastBy x before m) s k h
 
     pub turned-moved : changes last x ≡ true → getD after 1 0 ≤ 200 → Turned last x before 0 x after
     turned-moved e h =

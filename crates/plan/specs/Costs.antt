@@ -11,7 +11,7 @@ use Rattle.base.specs.Limit as limit
 use Rattle.state.specs.declared.Sets.{Sets}
 use Rattle.rows.specs.Rows.{tagAt, startFrom, countOf, partOf, unitsIn}
 use Rattle.writing.specs.Writing.{cost}
-use Rattle.plan.specs.Numbers.{numbered, classOf, placesInGL, placesInGR, afterFirst, afterSecond, afterChoice, surcharge, priceOfClass}
+use Rattle.plan.specs.Numbers.{numbered, withGL, classOf, placesInGL, placesInGR, afterFirst, afterSecond, afterChoice, surcharge, priceOfClass}
 
 -- ---- the units of the rows
 
@@ -44,9 +44,15 @@ pub record Filled (f : ℕ → ℕ) (at m : ℕ) (before after : List ℕ) : Typ
   pub kept : (p : ℕ) → (p < at) ⊎ (at + m ≤ p) → getD after p 0 ≡ getD before p 0
   pub long : length after ≡ length before
 
--- the first m rows of a table of five rows by 16 hold the numbers that f gives by row and column
-pub record Rows (f : ℕ → ℕ → ℕ) (m : ℕ) (table : List ℕ) : Type 0 where
-  pub there : (g r : ℕ) → g < m → r < 16 → getD table (16 * g + r) 0 ≡ f g r
+-- in a table of five rows by 16, the first m places of column r hold the numbers that f gives by row, and the other columns what they held
+pub record ColumnFilled (f : ℕ → ℕ) (r m : ℕ) (before after : List ℕ) : Type 0 where
+  pub there : (g : ℕ) → g < m → getD after (16 * g + r) 0 ≡ f g
+  pub kept : (g q : ℕ) → q < 16 → (q ≡ r → ⊥) → getD after (16 * g + q) 0 ≡ getD before (16 * g + q) 0
+  pub long : length after ≡ length before
+
+-- the first m columns of such a table hold the numbers that f gives by row and column
+pub record Columns (f : ℕ → ℕ → ℕ) (m : ℕ) (table : List ℕ) : Type 0 where
+  pub there : (g r : ℕ) → g < 5 → r < m → getD table (16 * g + r) 0 ≡ f g r
   pub long : length table ≡ 80
 
 -- 16 costs from a place on and a surcharge, whose sums each fit an octet
@@ -74,9 +80,15 @@ surcharges p =
     p ∷ p ∷ p ∷ p ∷ p ∷ p ∷ p ∷ p ∷ p ∷ p ∷ p ∷ p ∷ p ∷ p ∷ p ∷ 0
     ∷ p ∷ p ∷ p ∷ p ∷ p ∷ p ∷ p ∷ p ∷ p ∷ p ∷ p ∷ p ∷ p ∷ p ∷ p ∷ p ∷ []
 
--- a class whose set has a place in GL alone, in GR alone, and on both sides
-abbrev pub InGL : ℕ → ℕ → Type 0
-InGL x l = (x < 15) × (l ≡ getD placesInGL x 0) × (13 ≤ getD placesInGR x 0)
+-- a class that GL alone serves: at place l first, and then at place m
+pub record InGL (x l m : ℕ) : Type 0 where
+  pub dear : priceOfClass x ≡ 3
+  pub first-place : l < 5
+  pub second-place : m < 5
+  pub first : (k : ℕ) → withGL l k ≡ afterFirst x k
+  pub second : (k : ℕ) → withGL m k ≡ afterSecond x k
+
+-- a class whose set has a place in GR alone, and on both sides
 
 abbrev pub InGR : ℕ → ℕ → Type 0
 InGR x r = (x < 15) × (r ≡ getD placesInGR x 0) × (r < 13) × (5 ≤ getD placesInGL x 0)

@@ -1,8 +1,10 @@
 // The costs from all 80 numbers, octet by octet: five rows, for GL's places, by 16 columns, for GR's.
 ghost use mathlib.Core.Path.{_≡_};
+ghost use mathlib.Core.Bool.{cond, _||_};
 ghost use Prim.Native.Nat.{ℕ, _+_, _-_, _*_, _≤_, _<_, min};
+ghost use lib.Dec.{eqb, leb};
 ghost use lib.ListN.{length, getD};
-ghost use Rattle.plan.specs.Costs.{Filled, Rows, SumFits, SumsFit, Charges, Column, surcharges, InGL, InGR, OnBoth, leastBy, Smooth, changes, Turned, RowKept};
+ghost use Rattle.plan.specs.Costs.{Filled, ColumnFilled, Columns, SumsFit, Charges, Column, surcharges, InGL, InGR, OnBoth, leastBy, Smooth, changes, Turned, RowKept};
 use crate::place_in_gl;
 use crate::place_in_gr;
 
@@ -12,40 +14,51 @@ fn lesser(a: u8, b: u8) -> u8
     if a <= b { a } else { b }
 }
 
-// For each of 16 places the lesser of a's cost with the surcharge p and c's cost with the surcharge q.
-fn lesser_row(a: &[u8], i: usize, p: u8, c: &[u8], j: usize, q: u8, cur: &mut [u8; 80], at: usize)
-    requires { ⌜ (at + 16 ≤ 80) × SumFits (now a) i p × SumFits (now c) j q × (length (now cur) ≡ 80) ⌝ }
-    ensures { λ _. ⌜ Filled (λ r. min (getD (now (a .entry)) (i + r) 0 + p) (getD (now (c .entry)) (j + r) 0 + q)) at 16 (now (cur .entry)) (now (cur .exit)) ⌝ }
+// In the five rows of column r the lesser of the cost u with a surcharge of p and of the cost v with a surcharge of q.
+fn lesser_column(u: u8, p: [u8; 5], v: u8, q: [u8; 5], cur: &mut [u8; 80], r: usize)
+    requires { ⌜ (r < 16) × ((g : ℕ) → g < 5 → (u + getD p g 0 ≤ 255) × (v + getD q g 0 ≤ 255)) × (length (now cur) ≡ 80) ⌝ }
+    ensures { λ _. ⌜ ColumnFilled (λ g. min (u + getD p g 0) (v + getD q g 0)) r 5 (now (cur .entry)) (now (cur .exit)) ⌝ }
+{
+    let mut g: usize = 0;
+    while g < 5 {
+        cur[16 * g + r] = lesser(u + p[g], v + q[g]);
+        g += 1;
+    }
+}
+
+// The same for the 16 columns, with the costs of a from place i on and those of c from place j on. Column by column, and not row by row:
+// so the compiler does the 16 columns of a row at once.
+fn lesser_costs(a: &[u8], i: usize, p: [u8; 5], c: &[u8], j: usize, q: [u8; 5], cur: &mut [u8; 80])
+    requires { ⌜ SumsFit (now a) i p × SumsFit (now c) j q × (length (now cur) ≡ 80) ⌝ }
+    ensures { λ _. ⌜ Columns (λ g r. min (getD (now (a .entry)) (i + r) 0 + getD p g 0) (getD (now (c .entry)) (j + r) 0 + getD q g 0)) 16 (now (cur .exit)) ⌝ }
 {
     let mut r: usize = 0;
     while r < 16 {
         let u = a[i + r];
         let v = c[j + r];
-        cur[at + r] = lesser(u + p, v + q);
+        lesser_column(u, p, v, q, cur, r);
         r += 1;
     }
 }
 
-// The same for the five rows, with a surcharge for each.
-fn lesser_costs(a: &[u8], i: usize, p: [u8; 5], c: &[u8], j: usize, q: [u8; 5], cur: &mut [u8; 80])
-    requires { ⌜ SumsFit (now a) i p × SumsFit (now c) j q × (length (now cur) ≡ 80) ⌝ }
-    ensures { λ _. ⌜ Rows (λ g r. min (getD (now (a .entry)) (i + r) 0 + getD p g 0) (getD (now (c .entry)) (j + r) 0 + getD q g 0)) 5 (now (cur .exit)) ⌝ }
+// The price, but nothing in the row of a place.
+fn charge(price: u8, place: usize, g: usize) -> u8
+    ensures { λ r. ⌜ r ≡ cond (eqb g place) 0 price ⌝ }
 {
-    let mut g: usize = 0;
-    while g < 5 {
-        lesser_row(a, i, p[g], c, j, q[g], cur, 16 * g);
-        g += 1;
-    }
+    if g == place { 0 } else { price }
 }
 
 // The price in each row, but nothing in the row of a place.
 fn charges(price: u8, place: usize) -> [u8; 5]
-    requires { ⌜ place < 5 ⌝ }
     ensures { λ r. ⌜ Charges price place r ⌝ }
 {
-    let mut each = [price; 5];
-    each[place] = 0;
-    each
+    [
+        charge(price, place, 0),
+        charge(price, place, 1),
+        charge(price, place, 2),
+        charge(price, place, 3),
+        charge(price, place, 4),
+    ]
 }
 
 // The costs of the five rows in a column.
@@ -62,33 +75,25 @@ fn column(costs: &[u8; 80], r: usize) -> [u8; 5]
     ]
 }
 
-// The least costs of a space before what next has: set 0 or set 2 in GL.
-fn space_costs(next: &[u8; 80], three: u8, cur: &mut [u8; 80])
-    requires { ⌜ Smooth 15 (now next) × (length (now next) ≡ 80) × (three ≡ 3) × (length (now cur) ≡ 80) ⌝ }
-    ensures { λ _. ⌜ Rows (λ g r. leastBy 15 (now (next .entry)) (16 * g + r)) 5 (now (cur .exit)) ⌝ }
-{
-    let p = charges(three, 0);
-    let q = charges(three, 1);
-    lesser_costs(next, 0, p, next, 16, q, cur);
-}
-
-// Those of a character whose set has a place in GL alone.
-fn gl_costs(x: usize, l: usize, next: &[u8; 80], three: u8, cur: &mut [u8; 80])
-    requires { ⌜ Smooth x (now next) × (length (now next) ≡ 80) × (three ≡ 3) × (length (now cur) ≡ 80) × InGL x l ⌝ }
-    ensures { λ _. ⌜ Rows (λ g r. leastBy x (now (next .entry)) (16 * g + r)) 5 (now (cur .exit)) ⌝ }
+// The least costs of a unit that GL alone serves, at place l or at place m, before what next has.
+fn gl_costs(x: usize, l: usize, m: usize, next: &[u8; 80], three: u8, cur: &mut [u8; 80])
+    requires { ⌜ Smooth x (now next) × (length (now next) ≡ 80) × (three ≡ 3) × (length (now cur) ≡ 80) × InGL x l m ⌝ }
+    ensures { λ _. ⌜ Columns (λ g r. leastBy x (now (next .entry)) (16 * g + r)) 16 (now (cur .exit)) ⌝ }
 {
     let i = 16 * l;
+    let j = 16 * m;
     let p = charges(three, l);
-    lesser_costs(next, i, p, next, i, p, cur);
+    let q = charges(three, m);
+    lesser_costs(next, i, p, next, j, q, cur);
 }
 
 // Those of a character whose set has a place on each side. From 15 - r on, the table has nothing at place r and a designation's price at
 // the other places: with the column's costs that is what GR's place r costs.
 fn both_costs(x: usize, l: usize, r: usize, next: &[u8; 80], fours: &[u8; 32], cur: &mut [u8; 80])
     requires { ⌜ Smooth x (now next) × (length (now next) ≡ 80) × (now fours ≡ surcharges 4) × (length (now cur) ≡ 80) × OnBoth x l r ⌝ }
-    ensures { λ _. ⌜ Rows (λ g r. leastBy x (now (next .entry)) (16 * g + r)) 5 (now (cur .exit)) ⌝ }
+    ensures { λ _. ⌜ Columns (λ g r. leastBy x (now (next .entry)) (16 * g + r)) 16 (now (cur .exit)) ⌝ }
 {
-    // Read from the table and not written out: with a constant the loop of lesser_row is unrolled and not done 16 at a time.
+    // Read from the table and not written out: with a constant the loop of lesser_costs is unrolled and not done 16 at a time.
     let four = fours[31];
     let i = 16 * l;
     let j = 15 - r;
@@ -100,26 +105,43 @@ fn both_costs(x: usize, l: usize, r: usize, next: &[u8; 80], fours: &[u8; 32], c
 // Those of a character whose set has a place in GR alone.
 fn gr_costs(x: usize, r: usize, next: &[u8; 80], threes: &[u8; 32], cur: &mut [u8; 80])
     requires { ⌜ Smooth x (now next) × (length (now next) ≡ 80) × (now threes ≡ surcharges 3) × (length (now cur) ≡ 80) × InGR x r ⌝ }
-    ensures { λ _. ⌜ Rows (λ g r. leastBy x (now (next .entry)) (16 * g + r)) 5 (now (cur .exit)) ⌝ }
+    ensures { λ _. ⌜ Columns (λ g r. leastBy x (now (next .entry)) (16 * g + r)) 16 (now (cur .exit)) ⌝ }
 {
     let j = 15 - r;
     let v = column(next, r);
     lesser_costs(threes, j, v, threes, j, v, cur);
 }
 
+// Whether GL alone serves a class, whose place in GR is r: that of a space, or of a set that has no place in GR.
+fn in_gl_alone(x: usize, r: usize) -> bool
+    ensures { λ b. ⌜ b ≡ eqb x 15 || leb 13 r ⌝ }
+{
+    if x == 15 {
+        return true;
+    }
+    13 <= r
+}
+
+// The other place of GL that serves a class, whose first is l: a space may stand with set 2 too.
+fn second_in_gl(x: usize, l: usize) -> usize
+    ensures { λ m. ⌜ m ≡ cond (eqb x 15) 1 l ⌝ }
+{
+    if x == 15 {
+        return 1;
+    }
+    l
+}
+
 // The least costs, but for the unit's own octets, of a unit of class x before what next has.
 fn costs_before(x: usize, next: &[u8; 80], fours: &[u8; 32], threes: &[u8; 32], cur: &mut [u8; 80])
     requires { ⌜ (x < 16) × Smooth x (now next) × (length (now next) ≡ 80) × (now fours ≡ surcharges 4) × (now threes ≡ surcharges 3) × (length (now cur) ≡ 80) ⌝ }
-    ensures { λ _. ⌜ Rows (λ g r. leastBy x (now (next .entry)) (16 * g + r)) 5 (now (cur .exit)) ⌝ }
+    ensures { λ _. ⌜ Columns (λ g r. leastBy x (now (next .entry)) (16 * g + r)) 16 (now (cur .exit)) ⌝ }
 {
-    if x == 15 {
-        space_costs(next, threes[31], cur);
-        return;
-    }
     let l = place_in_gl(x);
     let r = place_in_gr(x);
-    if 13 <= r {
-        gl_costs(x, l, next, threes[31], cur);
+    if in_gl_alone(x, r) {
+        let m = second_in_gl(x, l);
+        gl_costs(x, l, m, next, threes[31], cur);
         return;
     }
     if l < 5 {

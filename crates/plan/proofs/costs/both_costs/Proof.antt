@@ -1,7 +1,7 @@
 -- `plan::costs::both_costs` meets its contract: the lesser costs are the least.
 use native.Mathlib.Omega.{arith}
 use mathlib.Core.Path.{refl}
-use Rattle.plan.proofs.Filled.{rows-as}
+use Rattle.plan.proofs.Filled.{columns-as}
 use Rattle.plan.proofs.Lesser.{charges-as, last-surcharge, fit-charges, fit-column, lesser-both}
 use borrow.Author.Needs.{needs}
 use Rattle.plan.proofs.costs.both_costs.Statement.{statement}
@@ -33,7 +33,7 @@ lesser-costs-requires c κs =
 returns : tie.Need-returns
 returns c =
     let f = last-surcharge (c .before .before .before .before .before .before .before .args .fours .now) 4 (c .before .before .before .before .before .before .before .pre .2) in
-    rows-as _
+    columns-as _
     (λ g q hg hq. lesser-both (c .before .before .before .before .before .before .before .args .x) (c .before .before .before .before .before .before .before .args .next .now) g q hg hq (c .before .before .before .before .before .before .before .pre .0) _ _ _ _ _ (c .before .before .before .before .before .before .before .pre .4) (c .before .before .before .before .before .before .before .pre .2) (charges-as f (c .before .before .before .before .before .charges .ensures)) (c .before .before .before .before .column .ensures))
     (c .lesser-costs .ensures)
 

@@ -1,6 +1,6 @@
 -- `plan::costs::gr_costs` meets its contract: the lesser costs are the least.
 use mathlib.Core.Path.{refl}
-use Rattle.plan.proofs.Filled.{rows-as}
+use Rattle.plan.proofs.Filled.{columns-as}
 use Rattle.plan.proofs.Lesser.{fit-column, lesser-gr}
 use borrow.Author.Needs.{needs}
 use Rattle.plan.proofs.costs.gr_costs.Statement.{statement}
@@ -19,7 +19,7 @@ lesser-costs-requires c κs =
 
 returns : tie.Need-returns
 returns c =
-    rows-as _
+    columns-as _
     (λ g q hg hq. lesser-gr (c .before .before .before .before .before .args .x) (c .before .before .before .before .before .args .next .now) g q hg hq (c .before .before .before .before .before .pre .0) _ _ _ (c .before .before .before .before .before .pre .4) (c .before .before .before .before .before .pre .2) (c .before .before .before .before .column .ensures))
     (c .lesser-costs .ensures)
 
