@@ -1,3 +1,4 @@
 pub mod Refusals
+pub mod Quick
 pub mod Fits
 pub mod Turns

@@ -5,6 +5,7 @@ ghost use Prim.Native.Nat.{_<_};
 ghost use lib.ListN.{length};
 ghost use Rattle.grammar.specs.Records.{unitRead};
 ghost use Rattle.writing.specs.Records.{fault};
+ghost use Rattle.records.specs.Plain.{settledOf};
 ghost use Rattle.records.specs.Turn.{begun, turnOf, roomAfter, lookedAt};
 use base::Unit;
 use base::kind;
@@ -15,6 +16,7 @@ use state::directions::Step;
 use state::directions::counts_as_text;
 
 mod own;
+mod plain;
 mod row;
 
 // How far a list is checked: what the directions are after the last record, or the number and the index of the first that offends.
@@ -57,6 +59,16 @@ pub fn looked_at(n: usize) -> usize
     if n <= limit::UNITS { n } else { 0 }
 }
 
+// Whether text leaves the directions as they are: there was no mark, and there was text.
+fn settled(directions: Directions) -> bool
+    ensures { λ r. ⌜ r ≡ settledOf directions ⌝ }
+{
+    if directions.marked {
+        return false;
+    }
+    directions.texted
+}
+
 // Record i: checked, and put into its row where it is not refused and the work room has that row.
 pub fn turn(progress: Progress, unit: Unit, i: usize, segments: &[u8], work: &mut [u8]) -> Progress
     ensures { λ r. ⌜ (r ≡ turnOf (now (segments .entry)) unit i progress)
@@ -64,6 +76,12 @@ pub fn turn(progress: Progress, unit: Unit, i: usize, segments: &[u8], work: &mu
 {
     match progress {
         Progress::Fine(directions) => {
+            if settled(directions) {
+                if plain::plain(unit) {
+                    row::put(unit, i, work);
+                    return Progress::Fine(directions);
+                }
+            }
             let step = judge(unit, segments, directions);
             match step {
                 Step::Goes(next) => {

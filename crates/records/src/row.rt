@@ -44,12 +44,13 @@ pub fn put(unit: Unit, i: usize, work: &mut [u8])
         let tag = tag_of(unit);
         let number = number_of(unit);
         let start = unit.start;
-        work[at] = tag;
-        work[at + 1] = (number / 256) as u8;
-        work[at + 2] = (number % 256) as u8;
+        // the start first: so the compiler makes one store of its four octets
         work[at + 3] = (start / 16777216) as u8;
         work[at + 4] = (start / 65536 % 256) as u8;
         work[at + 5] = (start / 256 % 256) as u8;
         work[at + 6] = (start % 256) as u8;
+        work[at] = tag;
+        work[at + 1] = (number / 256) as u8;
+        work[at + 2] = (number % 256) as u8;
     }
 }

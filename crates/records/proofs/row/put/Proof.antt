@@ -22,17 +22,14 @@ tag-of-requires c κs = search needs
 number-of-requires : tie.Need-number-of-requires
 number-of-requires c κs = search needs
 
-slice-write-work : tie.Need-slice-write-work
-slice-write-work c = search needs
-
 cast-work : tie.Need-cast-work
 cast-work c = search needs
 
 add-work : tie.Need-add-work
 add-work c = search needs
 
-slice-write-work-2 : tie.Need-slice-write-work-2
-slice-write-work-2 c = simp length-set (omega (arith, c .before .before .if1 .taken))
+slice-write-work : tie.Need-slice-write-work
+slice-write-work c = search needs
 
 cast-work-2 : tie.Need-cast-work-2
 cast-work-2 c = search needs
@@ -40,8 +37,8 @@ cast-work-2 c = search needs
 add-work-2 : tie.Need-add-work-2
 add-work-2 c = search needs
 
-slice-write-work-3 : tie.Need-slice-write-work-3
-slice-write-work-3 c = simp length-set (omega (arith, c .before .before .if1 .taken))
+slice-write-work-2 : tie.Need-slice-write-work-2
+slice-write-work-2 c = simp length-set (omega (arith, c .before .before .if1 .taken))
 
 cast-work-3 : tie.Need-cast-work-3
 cast-work-3 c = search needs
@@ -49,14 +46,17 @@ cast-work-3 c = search needs
 add-work-3 : tie.Need-add-work-3
 add-work-3 c = search needs
 
-slice-write-work-4 : tie.Need-slice-write-work-4
-slice-write-work-4 c = simp length-set (omega (arith, c .before .before .if1 .taken))
+slice-write-work-3 : tie.Need-slice-write-work-3
+slice-write-work-3 c = simp length-set (omega (arith, c .before .before .if1 .taken))
 
 cast-work-4 : tie.Need-cast-work-4
 cast-work-4 c = search needs
 
 add-work-4 : tie.Need-add-work-4
 add-work-4 c = search needs
+
+slice-write-work-4 : tie.Need-slice-write-work-4
+slice-write-work-4 c = simp length-set (omega (arith, c .before .before .if1 .taken))
 
 slice-write-work-5 : tie.Need-slice-write-work-5
 slice-write-work-5 c = simp length-set (omega (arith, c .before .before .if1 .taken))
@@ -84,7 +84,10 @@ same-length c = simp length-set
 
 returns : tie.Need-returns
 unfolding withRecord
-returns c = on-lt _ _ _ _ (c .before .before .before .before .args .work .now) (c .before .before .if1 .taken) (seven-stores (c .before .before .before .before .args .work .now) (72 * c .before .before .before .before .args .i + 65) _ _ (c .before .before .before .before .args .unit) (c .before .tag-of .ensures) (c .number-of .ensures))
+returns c =
+    let args = c .before .before .before .before .args in
+    on-lt _ _ _ _ (args .work .now) (c .before .before .if1 .taken)
+    (seven-stores (args .work .now) (72 * args .i + 65) _ _ (args .unit) (c .before .tag-of .ensures) (c .number-of .ensures))
 
 returns-2 : tie.Need-returns-2
 unfolding withRecord
@@ -98,18 +101,18 @@ put-spec =
     add-at
     tag-of-requires
     number-of-requires
-    slice-write-work
     cast-work
     add-work
-    slice-write-work-2
+    slice-write-work
     cast-work-2
     add-work-2
-    slice-write-work-3
+    slice-write-work-2
     cast-work-3
     add-work-3
-    slice-write-work-4
+    slice-write-work-3
     cast-work-4
     add-work-4
+    slice-write-work-4
     slice-write-work-5
     cast-work-5
     add-work-5

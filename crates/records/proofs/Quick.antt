@@ -1,0 +1,103 @@
+-- The quick check is right: a record that it lets through, where the directions are settled, is refused for nothing and changes no
+-- direction. A space by its kind; a character since the bounds of its set's octets are those of the codes that the set uses.
+use Prim.Native.Nat.{ℕ, _/_, _%_, _≤_, _<_}
+use native.Mathlib.Omega.{arith}
+use mathlib.Core.Path.{_≡_, refl, sym, ap, _∙_}
+use mathlib.Core.Bool.{Bool, true, false, false≢true}
+use mathlib.Core.List.{List}
+use lib.Dec.{eqb, leb, ltb}
+use borrow.Author.Tests.{eqb-true, eqb-false, eq-eqb, ne-eqb, leb-true, leb-false, le-leb, ltb-true, ltb-false, lt-ltb, le-ltb}
+use Rattle.base.specs.Choice.{pick}
+use Rattle.base.specs.Kind as kind
+use Rattle.base.specs.declared.Unit.{Unit as UnitRecord}
+use Rattle.charset.specs.Charsets.{no-set, formOf}
+use Rattle.charset.proofs.Laws.{formRule, form-rule}
+use Rattle.text.specs.Text.{graphicOf}
+use Rattle.state.specs.Directions.{writtenOf, stepOf, countsAsText}
+use Rattle.state.specs.declared.directions.Directions.{Directions}
+use Rattle.state.specs.declared.directions.Step.the-variants.{Goes}
+use Rattle.grammar.specs.Units.{codeUsed}
+use Rattle.grammar.specs.Records.{unitRead}
+use Rattle.writing.specs.Records.{fault}
+use Rattle.records.specs.Plain.{leastLow, mostLow, leastHigh, mostHigh, usedBy, setBy, codeBy, plainOf, settledOf}
+use Rattle.records.proofs.Refusals.{kind-character, kind-plain, code-fits}
+
+-- ---- a code
+
+-- a test that would have said no
+passed : (t y : Bool) → pick t false y ≡ true → (t ≡ false) × (y ≡ true)
+unfolding pick
+passed true y e = absurd (false≢true e)
+passed false y e = (refl, e)
+
+graphic : (m : ℕ) → 0x21 ≤ m → m ≤ 0x7E → graphicOf m ≡ true
+unfolding graphicOf pick
+graphic m a b = rw (le-ltb m 0x21 a, le-leb m 0x7E b)
+
+record Within (c k : ℕ) : Type 0 where
+  set : c < no-set
+  low-least : leastLow c ≤ k % 256
+  low-most : k % 256 ≤ mostLow c
+  high-least : leastHigh c ≤ k / 256
+  high-most : k / 256 ≤ mostHigh c
+
+within : (c k : ℕ) → usedBy c k ≡ true → Within c k
+unfolding usedBy
+within c k e =
+    let a = passed (leb no-set c) _ e in
+    let b = passed (ltb (k % 256) (leastLow c)) _ (a .1) in
+    let d = passed (ltb (mostLow c) (k % 256)) _ (b .1) in
+    let f = passed (ltb (k / 256) (leastHigh c)) _ (d .1) in
+    record {
+      set = leb-false no-set c (a .0);
+      low-least = ltb-false (k % 256) (leastLow c) (b .0);
+      low-most = ltb-false (mostLow c) (k % 256) (d .0);
+      high-least = ltb-false (k / 256) (leastHigh c) (f .0);
+      high-most = leb-true (k / 256) (mostHigh c) (f .1);
+    }
+
+-- by the form of the set
+code-used : (c k : ℕ) → Within c k → codeUsed (formOf c) k ≡ true
+unfolding formRule leastLow mostLow leastHigh mostHigh codeUsed pick
+code-used c k w = rw (← form-rule c) (go (ltb c 3) refl (ltb c 12) refl)
+  where
+    go : (s : Bool) → ltb c 3 ≡ s → (t : Bool) → ltb c 12 ≡ t → codeUsed (formRule c) k ≡ true
+    go true p t q =
+        let l = ltb-true c 3 p in
+        let m = lt-ltb c 12 (omega arith) in
+        rw p (graphic k (omega (arith, rw p at (w .low-least), rw m at (w .high-most))) (omega (arith, rw p at (w .low-most), rw m at (w .high-most))))
+    go false p true q =
+        rw (p, q, le-leb 0x20 k (omega (arith, rw (p, q) at (w .low-least), rw q at (w .high-most))), le-leb k 0x7F (omega (arith, rw (p, q) at (w .low-most), rw q at (w .high-most))))
+    go false p false q =
+        rw (p, q, lt-ltb c 15 (w .set), graphic (k / 256) (rw q at (w .high-least)) (rw q at (w .high-most)), graphic (k % 256) (rw (p, q) at (w .low-least)) (rw (p, q) at (w .low-most)))
+
+-- ---- the directions
+
+settled-written : (d : Directions) → settledOf d ≡ true → writtenOf d ≡ Goes d
+unfolding settledOf writtenOf pick
+settled-written d e =
+    let p = passed (d .marked) (d .texted) e in
+    let texted : true ≡ d .texted = sym (p .1) in
+    rw (p .0) (ap Goes (λ i. record { depth = d .depth; levels = d .levels; marked = false; texted = texted i }))
+
+text-goes : (k : ℕ) (d : Directions) → k < 2 → settledOf d ≡ true → stepOf (countsAsText k 0) k d ≡ Goes d
+unfolding stepOf pick
+text-goes k d h e = rw (lt-ltb k 2 h) (settled-written d e)
+
+-- ---- a record
+
+pub plain-goes : (o : List ℕ) (r : UnitRecord) (d : Directions) → settledOf d ≡ true → plainOf r ≡ true → fault (unitRead o r) d ≡ Goes d
+unfolding plainOf setBy codeBy pick
+plain-goes o r d s e = go (leb (r .kind) 1) refl (eqb (r .kind) 1) refl
+  where
+    go : (t : Bool) → leb (r .kind) 1 ≡ t → (u : Bool) → eqb (r .kind) 1 ≡ u → fault (unitRead o r) d ≡ Goes d
+    go true p true q =
+        let k = eqb-true (r .kind) 1 q in
+        sym (kind-plain o r d (λ z. omega arith) (omega arith)) ∙ text-goes (r .kind) d (omega arith) s
+    go true p false q =
+        let l = leb-true (r .kind) 1 p in
+        let n = eqb-false (r .kind) 1 q in
+        let k : r .kind ≡ kind.character = omega arith in
+        let w = within (r .set) (r .code) (rw (p, q) at e) in
+        sym (kind-character o r d k) ∙ sym (code-fits (r .set) (r .code) d (w .set) (code-used (r .set) (r .code) w)) ∙ text-goes kind.character d (omega arith) s
+    go false p u q = absurd (false≢true (rw p at e))
