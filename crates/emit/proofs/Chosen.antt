@@ -1,17 +1,52 @@
 -- The choice by tests on the two numbers and on what a row keeps.
-use mathlib.Core.Path.{_≡_, refl}
-use mathlib.Core.Bool.{Bool, true, false, cond, _||_}
+use mathlib.Core.Path.{_≡_, refl, _∙_}
+use mathlib.Core.Bool.{Bool, true, false, cond, _||_, Bool·beq}
 use mathlib.Core.List.{List}
 use Prim.Native.Nat.{ℕ, _+_, _/_, _%_, _≤_, _<_}
 use lib.ListN.{getD}
 use lib.Dec.{eqb, leb}
 use borrow.Author.Tests.{eq-eqb, ne-eqb, lt-ltb, le-ltb, le-leb, lt-leb}
-use Rattle.plan.specs.Numbers.{afterFirst, afterSecond, chosenBy}
+use Rattle.writing.proofs.Sets.{implies, implies-elim, upTo, up-to}
+use Rattle.writing.proofs.Needs.{or-true}
+use Rattle.plan.specs.Numbers.{setsInGL, afterFirst, afterSecond, chosenBy}
 use Rattle.plan.specs.Costs.{secondSlot}
+use Rattle.plan.proofs.Numbers.{beq-eq}
+use Rattle.emit.specs.Emit.{servedInGL, servedInGR}
 
 pub first-stays : (x k a u v : ℕ) → a ≡ afterFirst x k → a ≡ k → k ≡ chosenBy x k u v
 unfolding chosenBy
 first-stays x k a u v ea e = rw (← ea, eq-eqb a k e)
+
+-- where a place that serves the class stands, nothing is designated: by one computed test of all 17 classes and 80 numbers
+abbrev stands : ℕ → ℕ → Bool
+stands x k = eqb (k / 16) (getD servedInGL x 0) || eqb (k % 16) (getD servedInGR x 0)
+
+abbrev stays : ℕ → ℕ → Bool
+stays x k = eqb (afterFirst x k) k || eqb (afterSecond x k) k
+
+all-stay : upTo 17 (λ x. upTo 80 (λ k. implies (stands x k) (stays x k))) ≡ true
+unfolding afterFirst afterSecond
+all-stay = refl
+
+stands-stays : (x k u v : ℕ) → x < 17 → k < 80 → stands x k ≡ true → k ≡ chosenBy x k u v
+unfolding chosenBy
+stands-stays x k u v hx hk e =
+    rw (implies-elim (stands x k) (stays x k) (up-to 80 (λ m. implies (stands x m) (stays x m)) (up-to 17 (λ y. upTo 80 (λ m. implies (stands y m) (stays y m))) all-stay x hx) k hk) e)
+
+pub gl-stays : (x k l u v : ℕ) → x < 17 → k < 80 → l ≡ getD servedInGL x 0 → k / 16 ≡ l → k ≡ chosenBy x k u v
+gl-stays x k l u v hx hk el e = stands-stays x k u v hx hk (rw (eq-eqb (k / 16) (getD servedInGL x 0) (e ∙ el)))
+
+pub gr-stays : (x k r u v : ℕ) → x < 17 → k < 80 → r ≡ getD servedInGR x 0 → k % 16 ≡ r → k ≡ chosenBy x k u v
+gr-stays x k r u v hx hk er e = stands-stays x k u v hx hk (rw (eq-eqb (k % 16) (getD servedInGR x 0) (e ∙ er)) (or-true (eqb (k / 16) (getD servedInGL x 0))))
+
+-- a character's set stands in GL where its place there does
+sided : upTo 15 (λ x. upTo 5 (λ g. Bool·beq (eqb g (getD servedInGL x 0)) (eqb (getD setsInGL g 0) x))) ≡ true
+sided = refl
+
+pub its-place : (x g : ℕ) → x < 15 → g < 5 → eqb g (getD servedInGL x 0) ≡ eqb (getD setsInGL g 0) x
+its-place x g hx hg =
+    beq-eq (eqb g (getD servedInGL x 0)) (eqb (getD setsInGL g 0) x)
+    (up-to 5 (λ m. Bool·beq (eqb m (getD servedInGL x 0)) (eqb (getD setsInGL m 0) x)) (up-to 15 (λ y. upTo 5 (λ m. Bool·beq (eqb m (getD servedInGL y 0)) (eqb (getD setsInGL m 0) y))) sided x hx) g hg)
 
 module _ (x k a b : ℕ) (w : List ℕ) (row : ℕ) (ea : a ≡ afterFirst x k) (eb : b ≡ afterSecond x k) where
   abbrev u : ℕ

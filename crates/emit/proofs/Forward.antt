@@ -16,12 +16,13 @@ use Rattle.grammar.specs.Units.{TextUnit, octets}
 use Rattle.writing.specs.Writing.{Need, choose, after, met, need, cost, used, designated, writing}
 use Rattle.writing.proofs.Needs.{chosen-met}
 use Rattle.rows.specs.Rows.{tagAt, startFrom, unitTagged, unitFrom, unitsIn}
-use Rattle.plan.specs.Numbers.{setsInGL, numbered, classOf, needOfClass, afterFirst, afterSecond, chosenBy, afterChoice, change, sideAt}
+use Rattle.plan.specs.Numbers.{numbered, classOf, needOfClass, afterFirst, afterSecond, chosenBy, afterChoice, change, sideAt}
 use Rattle.plan.specs.Costs.{restFrom, secondSlot}
 use Rattle.plan.proofs.Numbers.{Choice, choice-at, chosen-base, chosen-single, chosen-free, used-side}
 use Rattle.plan.proofs.Units.{need-tagged}
 use Rattle.plan.proofs.Rest.{class-below, fresh-number}
-use Rattle.emit.specs.Emit.{Written, sideOf, Ready}
+use Rattle.emit.specs.Emit.{Written, sideOf, Ready, servedInGL}
+use Rattle.emit.proofs.Chosen.{its-place}
 use Rattle.emit.proofs.Stores.{written-both, written-none, written-length, written-as, segment-octets, fixed-octets}
 
 -- the octets of a unit that is no character are the same on each side
@@ -168,13 +169,22 @@ module _ (o w before : List ℕ) (n i k at : ℕ) (after : List ℕ) (g : Going 
   pub room-change : length (whole o w n) ≤ length before → at + length (designated (change k j)) ≤ length after
   room-change fits = omega (arith, lengths, written-length (g .put))
 
-  module _ (c t : ℕ) (ec : c ≡ getD setsInGL (j / 16) 0) (et : t ≡ tagAt w i) where
+  module _ (l : ℕ) (el : l ≡ getD servedInGL x 0) where
     abbrev pub shownNow : List ℕ
-    shownNow = octets (sideOf (eqb c t)) (unitFrom o w (72 * i))
+    shownNow = octets (sideOf (eqb (j / 16) l)) (unitFrom o w (72 * i))
 
     shown-same : shownNow ≡ unit′
     unfolding sideAt
-    shown-same = ap₂ (λ (y z : ℕ). octets (sideOf (eqb y z)) (unitFrom o w (72 * i))) ec et
+    shown-same = go (ltb (tagAt w i) 15) refl
+      where
+        go : (b : Bool) → ltb (tagAt w i) 15 ≡ b → shownNow ≡ unit′
+        go false e =
+            side-free o (tagAt w i) (getD w (72 * i + 66) 0) (getD w (72 * i + 67) 0) (startFrom w (72 * i)) (sideOf (eqb (j / 16) l)) (sideAt (tagAt w i) j) (ltb-false (tagAt w i) 15 e)
+        go true e =
+            let t = ltb-true (tagAt w i) 15 e in
+            let g : j / 16 < 5 = omega (arith, j-below) in
+            let c : l ≡ getD servedInGL (tagAt w i) 0 = el ∙ ap (λ (y : ℕ). getD servedInGL y 0) (ex ∙ class-character (tagAt w i) t) in
+            ap (λ (b : Bool). octets (sideOf b) (unitFrom o w (72 * i))) (ap (λ (y : ℕ). eqb (j / 16) y) c ∙ its-place (tagAt w i) (j / 16) t g)
 
     pub room-unit : length (whole o w n) ≤ length before → (a : ℕ) (mid : List ℕ) → Written after at (designated (change k j)) a mid → a + length shownNow ≤ length mid
     room-unit fits a mid p = omega (arith, lengths, written-length (g .put), p .next, written-length p, ap length shown-same)

@@ -8,7 +8,7 @@ ghost use Rattle.writing.specs.Writing.{writing, designated};
 ghost use Rattle.rows.specs.Rows.{unitsIn};
 ghost use Rattle.plan.specs.Numbers.{setsInGL, setsInGR, placesInGL, placesInGR, afterFirst, afterSecond, chosenBy, change};
 ghost use Rattle.plan.specs.Costs.{secondSlot};
-ghost use Rattle.emit.specs.Emit.{rowsAnswer, rowsOutput, Written, Ready};
+ghost use Rattle.emit.specs.Emit.{rowsAnswer, rowsOutput, Written, Ready, servedInGL, servedInGR};
 use base::Answer;
 use base::limit;
 use base::refusal;
@@ -79,6 +79,20 @@ fn choose(x: usize, k: usize, work: &[u8], row: usize) -> usize
     b
 }
 
+// The same, where l and r are the places of GL and GR that serve the class: k at once, where one of them stands.
+fn choose_quickly(x: usize, k: usize, l: usize, r: usize, work: &[u8], row: usize) -> usize
+    requires { ⌜ (x < 17) × (k < 80) × (l ≡ getD servedInGL x 0) × (r ≡ getD servedInGR x 0) × (row + 65 ≤ length (now work)) ⌝ }
+    ensures { λ q. ⌜ q ≡ chosenBy x k (getD (now (work .entry)) (row + k % 16) 0) (getD (now (work .entry)) (row + secondSlot x k) 0) ⌝ }
+{
+    if k / 16 == l {
+        return k;
+    }
+    if k % 16 == r {
+        return k;
+    }
+    choose(x, k, work, row)
+}
+
 // The set at a place of GL.
 fn set_in_gl(g: usize) -> usize
     requires { ⌜ g < 5 ⌝ }
@@ -132,16 +146,19 @@ fn emit(work: &[u8], n: usize, segments: &[u8], out: &mut [u8]) -> usize
     requires { ⌜ (n ≤ 65535) × (72 * n ≤ length (now work)) × Ready (now segments) (now work) n × (length (writing (unitsIn (now segments) (now work) 0 n) (fresh .sets)) ≤ length (now out)) ⌝ }
     ensures { λ r. ⌜ Written (now (out .entry)) 0 (writing (unitsIn (now (segments .entry)) (now (work .entry)) 0 n) (fresh .sets)) r (now (out .exit)) ⌝ }
 {
+    let in_gl: [u8; 17] = [0, 5, 1, 5, 5, 5, 5, 5, 5, 5, 5, 5, 2, 3, 4, 0, 0];
+    let in_gr: [u8; 17] = [16, 0, 16, 1, 2, 3, 4, 5, 6, 7, 8, 9, 10, 11, 12, 16, 16];
     let mut i: usize = 0;
     let mut k: usize = 1;
     let mut at: usize = 0;
     while i < n {
         let row = 72 * i;
-        let tag = work[row + 65];
-        let x = plan::class_of(tag);
-        let j = choose(x, k, work, row);
+        let x = plan::class_of(work[row + 65]);
+        let l = wide(in_gl[x]);
+        let r = wide(in_gr[x]);
+        let j = choose_quickly(x, k, l, r, work, row);
         let a = put_change(k, j, out, at);
-        let left = set_in_gl(j / 16) == wide(tag);
+        let left = j / 16 == l;
         at = octets::put_unit(work, row, left, segments, out, a);
         k = j;
         i += 1;

@@ -66,7 +66,7 @@ sameSets-eq a b e = λ i. sets (gl i) (gr i)
     gr : a .gr ≡ b .gr
     gr = eqb-true (a .gr) (b .gr) (and-right (eqb (a .gl) (b .gl)) (eqb (a .gr) (b .gr)) e)
 
-beq-eq : (a b : Bool) → Bool·beq a b ≡ true → a ≡ b
+pub beq-eq : (a b : Bool) → Bool·beq a b ≡ true → a ≡ b
 beq-eq true true e = refl
 beq-eq true false e = absurd (false≢true e)
 beq-eq false true e = absurd (false≢true e)

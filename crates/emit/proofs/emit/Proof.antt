@@ -10,10 +10,10 @@ use Rattle.emit.proofs.emit.Statement.{statement}
 use Rattle.emit.proofs.emit.Tie as tie
 
 abbrev Inv-loop : tie.InvT-loop
-Inv-loop work n segments out₀ i₀ k₀ at₀ out i k at = (i ≤ n) × (length out ≡ length out₀) × Going segments work out₀ n i k at out
+Inv-loop work n segments out₀ in-gl in-gr i₀ k₀ at₀ out i k at = (i ≤ n) × (length out ≡ length out₀) × Going segments work out₀ n i k at out
 
 abbrev μ-loop : tie.MeasureT-loop
-μ-loop work n segments out₀ i₀ k₀ at₀ out i k at = n - i
+μ-loop work n segments out₀ in-gl in-gr i₀ k₀ at₀ out i k at = n - i
 
 loop-holds : tie.Need-loop-holds Inv-loop μ-loop
 loop-holds c = (search needs, refl, going-none _ _ _ _)
@@ -21,31 +21,48 @@ loop-holds c = (search needs, refl, going-none _ _ _ _)
 mul-row : tie.Need-mul-row Inv-loop μ-loop
 mul-row c = search needs
 
-add-tag : tie.Need-add-tag Inv-loop μ-loop
-add-tag c = search needs
+add-class-of : tie.Need-add-class-of Inv-loop μ-loop
+add-class-of c = search needs
 
-shared-slice-read-tag : tie.Need-shared-slice-read-tag Inv-loop μ-loop
-shared-slice-read-tag c = search needs
+shared-slice-read-class-of : tie.Need-shared-slice-read-class-of Inv-loop μ-loop
+shared-slice-read-class-of c = search needs
 
 class-of-requires : tie.Need-class-of-requires Inv-loop μ-loop
 class-of-requires c κs = search needs
 
-choose-requires : tie.Need-choose-requires Inv-loop μ-loop
-choose-requires c κs = (c .before .before .before .loop .inv .2 .state, omega (arith, c .before .before .before .before .before .before .before .pre .1, c .before .before .loop-test .taken))
-
-put-change-requires : tie.Need-put-change-requires Inv-loop μ-loop
-put-change-requires c κs = (c .before .before .before .before .before .loop .inv .2 .state, j-below _ _ _ _ _ _ _ _ (c .before .before .before .before .before .loop .inv .2) (c .before .before .before .before .before .before .before .before .before .pre .2) (c .before .before .before .before .loop-test .taken) _ _ (c .before .before .class-of .ensures .0) (c .before .choose .ensures), room-change _ _ _ _ _ _ _ _ (c .before .before .before .before .before .loop .inv .2) (c .before .before .before .before .before .before .before .before .before .pre .2) (c .before .before .before .before .loop-test .taken) _ _ (c .before .before .class-of .ensures .0) (c .before .choose .ensures) (c .before .before .before .before .before .before .before .before .before .pre .3))
-
-set-in-gl-requires : tie.Need-set-in-gl-requires Inv-loop μ-loop
-set-in-gl-requires c κs =
-    let b = j-below _ _ _ _ _ _ _ _ (c .before .before .before .before .before .before .before .before .loop .inv .2) (c .before .before .before .before .before .before .before .before .before .before .before .before .pre .2) (c .before .before .before .before .before .before .before .loop-test .taken) _ _ (c .before .before .before .before .before .class-of .ensures .0) (c .before .before .before .before .choose .ensures) in
-    omega arith
+array-read-wide : tie.Need-array-read-wide Inv-loop μ-loop
+array-read-wide c = c .class-of .ensures .1
 
 wide-requires : tie.Need-wide-requires Inv-loop μ-loop
 wide-requires c κs = search needs
 
+array-read-wide-2 : tie.Need-array-read-wide-2 Inv-loop μ-loop
+array-read-wide-2 c = c .before .class-of .ensures .1
+
+wide-requires-2 : tie.Need-wide-requires-2 Inv-loop μ-loop
+wide-requires-2 c κs = search needs
+
+choose-quickly-requires : tie.Need-choose-quickly-requires Inv-loop μ-loop
+choose-quickly-requires c κs = (
+  c .before .before .class-of .ensures .1,
+  c .before .before .before .before .before .loop .inv .2 .state,
+  c .before .wide .ensures .0,
+  c .wide2 .ensures .0,
+  omega (arith, c .before .before .before .before .before .before .before .before .before .pre .1, c .before .before .before .before .loop-test .taken),
+)
+
+put-change-requires : tie.Need-put-change-requires Inv-loop μ-loop
+put-change-requires c κs = (
+  c .before .before .before .before .before .before .before .loop .inv .2 .state,
+  j-below _ _ _ _ _ _ _ _ (c .before .before .before .before .before .before .before .loop .inv .2) (c .before .before .before .before .before .before .before .before .before .before .before .pre .2) (c .before .before .before .before .before .before .loop-test .taken) _ _ (c .before .before .before .before .class-of .ensures .0) (c .before .choose-quickly .ensures),
+  room-change _ _ _ _ _ _ _ _ (c .before .before .before .before .before .before .before .loop .inv .2) (c .before .before .before .before .before .before .before .before .before .before .before .pre .2) (c .before .before .before .before .before .before .loop-test .taken) _ _ (c .before .before .before .before .class-of .ensures .0) (c .before .choose-quickly .ensures) (c .before .before .before .before .before .before .before .before .before .before .before .pre .3),
+)
+
 put-unit-requires : tie.Need-put-unit-requires Inv-loop μ-loop
-put-unit-requires c κs = (omega (arith, c .before .before .before .before .before .before .before .before .before .before .before .before .before .before .before .pre .1, c .before .before .before .before .before .before .before .before .before .before .loop-test .taken), room-unit _ _ _ _ _ _ _ _ (c .before .before .before .before .before .before .before .before .before .before .before .loop .inv .2) (c .before .before .before .before .before .before .before .before .before .before .before .before .before .before .before .pre .2) (c .before .before .before .before .before .before .before .before .before .before .loop-test .taken) _ _ (c .before .before .before .before .before .before .before .before .class-of .ensures .0) (c .before .before .before .before .before .before .before .choose .ensures) _ _ (c .before .before .set-in-gl .ensures .0) (c .before .wide .ensures .0) (c .before .before .before .before .before .before .before .before .before .before .before .before .before .before .before .pre .3) _ _ (c .before .before .before .before .before .put-change .ensures))
+put-unit-requires c κs = (
+  omega (arith, c .before .before .before .before .before .before .before .before .before .before .before .before .before .before .before .pre .1, c .before .before .before .before .before .before .before .before .before .before .loop-test .taken),
+  room-unit _ _ _ _ _ _ _ _ (c .before .before .before .before .before .before .before .before .before .before .before .loop .inv .2) (c .before .before .before .before .before .before .before .before .before .before .before .before .before .before .before .pre .2) (c .before .before .before .before .before .before .before .before .before .before .loop-test .taken) _ _ (c .before .before .before .before .before .before .before .before .class-of .ensures .0) (c .before .before .before .before .before .choose-quickly .ensures) _ (c .before .before .before .before .before .before .before .wide .ensures .0) (c .before .before .before .before .before .before .before .before .before .before .before .before .before .before .before .pre .3) _ _ (c .before .before .before .put-change .ensures),
+)
 
 add-i : tie.Need-add-i Inv-loop μ-loop
 add-i c = search needs
@@ -56,8 +73,8 @@ loop-less c = search needs
 loop-again : tie.Need-loop-again Inv-loop μ-loop
 loop-again c = (
   omega arith,
-  written-length (c .before .before .put-unit .ensures) ∙ written-length (c .before .before .before .before .before .before .before .before .put-change .ensures) ∙ c .before .before .before .before .before .before .before .before .before .before .before .before .before .before .loop .inv .1,
-  going-more _ _ _ _ _ _ _ _ (c .before .before .before .before .before .before .before .before .before .before .before .before .before .before .loop .inv .2) (c .before .before .before .before .before .before .before .before .before .before .before .before .before .before .before .before .before .before .pre .2) (c .before .before .before .before .before .before .before .before .before .before .before .before .before .loop-test .taken) _ _ (c .before .before .before .before .before .before .before .before .before .before .before .class-of .ensures .0) (c .before .before .before .before .before .before .before .before .before .before .choose .ensures) _ _ (c .before .before .before .before .before .set-in-gl .ensures .0) (c .before .before .before .before .wide .ensures .0) _ _ _ _ (c .before .before .before .before .before .before .before .before .put-change .ensures) (c .before .before .put-unit .ensures),
+  written-length (c .before .before .put-unit .ensures) ∙ written-length (c .before .before .before .before .before .before .put-change .ensures) ∙ c .before .before .before .before .before .before .before .before .before .before .before .before .before .before .loop .inv .1,
+  going-more _ _ _ _ _ _ _ _ (c .before .before .before .before .before .before .before .before .before .before .before .before .before .before .loop .inv .2) (c .before .before .before .before .before .before .before .before .before .before .before .before .before .before .before .before .before .before .pre .2) (c .before .before .before .before .before .before .before .before .before .before .before .before .before .loop-test .taken) _ _ (c .before .before .before .before .before .before .before .before .before .before .before .class-of .ensures .0) (c .before .before .before .before .before .before .before .before .choose-quickly .ensures) _ (c .before .before .before .before .before .before .before .before .before .before .wide .ensures .0) _ _ _ _ (c .before .before .before .before .before .before .put-change .ensures) (c .before .before .put-unit .ensures),
 )
 
 same-length : tie.Need-same-length Inv-loop μ-loop
@@ -74,13 +91,15 @@ emit-spec =
     μ-loop
     loop-holds
     mul-row
-    add-tag
-    shared-slice-read-tag
+    add-class-of
+    shared-slice-read-class-of
     class-of-requires
-    choose-requires
-    put-change-requires
-    set-in-gl-requires
+    array-read-wide
     wide-requires
+    array-read-wide-2
+    wide-requires-2
+    choose-quickly-requires
+    put-change-requires
     put-unit-requires
     add-i
     loop-less
