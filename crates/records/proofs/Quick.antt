@@ -1,6 +1,6 @@
 -- The quick check is right: a record that it lets through, where the directions are settled, is refused for nothing and changes no
 -- direction. A space by its kind; a character since the bounds of its set's octets are those of the codes that the set uses.
-use Prim.Native.Nat.{ℕ, _/_, _%_, _≤_, _<_}
+use Prim.Native.Nat.{ℕ, _+_, _-_, _*_, _/_, _%_, _≤_, _<_}
 use native.Mathlib.Omega.{arith}
 use mathlib.Core.Path.{_≡_, refl, sym, ap, _∙_}
 use mathlib.Core.Bool.{Bool, true, false, false≢true}
@@ -19,7 +19,7 @@ use Rattle.state.specs.declared.directions.Step.the-variants.{Goes}
 use Rattle.grammar.specs.Units.{codeUsed}
 use Rattle.grammar.specs.Records.{unitRead}
 use Rattle.writing.specs.Records.{fault}
-use Rattle.records.specs.Plain.{leastLow, mostLow, leastHigh, mostHigh, usedBy, setBy, codeBy, plainOf, settledOf}
+use Rattle.records.specs.Plain.{marginOf, leastHigh, spanHigh, usedBy, setBy, codeBy, plainOf, settledOf}
 use Rattle.records.proofs.Refusals.{kind-character, kind-plain, code-fits}
 
 -- ---- a code
@@ -35,41 +35,50 @@ unfolding graphicOf pick
 graphic m a b = rw (le-ltb m 0x21 a, le-leb m 0x7E b)
 
 record Within (c k : ℕ) : Type 0 where
+  whole : k < 0x10000
   set : c < no-set
-  low-least : leastLow c ≤ k % 256
-  low-most : k % 256 ≤ mostLow c
-  high-least : leastHigh c ≤ k / 256
-  high-most : k / 256 ≤ mostHigh c
+  low : (k % 256 + 224 - marginOf c) % 256 ≤ 95 - 2 * marginOf c
+  high : (k / 256 + 256 - leastHigh c) % 256 ≤ spanHigh c
 
 within : (c k : ℕ) → usedBy c k ≡ true → Within c k
 unfolding usedBy
 within c k e =
-    let a = passed (leb no-set c) _ e in
-    let b = passed (ltb (k % 256) (leastLow c)) _ (a .1) in
-    let d = passed (ltb (mostLow c) (k % 256)) _ (b .1) in
-    let f = passed (ltb (k / 256) (leastHigh c)) _ (d .1) in
+    let a = passed (leb 0x10000 k) _ e in
+    let b = passed (leb no-set c) _ (a .1) in
+    let d = passed (ltb (95 - 2 * marginOf c) ((k % 256 + 224 - marginOf c) % 256)) _ (b .1) in
     record {
-      set = leb-false no-set c (a .0);
-      low-least = ltb-false (k % 256) (leastLow c) (b .0);
-      low-most = ltb-false (mostLow c) (k % 256) (d .0);
-      high-least = ltb-false (k / 256) (leastHigh c) (f .0);
-      high-most = leb-true (k / 256) (mostHigh c) (f .1);
+      whole = leb-false 0x10000 k (a .0);
+      set = leb-false no-set c (b .0);
+      low = ltb-false (95 - 2 * marginOf c) ((k % 256 + 224 - marginOf c) % 256) (d .0);
+      high = leb-true ((k / 256 + 256 - leastHigh c) % 256) (spanHigh c) (d .1);
     }
 
 -- by the form of the set
 code-used : (c k : ℕ) → Within c k → codeUsed (formOf c) k ≡ true
-unfolding formRule leastLow mostLow leastHigh mostHigh codeUsed pick
+unfolding formRule marginOf leastHigh spanHigh codeUsed pick
 code-used c k w = rw (← form-rule c) (go (ltb c 3) refl (ltb c 12) refl)
   where
     go : (s : Bool) → ltb c 3 ≡ s → (t : Bool) → ltb c 12 ≡ t → codeUsed (formRule c) k ≡ true
     go true p t q =
         let l = ltb-true c 3 p in
         let m = lt-ltb c 12 (omega arith) in
-        rw p (graphic k (omega (arith, rw p at (w .low-least), rw m at (w .high-most))) (omega (arith, rw p at (w .low-most), rw m at (w .high-most))))
+        let a = rw p at (w .low) in
+        let b = rw m at (w .high) in
+        rw p (graphic k (omega (arith, w .whole, a, b)) (omega (arith, w .whole, a, b)))
     go false p true q =
-        rw (p, q, le-leb 0x20 k (omega (arith, rw (p, q) at (w .low-least), rw q at (w .high-most))), le-leb k 0x7F (omega (arith, rw (p, q) at (w .low-most), rw q at (w .high-most))))
+        let a = rw (p, q) at (w .low) in
+        let b = rw q at (w .high) in
+        rw (p, q, le-leb 0x20 k (omega (arith, w .whole, a, b)), le-leb k 0x7F (omega (arith, w .whole, a, b)))
     go false p false q =
-        rw (p, q, lt-ltb c 15 (w .set), graphic (k / 256) (rw q at (w .high-least)) (rw q at (w .high-most)), graphic (k % 256) (rw (p, q) at (w .low-least)) (rw (p, q) at (w .low-most)))
+        let a = rw (p, q) at (w .low) in
+        let b = rw q at (w .high) in
+        rw (
+          p,
+          q,
+          lt-ltb c 15 (w .set),
+          graphic (k / 256) (omega (arith, w .whole, b)) (omega (arith, w .whole, b)),
+          graphic (k % 256) (omega (arith, a)) (omega (arith, a)),
+        )
 
 -- ---- the directions
 

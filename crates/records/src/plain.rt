@@ -1,40 +1,28 @@
 // A quick check of characters and spaces. Bounds are chosen by the set and not one of two tests: the processor foresees no test whose
 // outcome changes from word to word.
 ghost use mathlib.Core.Path.{_≡_};
-ghost use Rattle.records.specs.Plain.{leastLow, mostLow, leastHigh, mostHigh, usedBy, setBy, codeBy, plainOf};
+ghost use Prim.Native.Nat.{_≤_};
+ghost use Rattle.records.specs.Plain.{marginOf, leastHigh, spanHigh, usedBy, setBy, codeBy, plainOf};
 use base::Unit;
 use base::kind;
 use charset::NO_SET;
 
-// The lowest that the last octet of a code of a set may be.
-fn least_low(set: u8) -> u16
-    ensures { λ r. ⌜ r ≡ leastLow set ⌝ }
+// How far from 20 and 7F the last octet of a code of a set has to stay: a set of 96 uses both.
+fn margin(set: u8) -> u16
+    ensures { λ r. ⌜ (r ≡ marginOf set) × (r ≤ 1) ⌝ }
 {
     if set < 3 {
-        return 0x21;
+        return 1;
     }
     if set < 12 {
-        return 0x20;
+        return 0;
     }
-    0x21
-}
-
-// The highest that it may be.
-fn most_low(set: u8) -> u16
-    ensures { λ r. ⌜ r ≡ mostLow set ⌝ }
-{
-    if set < 3 {
-        return 0x7E;
-    }
-    if set < 12 {
-        return 0x7F;
-    }
-    0x7E
+    1
 }
 
 // The lowest that the octet before it may be, 0 where a code has one octet.
 fn least_high(set: u8) -> u16
-    ensures { λ r. ⌜ r ≡ leastHigh set ⌝ }
+    ensures { λ r. ⌜ (r ≡ leastHigh set) × (r ≤ 0x21) ⌝ }
 {
     if set < 12 {
         return 0;
@@ -42,35 +30,31 @@ fn least_high(set: u8) -> u16
     0x21
 }
 
-// The highest that it may be.
-fn most_high(set: u8) -> u16
-    ensures { λ r. ⌜ r ≡ mostHigh set ⌝ }
+// How many it may be above the lowest.
+fn span_high(set: u8) -> u16
+    ensures { λ r. ⌜ r ≡ spanHigh set ⌝ }
 {
     if set < 12 {
         return 0;
     }
-    0x7E
+    0x5D
 }
 
-// Whether both octets of a code lie in the bounds of its set.
+// Whether both octets of a code lie in the bounds of its set. Each is measured from the lowest that it may be, round the 256, so that one
+// comparison tells both bounds.
 fn used(set: u8, code: u16) -> bool
     ensures { λ r. ⌜ r ≡ usedBy set code ⌝ }
 {
     if NO_SET <= set {
         return false;
     }
-    let high = code / 256;
-    let low = code % 256;
-    if low < least_low(set) {
+    let m = margin(set);
+    let low = (code % 256 + 224 - m) % 256;
+    let high = (code / 256 + 256 - least_high(set)) % 256;
+    if 95 - 2 * m < low {
         return false;
     }
-    if most_low(set) < low {
-        return false;
-    }
-    if high < least_high(set) {
-        return false;
-    }
-    high <= most_high(set)
+    high <= span_high(set)
 }
 
 // A space is looked at as the first character of set 0.
