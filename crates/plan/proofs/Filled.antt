@@ -92,14 +92,14 @@ column-end {f} {r} {k} {before} {after} s l h = subst (λ (i : ℕ). ColumnFille
 pub columns-none : (f : ℕ → ℕ → ℕ) (table : List ℕ) → length table ≡ 80 → Columns f 0 table
 columns-none f table l = record { there = λ g r h k. absurd (omega arith); long = l }
 
-pub columns-more : (f : ℕ → ℕ → ℕ) (m : ℕ) (before after : List ℕ) → m < 16 → Columns f m before → ColumnFilled (λ g. f g m) m 5 before after
-    → Columns f (m + 1) after
-columns-more f m before after h s e =
+pub columns-more : (f : ℕ → ℕ → ℕ) (h : ℕ → ℕ) (m : ℕ) (before after : List ℕ) → m < 16 → ((g : ℕ) → h g ≡ f g m) → Columns f m before
+    → ColumnFilled h m 5 before after → Columns f (m + 1) after
+columns-more f h m before after hm eh s e =
     record {
       there = λ g r hg hr.
           ⊎-elim
           (λ q. e .kept g r (omega arith) (λ z. omega arith) ∙ s .there g r hg q)
-          (λ q. rw q (e .there g hg))
+          (λ q. rw q (e .there g hg ∙ eh g))
           (below-cases r m hr);
       long = e .long ∙ s .long;
     }

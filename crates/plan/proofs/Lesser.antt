@@ -7,11 +7,11 @@ use mathlib.Core.Logic.{_⊎_, inl, inr}
 use Prim.Native.Nat.{ℕ, _+_, _-_, _*_, _≤_, _<_, min}
 use native.Mathlib.Omega.{arith}
 use lib.ListN.{length, getD}
-use lib.Dec.{leb, eqb}
-use borrow.Author.Tests.{eqb-true, eqb-false, eq-eqb, ne-eqb, leb-true, leb-false}
+use lib.Dec.{leb, ltb, eqb}
+use borrow.Author.Tests.{eqb-true, eqb-false, eq-eqb, ne-eqb, leb-true, leb-false, ltb-true, ltb-false}
 use Rattle.writing.proofs.Sets.{upTo, up-to}
 use Rattle.plan.specs.Numbers.{withGL, withGR, priceOfClass, placesInGL, placesInGR, afterFirst, afterSecond, chosenBy, surcharge}
-use Rattle.plan.specs.Costs.{leastBy, SumsFit, Charges, Column, surcharges, Smooth, InGL, InGR, OnBoth}
+use Rattle.plan.specs.Costs.{leastBy, Filled, Columns, SumsFit, Charges, Column, surcharges, Smooth, InGL, InGR, OnBoth}
 use Rattle.plan.proofs.Numbers.{bounded, first-gl, first-gr, second-gl, second-gr, first-space, second-space, price-gl, price-both, price-gr}
 
 -- ---- the least cost where the sets stay, and where one is designated
@@ -117,14 +117,7 @@ module _ (x : ℕ) (next : List ℕ) (g q : ℕ) (hg : g < 5) (hq : q < 16) (sm 
         way j (16 * g + r) (getD (surcharges p) (15 - r + q) 0) p (z ∙ e) c (λ y. surcharge-here p t r q hr hq (omega arith)) (λ n. surcharge-there p t r q hr hq (λ y. n (omega arith))),
       )
 
-  -- a unit that GL alone serves; a character of a set of both sides, of GR alone
-  pub lesser-gl : (l m : ℕ) (ps qs : List ℕ) → InGL x l m → Charges 3 l ps → Charges 3 m qs
-      → min (getD next (16 * l + q) 0 + getD ps g 0) (getD next (16 * m + q) 0 + getD qs g 0) ≡ leastBy x next (16 * g + q)
-  lesser-gl l m ps qs s a b =
-      by-ways (getD next (16 * l + q) 0 + getD ps g 0) (getD next (16 * m + q) 0 + getD qs g 0)
-      (gl-way l (afterFirst x (16 * g + q)) 3 ps (s .first (16 * g + q)) (s .dear) a)
-      (gl-way m (afterSecond x (16 * g + q)) 3 qs (s .second (16 * g + q)) (s .dear) b)
-
+  -- a character of a set of both sides, of GR alone
   pub lesser-both : (l r : ℕ) (ps vs table : List ℕ) → OnBoth x l r → table ≡ surcharges 4 → Charges 4 l ps → Column next r vs
       → min (getD next (16 * l + q) 0 + getD ps g 0) (getD table (15 - r + q) 0 + getD vs g 0) ≡ leastBy x next (16 * g + q)
   lesser-both l r ps vs table (hx, el, er, hl, hr) et ch col =
@@ -142,6 +135,58 @@ module _ (x : ℕ) (next : List ℕ) (g q : ℕ) (hg : g < 5) (hq : q < 16) (sm 
       (gr-way r (afterSecond x (16 * g + q)) 3 table vs refl (second-gr x (getD placesInGL x 0) r (16 * g + q) refl er hx hr) p hr et col)
 
 -- ---- the classes that GL alone serves
+
+-- a place of another row
+apart : (g n q : ℕ) → q < 16 → (g ≡ n → ⊥) → (16 * g + q < 16 * n) ⊎ (16 * n + 16 ≤ 16 * g + q)
+apart g n q hq h = go (ltb g n) refl
+  where
+    go : (b : Bool) → ltb g n ≡ b → (16 * g + q < 16 * n) ⊎ (16 * n + 16 ≤ 16 * g + q)
+    go true e = inl (let l = ltb-true g n e in omega arith)
+    go false e = inr (let l = ltb-false g n e in omega arith)
+
+-- the rows of the two places stay, and from any other row the cheaper place is designated
+module _ (x l m : ℕ) (next : List ℕ) (s : InGL x l m) where
+  stays-first : (g q : ℕ) → q < 16 → g ≡ l → getD next (16 * g + q) 0 ≡ leastBy x next (16 * g + q)
+  stays-first g q hq e =
+      let z : withGL l (16 * g + q) ≡ 16 * g + q = omega arith in
+      sym (least-stays x (16 * g + q) next (inl (sym (s .first (16 * g + q)) ∙ z)))
+
+  stays-second : (g q : ℕ) → q < 16 → g ≡ m → getD next (16 * g + q) 0 ≡ leastBy x next (16 * g + q)
+  stays-second g q hq e =
+      let z : withGL m (16 * g + q) ≡ 16 * g + q = omega arith in
+      sym (least-stays x (16 * g + q) next (inr (sym (s .second (16 * g + q)) ∙ z)))
+
+  goes : (g q p : ℕ) → q < 16 → p ≡ 3 → (g ≡ l → ⊥) → (g ≡ m → ⊥)
+      → min (getD next (16 * l + q) 0) (getD next (16 * m + q) 0) + p ≡ leastBy x next (16 * g + q)
+  goes g q p hq ep nl nm =
+      let k = 16 * g + q in
+      let zl : 16 * l + q ≡ withGL l k = omega arith in
+      let zm : 16 * m + q ≡ withGL m k = omega arith in
+      let el = zl ∙ s .first k in
+      let em = zm ∙ s .second k in
+      let at-l = ap (λ (j : ℕ). getD next j 0) el in
+      let at-m = ap (λ (j : ℕ). getD next j 0) em in
+      omega (arith, least-goes x k next (λ y. nl (omega (arith, el, y))) (λ y. nm (omega (arith, em, y))), s .dear, at-l, at-m)
+
+  pub gl-least : (p : ℕ) (a b c : List ℕ) → p ≡ 3 → Columns (λ g r. min (getD next (16 * l + r) 0) (getD next (16 * m + r) 0) + p) 16 a
+      → Filled (λ r. getD next (16 * l + r) 0) (16 * l) 16 a b → Filled (λ r. getD next (16 * m + r) 0) (16 * m) 16 b c
+      → Columns (λ g r. leastBy x next (16 * g + r)) 16 c
+  gl-least p a b c ep sa sb sc =
+      record { there = λ g q hg hq. at g q hg hq (eqb g m) refl (eqb g l) refl; long = sc .long ∙ sb .long ∙ sa .long }
+    where
+      at : (g q : ℕ) → g < 5 → q < 16 → (t : Bool) → eqb g m ≡ t → (u : Bool) → eqb g l ≡ u → getD c (16 * g + q) 0 ≡ leastBy x next (16 * g + q)
+      at g q hg hq true e u f =
+          let z = eqb-true g m e in
+          ap (λ (n : ℕ). getD c (16 * n + q) 0) z ∙ sc .there q hq ∙ ap (λ (n : ℕ). getD next (16 * n + q) 0) (sym z) ∙ stays-second g q hq z
+      at g q hg hq false e true f =
+          let n = eqb-false g m e in
+          let z = eqb-true g l f in
+          sc .kept (16 * g + q) (apart g m q hq n)
+          ∙ ap (λ (n : ℕ). getD b (16 * n + q) 0) z ∙ sb .there q hq ∙ ap (λ (n : ℕ). getD next (16 * n + q) 0) (sym z) ∙ stays-first g q hq z
+      at g q hg hq false e false f =
+          let n = eqb-false g m e in
+          let o = eqb-false g l f in
+          sc .kept (16 * g + q) (apart g m q hq n) ∙ sb .kept (16 * g + q) (apart g l q hq o) ∙ sa .there g q hg hq ∙ goes g q p hq ep o n
 
 -- by the tests of a class: that of a space, or a set that has no place in GR
 pub in-gl : (x l m r : ℕ) → x < 16 → l ≡ getD placesInGL x 0 → r ≡ getD placesInGR x 0 → m ≡ cond (eqb x 15) 1 l → (eqb x 15 || leb 13 r) ≡ true → InGL x l m

@@ -75,16 +75,55 @@ fn column(costs: &[u8; 80], r: usize) -> [u8; 5]
     ]
 }
 
-// The least costs of a unit that GL alone serves, at place l or at place m, before what next has.
+// The cost v in the five rows of column r.
+fn spread(v: u8, cur: &mut [u8; 80], r: usize)
+    requires { ⌜ (r < 16) × (length (now cur) ≡ 80) ⌝ }
+    ensures { λ _. ⌜ ColumnFilled (λ g. v) r 5 (now (cur .entry)) (now (cur .exit)) ⌝ }
+{
+    let mut g: usize = 0;
+    while g < 5 {
+        cur[16 * g + r] = v;
+        g += 1;
+    }
+}
+
+// In every row the lesser of the 16 costs from place i and from place j on, with a price.
+fn spread_lesser(next: &[u8; 80], i: usize, j: usize, price: u8, cur: &mut [u8; 80])
+    requires { ⌜ (i ≤ 64) × (j ≤ 64) × (price ≤ 4) × ((k : ℕ) → getD (now next) k 0 ≤ 208) × (length (now next) ≡ 80) × (length (now cur) ≡ 80) ⌝ }
+    ensures { λ _. ⌜ Columns (λ g r. min (getD (now (next .entry)) (i + r) 0) (getD (now (next .entry)) (j + r) 0) + price) 16 (now (cur .exit)) ⌝ }
+{
+    let mut r: usize = 0;
+    while r < 16 {
+        let v = lesser(next[i + r], next[j + r]);
+        spread(v + price, cur, r);
+        r += 1;
+    }
+}
+
+// Row g as next has it.
+fn restore(next: &[u8; 80], g: usize, cur: &mut [u8; 80])
+    requires { ⌜ (g < 5) × (length (now next) ≡ 80) × (length (now cur) ≡ 80) ⌝ }
+    ensures { λ _. ⌜ Filled (λ r. getD (now (next .entry)) (16 * g + r) 0) (16 * g) 16 (now (cur .entry)) (now (cur .exit)) ⌝ }
+{
+    let i = 16 * g;
+    let mut r: usize = 0;
+    while r < 16 {
+        cur[i + r] = next[i + r];
+        r += 1;
+    }
+}
+
+// The least costs of a unit that GL alone serves, at place l or at place m, before what next has: those rows stay, and from the others
+// one of the two is designated.
 fn gl_costs(x: usize, l: usize, m: usize, next: &[u8; 80], three: u8, cur: &mut [u8; 80])
     requires { ⌜ Smooth x (now next) × (length (now next) ≡ 80) × (three ≡ 3) × (length (now cur) ≡ 80) × InGL x l m ⌝ }
     ensures { λ _. ⌜ Columns (λ g r. leastBy x (now (next .entry)) (16 * g + r)) 16 (now (cur .exit)) ⌝ }
 {
     let i = 16 * l;
     let j = 16 * m;
-    let p = charges(three, l);
-    let q = charges(three, m);
-    lesser_costs(next, i, p, next, j, q, cur);
+    spread_lesser(next, i, j, three, cur);
+    restore(next, l, cur);
+    restore(next, m, cur);
 }
 
 // Those of a character whose set has a place on each side. From 15 - r on, the table has nothing at place r and a designation's price at

@@ -2,6 +2,7 @@
 use borrow.Author.Needs.{needs}
 use native.Mathlib.Omega.{arith}
 use Prim.Native.Nat.{_+_, _-_, _≤_, min}
+use mathlib.Core.Path.{refl}
 use lib.ListN.{getD}
 use Rattle.plan.specs.Costs.{Columns}
 use Rattle.plan.proofs.Filled.{columns-none, columns-more, columns-end}
@@ -43,7 +44,7 @@ loop-less : tie.Need-loop-less Inv-loop μ-loop
 loop-less c = search needs
 
 loop-again : tie.Need-loop-again Inv-loop μ-loop
-loop-again c = (omega arith, columns-more _ _ _ _ (search needs) (c .before .before .before .before .before .loop .inv .1) (c .lesser-column .ensures))
+loop-again c = (omega arith, columns-more _ _ _ _ _ (search needs) (λ g. refl) (c .before .before .before .before .before .loop .inv .1) (c .lesser-column .ensures))
 
 returns : tie.Need-returns Inv-loop μ-loop
 returns c = columns-end (c .before .loop .inv .1) (search needs) (search needs)
