@@ -211,8 +211,8 @@ typedef struct ctext_reader {
 } ctext_reader;
 
 /* given 1: unit is the next unit, and reader stands after it; answer is all 0.
-   given 0: there is none, answer says why, and reader stands where it stood;
-   unit is all 0. */
+   given 0: there is none, answer says why, and reader stands where it stood
+   (marked and texted written as 0 or 1); unit is all 0. */
 typedef struct ctext_step {
     ctext_reader reader;
     ctext_answer answer;
@@ -226,10 +226,11 @@ ctext_reader ctext_open(void);
 /* One step over the n octets at s. A reader of ctext_open, taken on over the
    same octets, hands out exactly the units before the end or the offending
    element; the answer is then that of ctext_check, and every further step
-   repeats it. A string over 65,535 octets gives CTEXT_TOO_LONG and no unit. A
-   reader made by hand is read on by the rules from where it stands; one whose
-   place lies past the string, with a set on a side it may not use, or whose
-   depth is over 16, gives CTEXT_BAD_UNIT at 0. Reads s, touches nothing. */
+   repeats it. A string over 65,535 octets gives CTEXT_TOO_LONG and no unit,
+   whatever the reader. A reader made by hand is read on by the rules from where
+   it stands, and its answer's count is its own; one whose place lies past the
+   string, with a set on a side it may not use, or whose depth is over 16, gives
+   CTEXT_BAD_UNIT at 0. Reads s, touches nothing. */
 ctext_step ctext_next(const uint8_t *s, size_t n, ctext_reader reader);
 
 /* ---- Writing ----------------------------------------------------------- */
