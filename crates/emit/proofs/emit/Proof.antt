@@ -52,17 +52,27 @@ choose-quickly-requires c κs = (
 )
 
 put-change-requires : tie.Need-put-change-requires Inv-loop μ-loop
-put-change-requires c κs = (
-  c .before .before .before .before .before .before .before .loop .inv .2 .state,
-  j-below _ _ _ _ _ _ _ _ (c .before .before .before .before .before .before .before .loop .inv .2) (c .before .before .before .before .before .before .before .before .before .before .before .pre .2) (c .before .before .before .before .before .before .loop-test .taken) _ _ (c .before .before .before .before .class-of .ensures .0) (c .before .choose-quickly .ensures),
-  room-change _ _ _ _ _ _ _ _ (c .before .before .before .before .before .before .before .loop .inv .2) (c .before .before .before .before .before .before .before .before .before .before .before .pre .2) (c .before .before .before .before .before .before .loop-test .taken) _ _ (c .before .before .before .before .class-of .ensures .0) (c .before .choose-quickly .ensures) (c .before .before .before .before .before .before .before .before .before .before .before .pre .3),
-)
+put-change-requires c κs =
+    let going = c .before .before .before .before .before .before .before .loop .inv .2 in
+    let pre = c .before .before .before .before .before .before .before .before .before .before .before .pre in
+    let more = c .before .before .before .before .before .before .loop-test .taken in
+    let class = c .before .before .before .before .class-of .ensures .0 in
+    let chosen = c .before .choose-quickly .ensures in (
+      going .state,
+      j-below _ _ _ _ _ _ _ _ going (pre .2) more _ _ class chosen,
+      room-change _ _ _ _ _ _ _ _ going (pre .2) more _ _ class chosen (pre .3),
+    )
 
 put-unit-requires : tie.Need-put-unit-requires Inv-loop μ-loop
-put-unit-requires c κs = (
-  omega (arith, c .before .before .before .before .before .before .before .before .before .before .before .before .before .before .before .pre .1, c .before .before .before .before .before .before .before .before .before .before .loop-test .taken),
-  room-unit _ _ _ _ _ _ _ _ (c .before .before .before .before .before .before .before .before .before .before .before .loop .inv .2) (c .before .before .before .before .before .before .before .before .before .before .before .before .before .before .before .pre .2) (c .before .before .before .before .before .before .before .before .before .before .loop-test .taken) _ _ (c .before .before .before .before .before .before .before .before .class-of .ensures .0) (c .before .before .before .before .before .choose-quickly .ensures) _ (c .before .before .before .before .before .before .before .wide .ensures .0) (c .before .before .before .before .before .before .before .before .before .before .before .before .before .before .before .pre .3) _ _ (c .before .before .before .put-change .ensures),
-)
+put-unit-requires c κs =
+    let going = c .before .before .before .before .before .before .before .before .before .before .before .loop .inv .2 in
+    let pre = c .before .before .before .before .before .before .before .before .before .before .before .before .before .before .before .pre in
+    let more = c .before .before .before .before .before .before .before .before .before .before .loop-test .taken in
+    let class = c .before .before .before .before .before .before .before .before .class-of .ensures .0 in
+    let chosen = c .before .before .before .before .before .choose-quickly .ensures in
+    let place = c .before .before .before .before .before .before .before .wide .ensures .0 in
+    let changed = c .before .before .before .put-change .ensures in
+    (omega (arith, pre .1, more), room-unit _ _ _ _ _ _ _ _ going (pre .2) more _ _ class chosen _ place (pre .3) _ _ changed)
 
 add-i : tie.Need-add-i Inv-loop μ-loop
 add-i c = search needs
@@ -71,11 +81,19 @@ loop-less : tie.Need-loop-less Inv-loop μ-loop
 loop-less c = search needs
 
 loop-again : tie.Need-loop-again Inv-loop μ-loop
-loop-again c = (
-  omega arith,
-  written-length (c .before .before .put-unit .ensures) ∙ written-length (c .before .before .before .before .before .before .put-change .ensures) ∙ c .before .before .before .before .before .before .before .before .before .before .before .before .before .before .loop .inv .1,
-  going-more _ _ _ _ _ _ _ _ (c .before .before .before .before .before .before .before .before .before .before .before .before .before .before .loop .inv .2) (c .before .before .before .before .before .before .before .before .before .before .before .before .before .before .before .before .before .before .pre .2) (c .before .before .before .before .before .before .before .before .before .before .before .before .before .loop-test .taken) _ _ (c .before .before .before .before .before .before .before .before .before .before .before .class-of .ensures .0) (c .before .before .before .before .before .before .before .before .choose-quickly .ensures) _ (c .before .before .before .before .before .before .before .before .before .before .wide .ensures .0) _ _ _ _ (c .before .before .before .before .before .before .put-change .ensures) (c .before .before .put-unit .ensures),
-)
+loop-again c =
+    let going = c .before .before .before .before .before .before .before .before .before .before .before .before .before .before .loop .inv .2 in
+    let pre = c .before .before .before .before .before .before .before .before .before .before .before .before .before .before .before .before .before .before .pre in
+    let more = c .before .before .before .before .before .before .before .before .before .before .before .before .before .loop-test .taken in
+    let class = c .before .before .before .before .before .before .before .before .before .before .before .class-of .ensures .0 in
+    let chosen = c .before .before .before .before .before .before .before .before .choose-quickly .ensures in
+    let place = c .before .before .before .before .before .before .before .before .before .before .wide .ensures .0 in
+    let changed = c .before .before .before .before .before .before .put-change .ensures in
+    let written = c .before .before .put-unit .ensures in (
+      omega arith,
+      written-length written ∙ written-length changed ∙ c .before .before .before .before .before .before .before .before .before .before .before .before .before .before .loop .inv .1,
+      going-more _ _ _ _ _ _ _ _ going (pre .2) more _ _ class chosen _ place _ _ _ _ changed written,
+    )
 
 same-length : tie.Need-same-length Inv-loop μ-loop
 same-length c = search needs

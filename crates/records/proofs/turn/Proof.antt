@@ -18,8 +18,9 @@ plain-requires c κs = search needs
 put-requires : tie.Need-put-requires
 put-requires c κs =
     let args = c .before .before .before .before .before .before .before .before .before .before .args in
-    stowable (args .segments .now) (args .unit) _ _
-    (plain-goes (args .segments .now) (args .unit) _ (sym (c .before .before .before .before .settled .ensures) ∙ c .before .before .before .if1 .taken) (sym (c .before .before .plain .ensures) ∙ c .before .if2 .taken))
+    let settled = sym (c .before .before .before .before .settled .ensures) ∙ c .before .before .before .if1 .taken in
+    let plain = sym (c .before .before .plain .ensures) ∙ c .before .if2 .taken in
+    stowable (args .segments .now) (args .unit) _ _ (plain-goes (args .segments .now) (args .unit) _ settled plain)
 
 same-length : tie.Need-same-length
 same-length c = search needs
@@ -27,8 +28,11 @@ same-length c = search needs
 returns : tie.Need-returns
 returns c =
     let args = c .before .before .before .before .before .before .before .before .before .before .before .before .before .args in
-    let goes = plain-goes (args .segments .now) (args .unit) _ (sym (c .before .before .before .before .before .before .before .settled .ensures) ∙ c .before .before .before .before .before .before .if1 .taken) (sym (c .before .before .before .before .before .plain .ensures) ∙ c .before .before .before .before .if2 .taken) in
-    let t = turn-goes (args .segments .now) (args .unit) (args .i) (args .progress) (args .work .now) _ _ (c .before .before .before .before .before .before .before .before .before .progress .given .1) goes in
+    let settled = sym (c .before .before .before .before .before .before .before .settled .ensures) ∙ c .before .before .before .before .before .before .if1 .taken in
+    let plain = sym (c .before .before .before .before .before .plain .ensures) ∙ c .before .before .before .before .if2 .taken in
+    let goes = plain-goes (args .segments .now) (args .unit) _ settled plain in
+    let fine = c .before .before .before .before .before .before .before .before .before .progress .given .1 in
+    let t = turn-goes (args .segments .now) (args .unit) (args .i) (args .progress) (args .work .now) _ _ fine goes in
     (t .0, c .before .before .put .ensures ∙ t .1)
 
 judge-requires : tie.Need-judge-requires
@@ -52,7 +56,9 @@ same-length-2 c = search needs
 returns-2 : tie.Need-returns-2
 returns-2 c =
     let args = c .before .before .before .before .before .before .before .before .before .before .before .before .before .before .before .args in
-    let t = turn-goes (args .segments .now) (args .unit) (args .i) (args .progress) (args .work .now) _ _ (c .before .before .before .before .before .before .before .before .before .before .before .progress .given .1) (sym (c .before .before .before .before .before .before .before .judge .ensures) ∙ c .before .before .before .before .before .step .given .1) in
+    let fine = c .before .before .before .before .before .before .before .before .before .before .before .progress .given .1 in
+    let goes = sym (c .before .before .before .before .before .before .before .judge .ensures) ∙ c .before .before .before .before .before .step .given .1 in
+    let t = turn-goes (args .segments .now) (args .unit) (args .i) (args .progress) (args .work .now) _ _ fine goes in
     (t .0, c .before .before .put2 .ensures ∙ t .1)
 
 returns-3 : tie.Need-returns-3
