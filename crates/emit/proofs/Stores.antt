@@ -1,6 +1,6 @@
 -- Octets stored one after the other, and that they are those of designations and units.
 use mathlib.Core.Path.{_≡_, refl, sym, ap, ap₂, _∙_, subst}
-use mathlib.Core.Bool.{Bool, true, false, cond, _&&_, not, false≢true}
+use mathlib.Core.Bool.{Bool, true, false, cond, _&&_, not, false≢true, true≢false}
 use mathlib.Core.List.{List, [], _∷_, _++_}
 use Prim.Native.Nat.{ℕ, suc, _+_, _-_, _*_, _/_, _%_, _≤_, _<_}
 use native.Mathlib.Omega.{arith}
@@ -145,6 +145,24 @@ module _ (o : List ℕ) (d : Side) (t a b s : ℕ) where
   unfolding octets unitTagged
   one-octet y e h = rw (lt-ltb t 12 h, narrow t h, e)
 
+  -- a character of one octet, or a space
+  pub single-octet : (y : ℕ) → y ≡ pick (eqb t 15) 0x20 (top d + b % 128) → pick (ltb t 12) false (ltb t 15) ≡ false → t < 16
+      → octets d (unitTagged o t a b s) ≡ y ∷ []
+  unfolding octets unitTagged pick
+  single-octet y e n h = go (ltb t 12) refl (ltb t 15) refl
+    where
+      go : (p : Bool) → ltb t 12 ≡ p → (q : Bool) → ltb t 15 ≡ q → octets d (unitTagged o t a b s) ≡ y ∷ []
+      go true p q r =
+          let l = ltb-true t 12 p in
+          let f : y ≡ top d + b % 128 = rw (ne-eqb t 15 (λ z. omega arith)) at e in
+          one-octet y f l
+      go false p true r = absurd (true≢false (rw (p, r) at n))
+      go false p false r =
+          let l = ltb-false t 15 r in
+          let z : t ≡ 15 = omega arith in
+          let f : y ≡ 0x20 = rw z at e in
+          rw (f, z) refl
+
   pub two-octets : (x y : ℕ) → x ≡ top d + a % 128 → y ≡ top d + b % 128 → 12 ≤ t → t < 15 → octets d (unitTagged o t a b s) ≡ x ∷ y ∷ []
   unfolding octets unitTagged
   two-octets x y ex ey h k =
@@ -180,6 +198,15 @@ module _ (o : List ℕ) (d : Side) (t a b s : ℕ) where
   pub segment-octets : (n m : ℕ) → n ≡ countOf a b → m ≡ s → 21 ≤ t → t < 26 → octets d (unitTagged o t a b s) ≡ octets GL (ext (27 + t) (take n (drop m o)))
   unfolding octets
   segment-octets n m en em h k = ap (octets d) (unit-segment o t a b s h k) ∙ ap₂ (λ (x y : ℕ). octets GL (ext (27 + t) (take x (drop y o)))) (sym en) (sym em)
+
+-- the tag of a character of two octets, by its test
+pub paired : (t : ℕ) → pick (ltb t 12) false (ltb t 15) ≡ true → (12 ≤ t) × (t < 15)
+unfolding pick
+paired t e = go (ltb t 12) refl
+  where
+    go : (p : Bool) → ltb t 12 ≡ p → (12 ≤ t) × (t < 15)
+    go true p = absurd (false≢true (rw p at e))
+    go false p = (ltb-false t 12 p, ltb-true t 15 (rw p at e))
 
 -- a segment's octets: two threes, then the part
 pub segment-parts : (o : List ℕ) (e n m s : ℕ) → m ≡ partOf n s (length o)

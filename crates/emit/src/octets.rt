@@ -1,8 +1,11 @@
 // The octets of designations and units, stored one after the other.
 ghost use mathlib.Core.Path.{_≡_};
+ghost use mathlib.Core.Bool.{false};
 ghost use mathlib.Core.List.{[], _∷_};
 ghost use Prim.Native.Nat.{_+_, _-_, _%_, _≤_, _<_};
+ghost use lib.Dec.{eqb, ltb};
 ghost use lib.ListN.{length, take, drop};
+ghost use Rattle.base.specs.Choice.{pick};
 ghost use Rattle.charset.specs.Charsets.{rowOf};
 ghost use Rattle.state.specs.State.{on};
 ghost use Rattle.charset.specs.declared.Side.the-variants.{GL};
@@ -59,6 +62,23 @@ fn on_side(left: bool, b: u8) -> u8
     ensures { λ r. ⌜ r ≡ top (sideOf left) + b % 128 ⌝ }
 {
     if left { b % 128 } else { 128 + b % 128 }
+}
+
+// Whether a tag is that of a character of two octets.
+fn two_octets(tag: u8) -> bool
+    ensures { λ r. ⌜ r ≡ pick (ltb tag 12) false (ltb tag 15) ⌝ }
+{
+    if tag < 12 {
+        return false;
+    }
+    tag < 15
+}
+
+// The octet of a space, or of a character of one octet on a side: the two in one, since words and spaces alternate.
+fn single(tag: u8, left: bool, b: u8) -> u8
+    ensures { λ r. ⌜ r ≡ pick (eqb tag 15) 0x20 (top (sideOf left) + b % 128) ⌝ }
+{
+    if tag == 15 { 0x20 } else { on_side(left, b) }
 }
 
 // Copies n octets of src, from a place on, and answers the next place.
@@ -142,14 +162,14 @@ pub fn put_unit(
     ensures { λ r. ⌜ Written (now (out .entry)) at (octets (sideOf left) (unitFrom (now (segments .entry)) (now (work .entry)) row)) r (now (out .exit)) ⌝ }
 {
     let tag = work[row + 65];
-    if tag < 12 {
-        out[at] = on_side(left, work[row + 67]);
-        return at + 1;
-    }
-    if tag < 15 {
+    if two_octets(tag) {
         out[at] = on_side(left, work[row + 66]);
         out[at + 1] = on_side(left, work[row + 67]);
         return at + 2;
+    }
+    if tag < 16 {
+        out[at] = single(tag, left, work[row + 67]);
+        return at + 1;
     }
     if 21 <= tag {
         if tag < 26 {
