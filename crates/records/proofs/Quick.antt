@@ -1,6 +1,6 @@
 -- The quick check is right: a record that it lets through, where the directions are settled, is refused for nothing and changes no
 -- direction. A space by its kind; a character since the bounds of its set's octets are those of the codes that the set uses.
-use Prim.Native.Nat.{ℕ, _+_, _-_, _*_, _/_, _%_, _≤_, _<_}
+use Prim.Native.Nat.{ℕ, _/_, _%_, _≤_, _<_}
 use native.Mathlib.Omega.{arith}
 use mathlib.Core.Path.{_≡_, refl, sym, ap, _∙_}
 use mathlib.Core.Bool.{Bool, true, false, false≢true}
@@ -19,7 +19,7 @@ use Rattle.state.specs.declared.directions.Step.the-variants.{Goes}
 use Rattle.grammar.specs.Units.{codeUsed}
 use Rattle.grammar.specs.Records.{unitRead}
 use Rattle.writing.specs.Records.{fault}
-use Rattle.records.specs.Plain.{marginOf, leastHigh, spanHigh, usedBy, setBy, codeBy, plainOf, settledOf}
+use Rattle.records.specs.Plain.{boundsOf, aboveOf, usedBy, setBy, codeBy, plainOf, settledOf}
 use Rattle.records.proofs.Refusals.{kind-character, kind-plain, code-fits}
 
 -- ---- a code
@@ -37,47 +37,45 @@ graphic m a b = rw (le-ltb m 0x21 a, le-leb m 0x7E b)
 record Within (c k : ℕ) : Type 0 where
   whole : k < 0x10000
   set : c < no-set
-  low : (k % 256 + 224 - marginOf c) % 256 ≤ 95 - 2 * marginOf c
-  high : (k / 256 + 256 - leastHigh c) % 256 ≤ spanHigh c
+  low : aboveOf (boundsOf c) k % 256 ≤ boundsOf c % 0x10000 % 256
+  high : aboveOf (boundsOf c) k / 256 ≤ boundsOf c % 0x10000 / 256
 
 within : (c k : ℕ) → usedBy c k ≡ true → Within c k
 unfolding usedBy
 within c k e =
     let a = passed (leb 0x10000 k) _ e in
     let b = passed (leb no-set c) _ (a .1) in
-    let d = passed (ltb (95 - 2 * marginOf c) ((k % 256 + 224 - marginOf c) % 256)) _ (b .1) in
+    let d = passed (ltb (boundsOf c % 0x10000 % 256) (aboveOf (boundsOf c) k % 256)) _ (b .1) in
     record {
       whole = leb-false 0x10000 k (a .0);
       set = leb-false no-set c (b .0);
-      low = ltb-false (95 - 2 * marginOf c) ((k % 256 + 224 - marginOf c) % 256) (d .0);
-      high = leb-true ((k / 256 + 256 - leastHigh c) % 256) (spanHigh c) (d .1);
+      low = ltb-false (boundsOf c % 0x10000 % 256) (aboveOf (boundsOf c) k % 256) (d .0);
+      high = leb-true (aboveOf (boundsOf c) k / 256) (boundsOf c % 0x10000 / 256) (d .1);
     }
 
 -- by the form of the set
 code-used : (c k : ℕ) → Within c k → codeUsed (formOf c) k ≡ true
-unfolding formRule marginOf leastHigh spanHigh codeUsed pick
+unfolding formRule boundsOf codeUsed pick
 code-used c k w = rw (← form-rule c) (go (ltb c 3) refl (ltb c 12) refl)
   where
     go : (s : Bool) → ltb c 3 ≡ s → (t : Bool) → ltb c 12 ≡ t → codeUsed (formRule c) k ≡ true
     go true p t q =
-        let l = ltb-true c 3 p in
-        let m = lt-ltb c 12 (omega arith) in
         let a = rw p at (w .low) in
-        let b = rw m at (w .high) in
+        let b = rw p at (w .high) in
         rw p (graphic k (omega (arith, w .whole, a, b)) (omega (arith, w .whole, a, b)))
     go false p true q =
         let a = rw (p, q) at (w .low) in
-        let b = rw q at (w .high) in
+        let b = rw (p, q) at (w .high) in
         rw (p, q, le-leb 0x20 k (omega (arith, w .whole, a, b)), le-leb k 0x7F (omega (arith, w .whole, a, b)))
     go false p false q =
         let a = rw (p, q) at (w .low) in
-        let b = rw q at (w .high) in
+        let b = rw (p, q) at (w .high) in
         rw (
           p,
           q,
           lt-ltb c 15 (w .set),
-          graphic (k / 256) (omega (arith, w .whole, b)) (omega (arith, w .whole, b)),
-          graphic (k % 256) (omega (arith, a)) (omega (arith, a)),
+          graphic (k / 256) (omega (arith, w .whole, a, b)) (omega (arith, w .whole, a, b)),
+          graphic (k % 256) (omega (arith, w .whole, a, b)) (omega (arith, w .whole, a, b)),
         )
 
 -- ---- the directions

@@ -1,6 +1,6 @@
 -- The quick check of a record, as the program makes it: a character or space that changes nothing in the directions. What it says is not
 -- to be believed: that such a record is refused for nothing is proved (Quick in proofs).
-use Prim.Native.Nat.{ℕ, _+_, _-_, _*_, _/_, _%_}
+use Prim.Native.Nat.{ℕ, _+_, _-_, _/_, _%_}
 use mathlib.Core.Bool.{Bool, true, false}
 use lib.Dec.{eqb, leb, ltb}
 use Rattle.base.specs.Choice.{pick}
@@ -9,23 +9,21 @@ use Rattle.base.specs.declared.Unit.{Unit as UnitRecord}
 use Rattle.charset.specs.Charsets.{no-set}
 use Rattle.state.specs.declared.directions.Directions.{Directions}
 
--- the bounds of the octets of a code, by its set: the last octet lies from 20 to 7F, less a margin at both ends; that before it from a
--- lowest on, which is 0 where a code has one octet
-unfoldable pub marginOf : ℕ → ℕ
-marginOf c = pick (ltb c 3) 1 (pick (ltb c 12) 0 1)
+-- the lowest code of a set, times 65,536, and how many each of its octets may be more
+unfoldable pub boundsOf : ℕ → ℕ
+boundsOf c = pick (ltb c 3) 0x0021005D (pick (ltb c 12) 0x0020005F 0x21215D5D)
 
-unfoldable pub leastHigh : ℕ → ℕ
-leastHigh c = pick (ltb c 12) 0 0x21
+-- a code above the lowest, round the 65,536
+abbrev pub aboveOf : ℕ → ℕ → ℕ
+aboveOf both k = (k + 0x10000 - both / 0x10000) % 0x10000
 
-unfoldable pub spanHigh : ℕ → ℕ
-spanHigh c = pick (ltb c 12) 0 0x5D
-
--- both octets of a code of 16 bits lie in their bounds, each measured from its lowest, round the 256
+-- both octets of a code of 16 bits lie in their bounds
 unfoldable pub usedBy : ℕ → ℕ → Bool
 usedBy c k =
     pick (leb 0x10000 k) false
     (pick (leb no-set c) false
-    (pick (ltb (95 - 2 * marginOf c) ((k % 256 + 224 - marginOf c) % 256)) false (leb ((k / 256 + 256 - leastHigh c) % 256) (spanHigh c))))
+    (pick (ltb (boundsOf c % 0x10000 % 256) (aboveOf (boundsOf c) k % 256)) false
+    (leb (aboveOf (boundsOf c) k / 256) (boundsOf c % 0x10000 / 256))))
 
 -- a space is looked at as the first character of set 0
 unfoldable pub setBy : ℕ → ℕ → ℕ

@@ -1,60 +1,40 @@
 // A quick check of characters and spaces. Bounds are chosen by the set and not one of two tests: the processor foresees no test whose
 // outcome changes from word to word.
 ghost use mathlib.Core.Path.{_≡_};
-ghost use Prim.Native.Nat.{_≤_};
-ghost use Rattle.records.specs.Plain.{marginOf, leastHigh, spanHigh, usedBy, setBy, codeBy, plainOf};
+ghost use Rattle.records.specs.Plain.{boundsOf, usedBy, setBy, codeBy, plainOf};
 use base::Unit;
 use base::kind;
 use charset::NO_SET;
 
-// How far from 20 and 7F the last octet of a code of a set has to stay: a set of 96 uses both.
-fn margin(set: u8) -> u16
-    ensures { λ r. ⌜ (r ≡ marginOf set) × (r ≤ 1) ⌝ }
+// The lowest code of a set, above how many each of its two octets may be more than the lowest: of a set of 94, of 96, of 94 by 94. In one
+// number, so that one choice by the set has all bounds.
+fn bounds(set: u8) -> u32
+    ensures { λ r. ⌜ r ≡ boundsOf set ⌝ }
 {
     if set < 3 {
-        return 1;
+        return 0x0021_005D;
     }
     if set < 12 {
-        return 0;
+        return 0x0020_005F;
     }
-    1
+    0x2121_5D5D
 }
 
-// The lowest that the octet before it may be, 0 where a code has one octet.
-fn least_high(set: u8) -> u16
-    ensures { λ r. ⌜ (r ≡ leastHigh set) × (r ≤ 0x21) ⌝ }
-{
-    if set < 12 {
-        return 0;
-    }
-    0x21
-}
-
-// How many it may be above the lowest.
-fn span_high(set: u8) -> u16
-    ensures { λ r. ⌜ r ≡ spanHigh set ⌝ }
-{
-    if set < 12 {
-        return 0;
-    }
-    0x5D
-}
-
-// Whether both octets of a code lie in the bounds of its set. Each is measured from the lowest that it may be, round the 256, so that one
-// comparison tells both bounds.
+// Whether both octets of a code lie in the bounds of its set. The code is measured from the lowest, round the 65,536, so that an octet
+// that is too low is too high.
 fn used(set: u8, code: u16) -> bool
     ensures { λ r. ⌜ r ≡ usedBy set code ⌝ }
 {
     if NO_SET <= set {
         return false;
     }
-    let m = margin(set);
-    let low = (code % 256 + 224 - m) % 256;
-    let high = (code / 256 + 256 - least_high(set)) % 256;
-    if 95 - 2 * m < low {
+    let both = bounds(set);
+    let above = (code as u32 + 0x1_0000 - both / 0x1_0000) % 0x1_0000;
+    let most = both % 0x1_0000;
+    if most % 256 < above % 256 {
         return false;
     }
-    high <= span_high(set)
+    above / 256 <= most / 256
 }
 
 // A space is looked at as the first character of set 0.
