@@ -8,10 +8,9 @@ use lib.Dec.{eqb, leb}
 use borrow.Author.Tests.{eq-eqb, ne-eqb, lt-ltb, le-ltb, le-leb, lt-leb}
 use Rattle.writing.proofs.Sets.{implies, implies-elim, upTo, up-to}
 use Rattle.writing.proofs.Needs.{or-true}
-use Rattle.plan.specs.Numbers.{setsInGL, afterFirst, afterSecond, chosenBy}
+use Rattle.plan.specs.Numbers.{setsInGL, servedInGL, servedInGR, afterFirst, afterSecond, chosenBy}
 use Rattle.plan.specs.Costs.{secondSlot}
 use Rattle.plan.proofs.Numbers.{beq-eq}
-use Rattle.emit.specs.Emit.{servedInGL, servedInGR}
 
 pub first-stays : (x k a u v : ℕ) → a ≡ afterFirst x k → a ≡ k → k ≡ chosenBy x k u v
 unfolding chosenBy

@@ -16,12 +16,12 @@ use Rattle.grammar.specs.Units.{TextUnit, octets}
 use Rattle.writing.specs.Writing.{Need, choose, after, met, need, cost, used, designated, writing}
 use Rattle.writing.proofs.Needs.{chosen-met}
 use Rattle.rows.specs.Rows.{tagAt, startFrom, unitTagged, unitFrom, unitsIn}
-use Rattle.plan.specs.Numbers.{numbered, classOf, needOfClass, afterFirst, afterSecond, chosenBy, afterChoice, change, sideAt}
+use Rattle.plan.specs.Numbers.{servedInGL, numbered, classOf, needOfClass, afterFirst, afterSecond, chosenBy, afterChoice, change, sideAt}
 use Rattle.plan.specs.Costs.{restFrom, secondSlot}
 use Rattle.plan.proofs.Numbers.{Choice, choice-at, chosen-base, chosen-single, chosen-free, used-side}
 use Rattle.plan.proofs.Units.{need-tagged}
 use Rattle.plan.proofs.Rest.{class-below, fresh-number}
-use Rattle.emit.specs.Emit.{Written, sideOf, Ready, servedInGL}
+use Rattle.emit.specs.Emit.{Written, sideOf, Ready}
 use Rattle.emit.proofs.Chosen.{its-place}
 use Rattle.emit.proofs.Stores.{written-both, written-none, written-length, written-as, segment-octets, fixed-octets}
 

@@ -46,14 +46,6 @@ sideOf left = cond left GL GR
 abbrev pub Ready : List ℕ → List ℕ → ℕ → Type 0
 Ready o w n = (i : ℕ) → i < n → TwoStandings (classOf (tagAt w i)) → CostsKept o w n i w
 
--- the place of GL that serves a class, 5 where none does; a space is served by the first, and what needs no set by any
-abbrev pub servedInGL : List ℕ
-servedInGL = 0 ∷ 5 ∷ 1 ∷ 5 ∷ 5 ∷ 5 ∷ 5 ∷ 5 ∷ 5 ∷ 5 ∷ 5 ∷ 5 ∷ 2 ∷ 3 ∷ 4 ∷ 0 ∷ 0 ∷ []
-
--- the place of GR that serves a class, 16 where none does
-abbrev pub servedInGR : List ℕ
-servedInGR = 16 ∷ 0 ∷ 16 ∷ 1 ∷ 2 ∷ 3 ∷ 4 ∷ 5 ∷ 6 ∷ 7 ∷ 8 ∷ 9 ∷ 10 ∷ 11 ∷ 12 ∷ 16 ∷ 16 ∷ []
-
 -- the octet after 1B, or after 1B 24, of a designation: it says the side and the form
 unfoldable pub signOf : Bool → ℕ → ℕ
 signOf left set = pick left 0x28 (pick (ltb set 3) 0x29 (pick (ltb set 12) 0x2D 0x29))

@@ -6,9 +6,9 @@ ghost use Rattle.state.specs.State.{fresh};
 ghost use Rattle.grammar.specs.Units.{octets};
 ghost use Rattle.writing.specs.Writing.{writing, designated};
 ghost use Rattle.rows.specs.Rows.{unitsIn};
-ghost use Rattle.plan.specs.Numbers.{setsInGL, setsInGR, placesInGL, placesInGR, afterFirst, afterSecond, chosenBy, change};
+ghost use Rattle.plan.specs.Numbers.{setsInGL, setsInGR, placesInGL, placesInGR, servedInGL, servedInGR, afterFirst, afterSecond, chosenBy, change};
 ghost use Rattle.plan.specs.Costs.{secondSlot};
-ghost use Rattle.emit.specs.Emit.{rowsAnswer, rowsOutput, Written, Ready, servedInGL, servedInGR};
+ghost use Rattle.emit.specs.Emit.{rowsAnswer, rowsOutput, Written, Ready};
 use base::Answer;
 use base::limit;
 use base::refusal;
@@ -135,12 +135,6 @@ fn put_change(k: usize, j: usize, out: &mut [u8], at: usize) -> usize
     octets::put_designation(true, set_in_gl(j / 16), out, at)
 }
 
-fn wide(x: u8) -> usize
-    ensures { λ r. ⌜ (r ≡ x) × (r ≤ 255) ⌝ }
-{
-    x as usize
-}
-
 // Writes n rows by their plan from the output's first place on, and answers the next place.
 fn emit(work: &[u8], n: usize, segments: &[u8], out: &mut [u8]) -> usize
     requires { ⌜ (n ≤ 65535) × (72 * n ≤ length (now work)) × Ready (now segments) (now work) n × (length (writing (unitsIn (now segments) (now work) 0 n) (fresh .sets)) ≤ length (now out)) ⌝ }
@@ -154,8 +148,8 @@ fn emit(work: &[u8], n: usize, segments: &[u8], out: &mut [u8]) -> usize
     while i < n {
         let row = 72 * i;
         let x = plan::class_of(work[row + 65]);
-        let l = wide(in_gl[x]);
-        let r = wide(in_gr[x]);
+        let l = rows::wide(in_gl[x]);
+        let r = rows::wide(in_gr[x]);
         let j = choose_quickly(x, k, l, r, work, row);
         let a = put_change(k, j, out, at);
         let left = j / 16 == l;

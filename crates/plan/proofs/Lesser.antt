@@ -1,16 +1,17 @@
 -- The least costs from all numbers by one rule: the lesser of two stretches of costs with surcharges, since no cost rises by more than a
 -- designation's price.
 use mathlib.Core.Path.{_≡_, refl, sym, ap, ap₂, _∙_, subst}
-use mathlib.Core.Bool.{Bool, true, false, cond, _||_, true≢false}
+use mathlib.Core.Bool.{Bool, true, false, cond, _||_, _&&_}
 use mathlib.Core.List.{List}
 use mathlib.Core.Logic.{_⊎_, inl, inr}
 use Prim.Native.Nat.{ℕ, _+_, _-_, _*_, _≤_, _<_, min}
 use native.Mathlib.Omega.{arith}
 use lib.ListN.{length, getD}
 use lib.Dec.{leb, ltb, eqb}
-use borrow.Author.Tests.{eqb-true, eqb-false, eq-eqb, ne-eqb, leb-true, leb-false, ltb-true, ltb-false}
+use borrow.Author.Tests.{eqb-true, eqb-false, eq-eqb, ne-eqb, leb-true, leb-false, ltb-true, ltb-false, lt-ltb, le-ltb}
+use Rattle.grammar.proofs.Complete.{and-left, and-right}
 use Rattle.writing.proofs.Sets.{upTo, up-to}
-use Rattle.plan.specs.Numbers.{withGL, withGR, priceOfClass, placesInGL, placesInGR, afterFirst, afterSecond, chosenBy, surcharge}
+use Rattle.plan.specs.Numbers.{withGL, withGR, priceOfClass, placesInGL, placesInGR, servedInGL, servedInGR, afterFirst, afterSecond, chosenBy, surcharge}
 use Rattle.plan.specs.Costs.{leastBy, Filled, Columns, SumsFit, Charges, Column, surcharges, Smooth, InGL, InGR, OnBoth}
 use Rattle.plan.proofs.Numbers.{bounded, first-gl, first-gr, second-gl, second-gr, first-space, second-space, price-gl, price-both, price-gr}
 
@@ -189,7 +190,7 @@ module _ (x l m : ℕ) (next : List ℕ) (s : InGL x l m) where
           sc .kept (16 * g + q) (apart g m q hq n) ∙ sb .kept (16 * g + q) (apart g l q hq o) ∙ sa .there g q hg hq ∙ goes g q p hq ep o n
 
 -- by the tests of a class: that of a space, or a set that has no place in GR
-pub in-gl : (x l m r : ℕ) → x < 16 → l ≡ getD placesInGL x 0 → r ≡ getD placesInGR x 0 → m ≡ cond (eqb x 15) 1 l → (eqb x 15 || leb 13 r) ≡ true → InGL x l m
+in-gl : (x l m r : ℕ) → x < 16 → l ≡ getD placesInGL x 0 → r ≡ getD placesInGR x 0 → m ≡ cond (eqb x 15) 1 l → (eqb x 15 || leb 13 r) ≡ true → InGL x l m
 unfolding priceOfClass
 in-gl x l m r hx el er em t = go (eqb x 15) refl
   where
@@ -219,15 +220,30 @@ in-gl x l m r hx el er em t = go (eqb x 15) refl
           second = λ k. rw (← zm) (second-gl x l r k el er h hr);
         }
 
--- any other class has a place in GR
-pub not-in-gl : (x r : ℕ) → x < 16 → (eqb x 15 || leb 13 r) ≡ false → (x < 15) × (r < 13)
-not-in-gl x r hx t = go (eqb x 15) refl
-  where
-    go : (b : Bool) → eqb x 15 ≡ b → (x < 15) × (r < 13)
-    go true q = absurd (true≢false (rw q at t))
-    go false q =
-        let n = eqb-false x 15 q in
-        (omega arith, leb-false 13 r (rw q at t))
+-- what the tables of the places that serve a class say, by a computed test of the 16 classes that need a set
+abbrev rightTest : ℕ → Bool
+rightTest x =
+    cond (ltb (getD servedInGR x 0) 13) (ltb x 15 && eqb (getD servedInGR x 0) (getD placesInGR x 0)) (eqb x 15 || leb 13 (getD placesInGR x 0))
+
+pub served-left : (x l : ℕ) → x < 16 → l ≡ getD servedInGL x 0 → l ≡ getD placesInGL x 0
+served-left x l hx e =
+    e ∙ eqb-true (getD servedInGL x 0) (getD placesInGL x 0) (up-to 16 (λ y. eqb (getD servedInGL y 0) (getD placesInGL y 0)) refl x hx)
+
+right-test : (x : ℕ) → x < 16 → rightTest x ≡ true
+right-test x hx = up-to 16 rightTest refl x hx
+
+-- GL alone serves the class
+pub in-left : (x l m r : ℕ) → x < 16 → l ≡ getD servedInGL x 0 → r ≡ getD servedInGR x 0 → m ≡ cond (eqb x 15) 1 l → 13 ≤ r → InGL x l m
+in-left x l m r hx el er em h =
+    let t = le-ltb (getD servedInGR x 0) 13 (subst (λ (y : ℕ). 13 ≤ y) er h) in
+    in-gl x l m (getD placesInGR x 0) hx (served-left x l hx el) refl em (rw t at (right-test x hx))
+
+-- the class has a place in GR
+pub in-right : (x r : ℕ) → x < 16 → r ≡ getD servedInGR x 0 → r < 13 → (x < 15) × (r ≡ getD placesInGR x 0)
+in-right x r hx er h =
+    let t = lt-ltb (getD servedInGR x 0) 13 (subst (λ (y : ℕ). y < 13) er h) in
+    let b = rw t at (right-test x hx) in
+    (ltb-true x 15 (and-left (ltb x 15) (eqb (getD servedInGR x 0) (getD placesInGR x 0)) b), er ∙ eqb-true (getD servedInGR x 0) (getD placesInGR x 0) (and-right (ltb x 15) (eqb (getD servedInGR x 0) (getD placesInGR x 0)) b))
 
 -- ---- the sums fit an octet
 

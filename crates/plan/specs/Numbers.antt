@@ -52,6 +52,14 @@ placesInGL = 0 ∷ 5 ∷ 1 ∷ 5 ∷ 5 ∷ 5 ∷ 5 ∷ 5 ∷ 5 ∷ 5 ∷ 5 ∷ 5
 abbrev pub placesInGR : List ℕ
 placesInGR = 13 ∷ 0 ∷ 13 ∷ 1 ∷ 2 ∷ 3 ∷ 4 ∷ 5 ∷ 6 ∷ 7 ∷ 8 ∷ 9 ∷ 10 ∷ 11 ∷ 12 ∷ []
 
+-- the place of GL that serves a class, 5 where none does; a space is served by the first, and what needs no set by any
+abbrev pub servedInGL : List ℕ
+servedInGL = 0 ∷ 5 ∷ 1 ∷ 5 ∷ 5 ∷ 5 ∷ 5 ∷ 5 ∷ 5 ∷ 5 ∷ 5 ∷ 5 ∷ 2 ∷ 3 ∷ 4 ∷ 0 ∷ 0 ∷ []
+
+-- the place of GR that serves a class, 16 where none does
+abbrev pub servedInGR : List ℕ
+servedInGR = 16 ∷ 0 ∷ 16 ∷ 1 ∷ 2 ∷ 3 ∷ 4 ∷ 5 ∷ 6 ∷ 7 ∷ 8 ∷ 9 ∷ 10 ∷ 11 ∷ 12 ∷ 16 ∷ 16 ∷ []
+
 -- the number after the first designation that serves a class, the preferred one, and after the second
 unfoldable pub afterFirst : ℕ → ℕ → ℕ
 afterFirst x k =

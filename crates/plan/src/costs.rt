@@ -1,12 +1,11 @@
 // The costs from all 80 numbers, octet by octet: five rows, for GL's places, by 16 columns, for GR's.
 ghost use mathlib.Core.Path.{_≡_};
-ghost use mathlib.Core.Bool.{cond, _||_};
+ghost use mathlib.Core.Bool.{cond};
 ghost use Prim.Native.Nat.{ℕ, _+_, _-_, _*_, _≤_, _<_, min};
-ghost use lib.Dec.{eqb, leb};
+ghost use lib.Dec.{eqb};
 ghost use lib.ListN.{length, getD};
+ghost use Rattle.plan.specs.Numbers.{servedInGL, servedInGR};
 ghost use Rattle.plan.specs.Costs.{Filled, ColumnFilled, Columns, SumsFit, Charges, Column, surcharges, InGL, InGR, OnBoth, leastBy, Smooth, changes, Turned, RowKept};
-use crate::place_in_gl;
-use crate::place_in_gr;
 
 fn lesser(a: u8, b: u8) -> u8
     ensures { λ r. ⌜ r ≡ min a b ⌝ }
@@ -151,16 +150,6 @@ fn gr_costs(x: usize, r: usize, next: &[u8; 80], threes: &[u8; 32], cur: &mut [u
     lesser_costs(threes, j, v, threes, j, v, cur);
 }
 
-// Whether GL alone serves a class, whose place in GR is r: that of a space, or of a set that has no place in GR.
-fn in_gl_alone(x: usize, r: usize) -> bool
-    ensures { λ b. ⌜ b ≡ eqb x 15 || leb 13 r ⌝ }
-{
-    if x == 15 {
-        return true;
-    }
-    13 <= r
-}
-
 // The other place of GL that serves a class, whose first is l: a space may stand with set 2 too.
 fn second_in_gl(x: usize, l: usize) -> usize
     ensures { λ m. ⌜ m ≡ cond (eqb x 15) 1 l ⌝ }
@@ -171,14 +160,24 @@ fn second_in_gl(x: usize, l: usize) -> usize
     l
 }
 
-// The least costs, but for the unit's own octets, of a unit of class x before what next has.
-fn costs_before(x: usize, next: &[u8; 80], fours: &[u8; 32], threes: &[u8; 32], cur: &mut [u8; 80])
-    requires { ⌜ (x < 16) × Smooth x (now next) × (length (now next) ≡ 80) × (now fours ≡ surcharges 4) × (now threes ≡ surcharges 3) × (length (now cur) ≡ 80) ⌝ }
+// The least costs, but for the unit's own octets, of a unit of class x before what next has; left and right have the places
+// of GL and GR that serve each class.
+fn costs_before(
+    x: usize,
+    left: &[u8; 17],
+    right: &[u8; 17],
+    next: &[u8; 80],
+    fours: &[u8; 32],
+    threes: &[u8; 32],
+    cur: &mut [u8; 80],
+)
+    requires { ⌜ (x < 16) × Smooth x (now next) × (length (now next) ≡ 80) × (now fours ≡ surcharges 4) × (now threes ≡ surcharges 3) × (length (now cur) ≡ 80)
+        × (now left ≡ servedInGL) × (now right ≡ servedInGR) ⌝ }
     ensures { λ _. ⌜ Columns (λ g r. leastBy x (now (next .entry)) (16 * g + r)) 16 (now (cur .exit)) ⌝ }
 {
-    let l = place_in_gl(x);
-    let r = place_in_gr(x);
-    if in_gl_alone(x, r) {
+    let l = rows::wide(left[x]);
+    let r = rows::wide(right[x]);
+    if 13 <= r {
         let m = second_in_gl(x, l);
         gl_costs(x, l, m, next, threes[31], cur);
         return;
@@ -228,16 +227,19 @@ pub struct Taken {
 pub fn unit_before(
     last: usize,
     x: usize,
+    left: &[u8; 17],
+    right: &[u8; 17],
     fours: &[u8; 32],
     threes: &[u8; 32],
     cur: &mut [u8; 80],
 ) -> Taken
-    requires { ⌜ (x < 17) × (getD (now cur) 1 0 ≤ 200) × Smooth x (now cur) × (now fours ≡ surcharges 4) × (now threes ≡ surcharges 3) × ((k m : ℕ) → k < 80 → m < 80 → leastBy x (now cur) k ≤ 8 + leastBy x (now cur) m) × (length (now cur) ≡ 80) ⌝ }
+    requires { ⌜ (x < 17) × (getD (now cur) 1 0 ≤ 200) × Smooth x (now cur) × (now fours ≡ surcharges 4) × (now threes ≡ surcharges 3) × ((k m : ℕ) → k < 80 → m < 80 → leastBy x (now cur) k ≤ 8 + leastBy x (now cur) m) × (length (now cur) ≡ 80)
+        × (now left ≡ servedInGL) × (now right ≡ servedInGR) ⌝ }
     ensures { λ r. ⌜ Turned last x (now (cur .entry)) (r .base) (r .last) (now (cur .exit)) ⌝ }
 {
     if changed(last, x) {
         let next = *cur;
-        costs_before(x, &next, fours, threes, cur);
+        costs_before(x, left, right, &next, fours, threes, cur);
         if cur[1] <= 200 {
             return Taken { base: 0, last: x };
         }

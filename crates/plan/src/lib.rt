@@ -110,6 +110,8 @@ pub fn plan(work: &mut [u8], n: usize, segments: &[u8]) -> usize
     fours[15] = 0;
     let mut threes = [3u8; 32];
     threes[15] = 0;
+    let left: [u8; 17] = [0, 5, 1, 5, 5, 5, 5, 5, 5, 5, 5, 5, 2, 3, 4, 0, 0];
+    let right: [u8; 17] = [16, 0, 16, 1, 2, 3, 4, 5, 6, 7, 8, 9, 10, 11, 12, 16, 16];
     let mut cur = [0u8; 80];
     let mut base: usize = 0;
     let mut last: usize = 16;
@@ -120,7 +122,7 @@ pub fn plan(work: &mut [u8], n: usize, segments: &[u8]) -> usize
         let size = size_from(work, row, m);
         let x = class_of(work[row + 65]);
         costs::keep(x, &cur, work, row);
-        let t = costs::unit_before(last, x, &fours, &threes, &mut cur);
+        let t = costs::unit_before(last, x, &left, &right, &fours, &threes, &mut cur);
         base = base + size + t.base;
         last = t.last;
     }

@@ -11,10 +11,10 @@ use Rattle.plan.proofs.plan.Statement.{statement}
 use Rattle.plan.proofs.plan.Tie as tie
 
 abbrev Inv-loop : tie.InvT-loop
-Inv-loop work₀ n segments m fours threes cur₀ base₀ last₀ i₀ work cur base last i = (i ≤ rowsOf n (length work₀)) × (length cur ≡ 80) × Known segments work₀ (rowsOf n (length work₀)) i base last cur × Planned segments work₀ (rowsOf n (length work₀)) i work
+Inv-loop work₀ n segments m fours threes left right cur₀ base₀ last₀ i₀ work cur base last i = (i ≤ rowsOf n (length work₀)) × (length cur ≡ 80) × Known segments work₀ (rowsOf n (length work₀)) i base last cur × Planned segments work₀ (rowsOf n (length work₀)) i work
 
 abbrev μ-loop : tie.MeasureT-loop
-μ-loop work₀ n segments m fours threes cur₀ base₀ last₀ i₀ work cur base last i = i
+μ-loop work₀ n segments m fours threes left right cur₀ base₀ last₀ i₀ work cur base last i = i
 
 array-write-fours : tie.Need-array-write-fours Inv-loop μ-loop
 array-write-fours c = search needs
@@ -53,20 +53,22 @@ keep-requires c κs = (c .before .before .class-of .ensures .1, omega (arith, c 
 
 unit-before-requires : tie.Need-unit-before-requires Inv-loop μ-loop
 unit-before-requires c κs = (
-  c .before .before .before .before .before .before .before .before .class-of .ensures .1,
-  c .before .before .before .before .before .before .before .before .before .before .before .before .before .loop .inv .2 .low,
-  known-smooth _ (c .before .before .before .before .before .before .before .before .before .before .before .before .before .loop .inv .1) (c .before .before .before .before .before .before .before .before .before .before .before .before .before .loop .inv .2) (c .before .before .before .before .before .before .before .before .class-of .ensures .1),
+  c .before .before .before .before .before .before .before .before .before .before .class-of .ensures .1,
+  c .before .before .before .before .before .before .before .before .before .before .before .before .before .before .before .loop .inv .2 .low,
+  known-smooth _ (c .before .before .before .before .before .before .before .before .before .before .before .before .before .before .before .loop .inv .1) (c .before .before .before .before .before .before .before .before .before .before .before .before .before .before .before .loop .inv .2) (c .before .before .before .before .before .before .before .before .before .before .class-of .ensures .1),
   refl,
   refl,
-  turn-near _ _ _ _ _ _ _ _ _ (omega arith) (c .before .before .before .before .before .before .before .before .before .before .before .before .before .loop .inv .0) (c .before .before .before .before .before .before .before .before .before .before .before .before .before .loop .inv .2) (c .before .before .before .before .before .before .before .before .before .before .before .before .before .loop .inv .3) _ _ (c .before .before .before .before .before .before .before .before .class-of .ensures .0) (c .before .before .before .before .before .before .before .before .before .before .size-from .ensures .0),
-  c .before .before .before .before .before .before .before .before .before .before .before .before .before .loop .inv .1,
+  turn-near _ _ _ _ _ _ _ _ _ (omega arith) (c .before .before .before .before .before .before .before .before .before .before .before .before .before .before .before .loop .inv .0) (c .before .before .before .before .before .before .before .before .before .before .before .before .before .before .before .loop .inv .2) (c .before .before .before .before .before .before .before .before .before .before .before .before .before .before .before .loop .inv .3) _ _ (c .before .before .before .before .before .before .before .before .before .before .class-of .ensures .0) (c .before .before .before .before .before .before .before .before .before .before .before .before .size-from .ensures .0),
+  c .before .before .before .before .before .before .before .before .before .before .before .before .before .before .before .loop .inv .1,
+  refl,
+  refl,
 )
 
 add-base : tie.Need-add-base Inv-loop μ-loop
-add-base c = omega (arith, known-bound (λ q. c .before .before .before .before .before .before .before .before .before .before .before .before .before .before .before .before .before .slice-known .given q .fits) (omega (arith, c .before .before .before .before .before .before .before .before .before .before .before .before .before .before .before .rows-of .ensures .0, c .before .before .before .before .before .before .before .before .before .before .before .before .before .before .before .rows-of .ensures .1)) (c .before .before .before .before .before .before .before .before .before .before .before .before .before .before .loop .inv .0) (c .before .before .before .before .before .before .before .before .before .before .before .before .before .before .loop .inv .2), c .before .before .before .before .before .before .before .before .before .before .before .size-from .ensures .1)
+add-base c = omega (arith, known-bound (λ q. c .before .before .before .before .before .before .before .before .before .before .before .before .before .before .before .before .before .before .before .slice-known .given q .fits) (omega (arith, c .before .before .before .before .before .before .before .before .before .before .before .before .before .before .before .before .before .rows-of .ensures .0, c .before .before .before .before .before .before .before .before .before .before .before .before .before .before .before .before .before .rows-of .ensures .1)) (c .before .before .before .before .before .before .before .before .before .before .before .before .before .before .before .before .loop .inv .0) (c .before .before .before .before .before .before .before .before .before .before .before .before .before .before .before .before .loop .inv .2), c .before .before .before .before .before .before .before .before .before .before .before .before .before .size-from .ensures .1)
 
 add-base-2 : tie.Need-add-base-2 Inv-loop μ-loop
-add-base-2 c = omega (arith, known-bound (λ q. c .before .before .before .before .before .before .before .before .before .before .before .before .before .before .before .before .before .before .slice-known .given q .fits) (omega (arith, c .before .before .before .before .before .before .before .before .before .before .before .before .before .before .before .before .rows-of .ensures .0, c .before .before .before .before .before .before .before .before .before .before .before .before .before .before .before .before .rows-of .ensures .1)) (c .before .before .before .before .before .before .before .before .before .before .before .before .before .before .before .loop .inv .0) (c .before .before .before .before .before .before .before .before .before .before .before .before .before .before .before .loop .inv .2), c .before .before .before .before .before .before .before .before .before .before .before .before .size-from .ensures .1, c .before .unit-before .ensures .small)
+add-base-2 c = omega (arith, known-bound (λ q. c .before .before .before .before .before .before .before .before .before .before .before .before .before .before .before .before .before .before .before .before .slice-known .given q .fits) (omega (arith, c .before .before .before .before .before .before .before .before .before .before .before .before .before .before .before .before .before .before .rows-of .ensures .0, c .before .before .before .before .before .before .before .before .before .before .before .before .before .before .before .before .before .before .rows-of .ensures .1)) (c .before .before .before .before .before .before .before .before .before .before .before .before .before .before .before .before .before .loop .inv .0) (c .before .before .before .before .before .before .before .before .before .before .before .before .before .before .before .before .before .loop .inv .2), c .before .before .before .before .before .before .before .before .before .before .before .before .before .before .size-from .ensures .1, c .before .unit-before .ensures .small)
 
 loop-less : tie.Need-loop-less Inv-loop μ-loop
 loop-less c = search needs
@@ -74,9 +76,9 @@ loop-less c = search needs
 loop-again : tie.Need-loop-again Inv-loop μ-loop
 loop-again c = (
   omega arith,
-  c .before .unit-before .ensures .long ∙ c .before .before .before .before .before .before .before .before .before .before .before .before .before .before .before .loop .inv .1,
-  turn-known _ _ _ _ _ _ _ _ _ (omega arith) (c .before .before .before .before .before .before .before .before .before .before .before .before .before .before .before .loop .inv .0) (c .before .before .before .before .before .before .before .before .before .before .before .before .before .before .before .loop .inv .2) (c .before .before .before .before .before .before .before .before .before .before .before .before .before .before .before .loop .inv .3) _ _ (c .before .before .before .before .before .before .before .before .before .before .class-of .ensures .0) (c .before .before .before .before .before .before .before .before .before .before .before .before .size-from .ensures .0) _ _ _ (c .before .unit-before .ensures),
-  turn-planned _ _ _ _ _ _ _ _ _ (omega arith) (c .before .before .before .before .before .before .before .before .before .before .before .before .before .before .before .loop .inv .0) (c .before .before .before .before .before .before .before .before .before .before .before .before .before .before .before .loop .inv .2) (c .before .before .before .before .before .before .before .before .before .before .before .before .before .before .before .loop .inv .3) _ _ (c .before .before .before .before .before .before .before .before .before .before .class-of .ensures .0) (c .before .before .before .before .before .before .before .before .before .before .before .before .size-from .ensures .0) _ (c .before .before .before .before .before .before .before .keep .ensures),
+  c .before .unit-before .ensures .long ∙ c .before .before .before .before .before .before .before .before .before .before .before .before .before .before .before .before .before .loop .inv .1,
+  turn-known _ _ _ _ _ _ _ _ _ (omega arith) (c .before .before .before .before .before .before .before .before .before .before .before .before .before .before .before .before .before .loop .inv .0) (c .before .before .before .before .before .before .before .before .before .before .before .before .before .before .before .before .before .loop .inv .2) (c .before .before .before .before .before .before .before .before .before .before .before .before .before .before .before .before .before .loop .inv .3) _ _ (c .before .before .before .before .before .before .before .before .before .before .before .before .class-of .ensures .0) (c .before .before .before .before .before .before .before .before .before .before .before .before .before .before .size-from .ensures .0) _ _ _ (c .before .unit-before .ensures),
+  turn-planned _ _ _ _ _ _ _ _ _ (omega arith) (c .before .before .before .before .before .before .before .before .before .before .before .before .before .before .before .before .before .loop .inv .0) (c .before .before .before .before .before .before .before .before .before .before .before .before .before .before .before .before .before .loop .inv .2) (c .before .before .before .before .before .before .before .before .before .before .before .before .before .before .before .before .before .loop .inv .3) _ _ (c .before .before .before .before .before .before .before .before .before .before .before .before .class-of .ensures .0) (c .before .before .before .before .before .before .before .before .before .before .before .before .before .before .size-from .ensures .0) _ (c .before .before .before .before .before .before .before .before .before .keep .ensures),
 )
 
 array-read-result : tie.Need-array-read-result Inv-loop μ-loop

@@ -1,19 +1,26 @@
 -- `plan::costs::costs_before` meets its contract, by where the class has a place.
 use native.Mathlib.Omega.{arith}
-use mathlib.Core.Path.{sym, _∙_}
-use Rattle.plan.proofs.Lesser.{last-surcharge, in-gl, not-in-gl}
+use Prim.Native.Nat.{ℕ, _≤_}
+use mathlib.Core.Path.{ap, _∙_}
+use mathlib.Core.List.{List}
+use lib.ListN.{getD}
+use Rattle.plan.specs.Numbers.{placesInGL}
+use Rattle.plan.proofs.Lesser.{last-surcharge, served-left, in-left, in-right}
 use borrow.Author.Needs.{needs}
 use Rattle.plan.proofs.costs.costs_before.Statement.{statement}
 use Rattle.plan.proofs.costs.costs_before.Tie as tie
 
-place-in-gl-requires : tie.Need-place-in-gl-requires
-place-in-gl-requires c κs = search needs
+element-copy-out-wide : tie.Need-element-copy-out-wide
+element-copy-out-wide c = search needs
 
-place-in-gr-requires : tie.Need-place-in-gr-requires
-place-in-gr-requires c κs = search needs
+wide-requires : tie.Need-wide-requires
+wide-requires c κs = search needs
 
-in-gl-alone-requires : tie.Need-in-gl-alone-requires
-in-gl-alone-requires c κs = search needs
+element-copy-out-wide-2 : tie.Need-element-copy-out-wide-2
+element-copy-out-wide-2 c = search needs
+
+wide-requires-2 : tie.Need-wide-requires-2
+wide-requires-2 c κs = search needs
 
 second-in-gl-requires : tie.Need-second-in-gl-requires
 second-in-gl-requires c κs = search needs
@@ -23,42 +30,36 @@ element-copy-out-gl-costs c = search needs
 
 gl-costs-requires : tie.Need-gl-costs-requires
 gl-costs-requires c κs =
-    let pre = c .before .before .before .before .before .before .before .pre in
-    let alone = sym (c .before .before .before .before .in-gl-alone .ensures) ∙ c .before .before .before .if1 .taken in (
-      pre .1,
-      pre .2,
-      last-surcharge _ 3 (pre .4),
-      pre .5,
-      in-gl _ _ _ _ (pre .0) (c .before .before .before .before .before .before .place-in-gl .ensures) (c .before .before .before .before .before .place-in-gr .ensures) (c .before .before .second-in-gl .ensures) alone,
-    )
+    let pre = c .before .before .before .before .before .before .before .before .pre in
+    let x = c .before .before .before .before .before .before .before .before .args .x in
+    let left = c .before .before .before .before .before .before .wide .ensures .0 ∙ ap (λ (t : List ℕ). getD t x 0) (pre .6) in
+    let right = c .before .before .before .before .wide2 .ensures .0 ∙ ap (λ (t : List ℕ). getD t x 0) (pre .7) in
+    (pre .1, pre .2, last-surcharge _ 3 (pre .4), pre .5, in-left x _ _ _ (pre .0) left right (c .before .before .second-in-gl .ensures) (c .before .before .before .if1 .taken))
 
 returns : tie.Need-returns
 returns c = search needs
 
 both-costs-requires : tie.Need-both-costs-requires
 both-costs-requires c κs =
-    let pre = c .before .before .before .before .before .before .pre in
-    let not-alone = not-in-gl _ _ (pre .0) (sym (c .before .before .before .in-gl-alone .ensures) ∙ c .before .before .if1 .left) in (
-      pre .1,
-      pre .2,
-      pre .3,
-      pre .5,
-      (not-alone .0, c .before .before .before .before .before .place-in-gl .ensures, c .before .before .before .before .place-in-gr .ensures, c .before .if2 .taken, not-alone .1),
-    )
+    let pre = c .before .before .before .before .before .before .before .pre in
+    let x = c .before .before .before .before .before .before .before .args .x in
+    let left = c .before .before .before .before .before .wide .ensures .0 ∙ ap (λ (t : List ℕ). getD t x 0) (pre .6) in
+    let right = c .before .before .before .wide2 .ensures .0 ∙ ap (λ (t : List ℕ). getD t x 0) (pre .7) in
+    let some = in-right x _ (pre .0) right (c .before .before .if1 .left) in
+    (pre .1, pre .2, pre .3, pre .5, (some .0, served-left x _ (pre .0) left, some .1, c .before .if2 .taken, c .before .before .if1 .left))
 
 returns-2 : tie.Need-returns-2
 returns-2 c = search needs
 
 gr-costs-requires : tie.Need-gr-costs-requires
 gr-costs-requires c κs =
-    let pre = c .before .before .before .before .before .before .pre in
-    let not-alone = not-in-gl _ _ (pre .0) (sym (c .before .before .before .in-gl-alone .ensures) ∙ c .before .before .if1 .left) in (
-      pre .1,
-      pre .2,
-      pre .4,
-      pre .5,
-      (not-alone .0, c .before .before .before .before .place-in-gr .ensures, not-alone .1, omega (arith, c .before .before .before .before .before .place-in-gl .ensures, c .before .if2 .left)),
-    )
+    let pre = c .before .before .before .before .before .before .before .pre in
+    let x = c .before .before .before .before .before .before .before .args .x in
+    let left = c .before .before .before .before .before .wide .ensures .0 ∙ ap (λ (t : List ℕ). getD t x 0) (pre .6) in
+    let right = c .before .before .before .wide2 .ensures .0 ∙ ap (λ (t : List ℕ). getD t x 0) (pre .7) in
+    let some = in-right x _ (pre .0) right (c .before .before .if1 .left) in
+    let none : 5 ≤ getD placesInGL x 0 = omega (arith, served-left x _ (pre .0) left, c .before .if2 .left) in
+    (pre .1, pre .2, pre .4, pre .5, (some .0, some .1, c .before .before .if1 .left, none))
 
 returns-3 : tie.Need-returns-3
 returns-3 c = search needs
@@ -67,9 +68,10 @@ pub costs-before-spec : {M : Type 1} → statement M
 costs-before-spec =
     tie.close
     (tie.spec
-    place-in-gl-requires
-    place-in-gr-requires
-    in-gl-alone-requires
+    element-copy-out-wide
+    wide-requires
+    element-copy-out-wide-2
+    wide-requires-2
     second-in-gl-requires
     element-copy-out-gl-costs
     gl-costs-requires

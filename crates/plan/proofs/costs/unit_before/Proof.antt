@@ -9,7 +9,10 @@ changed-requires : tie.Need-changed-requires
 changed-requires c κs = search needs
 
 costs-before-requires : tie.Need-costs-before-requires
-costs-before-requires c κs = (changes-class _ _ (sym (c .before .before .before .before .changed .ensures) ∙ c .before .before .before .if1 .taken) (c .before .before .before .before .before .pre .0), c .before .before .before .before .before .pre .2, c .before .before .before .before .before .pre .6, c .before .before .before .before .before .pre .3, c .before .before .before .before .before .pre .4, c .before .before .before .before .before .pre .6)
+costs-before-requires c κs =
+    let pre = c .before .before .before .before .before .pre in
+    let changed = sym (c .before .before .before .before .changed .ensures) ∙ c .before .before .before .if1 .taken in
+    (changes-class _ _ changed (pre .0), pre .2, pre .6, pre .3, pre .4, pre .6, pre .7, pre .8)
 
 element-copy-out-if2 : tie.Need-element-copy-out-if2
 element-copy-out-if2 c = search needs
