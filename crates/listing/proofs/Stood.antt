@@ -71,7 +71,8 @@ singled b sets e = go (ltb b 0x20) (ltb b 0x09) (ltb b 0x7F) (ltb b 0xA0) refl r
     go true true x y h k l m e = absurd (false≢true e)
     go true false x y h k l m e = nine-or-ten b sets (ltb-false b 0x09 k) (leb-true b 0x0A e)
     go false q true y h k l m e =
-        text (ltb-false b 0x20 h) (left-text b (ltb-false b 0x20 h) (ltb-true b 0x7F l)) (rw (← (left-set b sets (ltb-true b 0x7F l))) (ltb-true (sets .gl) first-double e))
+        text (ltb-false b 0x20 h) (left-text b (ltb-false b 0x20 h) (ltb-true b 0x7F l))
+        (rw (← (left-set b sets (ltb-true b 0x7F l))) (ltb-true (sets .gl) first-double e))
     go false q false true h k l m e = absurd (false≢true e)
     go false q false false h k l m e =
         text (ltb-false b 0x20 h) (right-text b (ltb-false b 0xA0 m)) (rw (← (right-set b sets (ltb-false b 0xA0 m))) (ltb-true (sets .gr) first-double e))
@@ -161,7 +162,8 @@ module _ (s : List ℕ) where
     lone-advance at k sets h n t e =
         plain-turn at sets _ h n (on-quick s at sets (elementTurn s (cursor at sets)) _ h (on-false (textOctet (getD s at 0)) _ _ _ t (lone-turn at k sets h e)))
 
-    tab-advance : (at : ℕ) (sets : Sets) → at < length s → getD s at 0 ≡ 0x09 → turn (oneOf at (getD s at 0) sets) (cursor (at + 1) sets) ≡ advanceOf s (cursor at sets)
+    tab-advance : (at : ℕ) (sets : Sets) → at < length s → getD s at 0 ≡ 0x09
+        → turn (oneOf at (getD s at 0) sets) (cursor (at + 1) sets) ≡ advanceOf s (cursor at sets)
     unfolding shapeOf directedOf steppedOf stepOf textOctet kindOf ifGraphic pick
     tab-advance at sets h e =
         let t : textOctet (getD s at 0) ≡ false = rw e in
@@ -169,7 +171,8 @@ module _ (s : List ℕ) where
         let g : turn (oneOf at (getD s at 0) sets) (cursor (at + 1) sets) ≡ turn (lone at kind.tab) (cursor (at + 1) sets) = rw e in
         g ∙ lone-advance at kind.tab sets h (λ q. omega (arith, q, e)) t f
 
-    newline-advance : (at : ℕ) (sets : Sets) → at < length s → getD s at 0 ≡ 0x0A → turn (oneOf at (getD s at 0) sets) (cursor (at + 1) sets) ≡ advanceOf s (cursor at sets)
+    newline-advance : (at : ℕ) (sets : Sets) → at < length s → getD s at 0 ≡ 0x0A
+        → turn (oneOf at (getD s at 0) sets) (cursor (at + 1) sets) ≡ advanceOf s (cursor at sets)
     unfolding shapeOf directedOf steppedOf stepOf textOctet kindOf ifGraphic pick
     newline-advance at sets h e =
         let t : textOctet (getD s at 0) ≡ false = rw e in
@@ -177,7 +180,8 @@ module _ (s : List ℕ) where
         let g : turn (oneOf at (getD s at 0) sets) (cursor (at + 1) sets) ≡ turn (lone at kind.newline) (cursor (at + 1) sets) = rw e in
         g ∙ lone-advance at kind.newline sets h (λ q. omega (arith, q, e)) t f
 
-    one-advance : (at : ℕ) (sets : Sets) → at < length s → singleOf (getD s at 0) sets ≡ true → turn (oneOf at (getD s at 0) sets) (cursor (at + 1) sets) ≡ advanceOf s (cursor at sets)
+    one-advance : (at : ℕ) (sets : Sets) → at < length s → singleOf (getD s at 0) sets ≡ true
+        → turn (oneOf at (getD s at 0) sets) (cursor (at + 1) sets) ≡ advanceOf s (cursor at sets)
     one-advance at sets h e = by (singled (getD s at 0) sets e)
       where
         by : Single (getD s at 0) sets → turn (oneOf at (getD s at 0) sets) (cursor (at + 1) sets) ≡ advanceOf s (cursor at sets)

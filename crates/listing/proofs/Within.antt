@@ -7,7 +7,7 @@ use lib.ListN.{length}
 use Rattle.listing.specs.Spans.{ones, Fits}
 use Rattle.listing.specs.declared.spans.Span.{Span}
 
-module _ (s : List ℕ) (r : Span) (j : ℕ) where
+module _ {s : List ℕ} {r : Span} {j : ℕ} where
   pub one-within : Fits s r × (j < r .most) → r .form ≡ ones → r .place + j < length s
   one-within (h, k) e = omega (arith, h .of-ones e)
 

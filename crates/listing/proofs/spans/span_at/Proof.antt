@@ -39,7 +39,9 @@ of-form-requires c κs = search needs
 returns-3 : tie.Need-returns-3
 unfolding byForm spanOf
 returns-3 c =
-    let h = c .of-form .ensures ∙ ap₂ (λ (form most : ℕ). ofForm (c .before .before .before .before .before .before .before .before .args .c) form most) (c .before .before .before .before .form-at .ensures) (c .before .lesser .ensures) in
+    let h = c .of-form .ensures
+    ∙ ap₂ (λ (form most : ℕ). ofForm (c .before .before .before .before .before .before .before .before .args .c) form most)
+    (c .before .before .before .before .form-at .ensures) (c .before .lesser .ensures) in
     search ladder depth 12
 
 any-unit-requires-3 : tie.Need-any-unit-requires-3
@@ -58,7 +60,9 @@ of-form-requires-2 c κs = search needs
 returns-5 : tie.Need-returns-5
 unfolding byForm spanOf
 returns-5 c =
-    let h = c .of-form2 .ensures ∙ ap₂ (λ (form most : ℕ). ofForm (c .before .before .before .before .before .before .before .before .before .args .c) form most) (c .before .before .before .before .before .form-at .ensures) (c .before .lesser2 .ensures) in
+    let h = c .of-form2 .ensures
+    ∙ ap₂ (λ (form most : ℕ). ofForm (c .before .before .before .before .before .before .before .before .before .args .c) form most)
+    (c .before .before .before .before .before .form-at .ensures) (c .before .lesser2 .ensures) in
     search ladder depth 12
 
 pub span-at-spec : {M : Type 1} → statement M
