@@ -18,7 +18,7 @@ use stretch::designation::designation_at;
 use units::Outcome;
 
 // The first of the sets of two octets.
-const FIRST_DOUBLE: u8 = 12;
+pub const FIRST_DOUBLE: u8 = 12;
 
 // Directions under which nothing is refused: one is open, and more may be opened.
 const FREE: Directions = Directions {
@@ -102,7 +102,7 @@ fn text_octet(b: u8) -> bool
 }
 
 // The set on the side of an octet.
-fn set_at(b: u8, gl: u8, gr: u8) -> u8
+pub fn set_at(b: u8, gl: u8, gr: u8) -> u8
     ensures { λ r. ⌜ r ≡ setAt b (sets gl gr) ⌝ }
 {
     if b < 0x80 {

@@ -96,6 +96,15 @@ module _ {s : List ℕ} {ys : List UnitRecord} where
   filled-by (lacks g h) = refl
   filled-by (accepts g c h) = rw (all-stored (checkOf s) g, c) (all s ys g h)
 
+  short-by-stored : {a : Answer} {l : List UnitRecord} → Case s ys a l → 0 < storedOf a → length s ≤ limit.octets
+  short-by-stored (refuses f) h = absurd (let e = none-stored (checkOf s) f in omega (arith, e, h))
+  short-by-stored (lacks g k) h = short s g
+  short-by-stored (accepts g c k) h = short s g
+
+-- a string of which records are stored is short
+pub short-stored : (s : List ℕ) (ys : List UnitRecord) → 0 < storedOf (readAnswer s (length ys)) → length s ≤ limit.octets
+short-stored s ys h = short-by-stored (read-cases s ys) h
+
 -- no more records are stored than there is room for
 pub stores : (s : List ℕ) (ys : List UnitRecord) → storedOf (readAnswer s (length ys)) ≤ length ys
 stores s ys = stores-by (read-cases s ys)
