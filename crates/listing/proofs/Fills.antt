@@ -8,9 +8,8 @@ use mathlib.Core.List.{List}
 use lib.ListN.{length, set}
 use Rattle.base.specs.Choice.{pick}
 use Rattle.base.specs.declared.Unit.{Unit as UnitRecord}
-use Rattle.listing.specs.Spans.{stands, nthOf}
+use Rattle.listing.specs.Spans.{stands, nthOf, countFrom, storedFrom}
 use Rattle.listing.specs.declared.spans.Span.{Span}
-use Rattle.listing.specs.Listing.{countFrom, storedFrom}
 
 module _ (s : List ℕ) (r : Span) where
   pub count-over : (m j : ℕ) → m ≡ 0 → countFrom s r m j ≡ j

@@ -11,12 +11,11 @@ use Rattle.base.specs.Limit as limit
 use Rattle.base.specs.declared.Unit.{Unit as UnitRecord}
 use Rattle.walks.proofs.Filling.{iter, iter-suc, fill-suc}
 use Rattle.cursor.specs.Cursor.{first, advanceOf}
-use Rattle.listing.specs.Spans.{spanOf, movedOf, stands, nthOf}
+use Rattle.listing.specs.Spans.{spanOf, movedOf, stands, nthOf, countFrom, storedFrom}
 use Rattle.cursor.specs.declared.Cursor.{Cursor}
 use Rattle.cursor.specs.declared.Turn.{Turn}
 use Rattle.listing.specs.declared.spans.Span.{Span}
 use Rattle.listing.proofs.Stood.{stood, span-turns, span-first, span-some}
-use Rattle.listing.specs.Listing.{countFrom, storedFrom}
 use Rattle.listing.proofs.Filled.{unitAt, after, filledTo}
 use Rattle.listing.proofs.Fills.{count-goes, count-least}
 

@@ -5,7 +5,7 @@ use mathlib.Core.Bool.{Bool, true, false}
 use mathlib.Core.Path.{_≡_}
 use mathlib.Core.List.{List}
 use lib.Dec.{eqb, leb, ltb}
-use lib.ListN.{length, getD}
+use lib.ListN.{length, getD, set}
 use Rattle.base.specs.Choice.{pick}
 use Rattle.base.specs.Kind as kind
 use Rattle.base.specs.declared.Unit.{Unit as UnitRecord}
@@ -121,3 +121,13 @@ nthOf s r j =
     pick (eqb (r .form) ones) (oneOf (r .place + j) (getD s (r .place + j) 0) (sets (r .gl) (r .gr)))
     (pick (eqb (r .form) left-twos) (twoAt s (r .place + 2 * j) (r .gl))
     (pick (eqb (r .form) right-twos) (twoAt s (r .place + 2 * j) (r .gr)) (r .unit)))
+
+-- of a span, of which j units are passed and m more may follow: how many there are
+unfoldable pub countFrom : List ℕ → Span → ℕ → ℕ → ℕ
+countFrom s r zero j = j
+countFrom s r (suc m) j = pick (stands s r j) (countFrom s r m (suc j)) j
+
+-- and the list, with those that follow stored to it
+unfoldable pub storedFrom : List ℕ → Span → ℕ → ℕ → ℕ → List UnitRecord → List UnitRecord
+storedFrom s r start zero j l = l
+storedFrom s r start (suc m) j l = pick (stands s r j) (storedFrom s r start m (suc j) (set l (start + j) (nthOf s r j))) l

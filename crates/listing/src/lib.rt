@@ -2,8 +2,8 @@
 ghost use mathlib.Core.Path.{_≡_};
 ghost use Prim.Native.Nat.{_+_, _≤_};
 ghost use lib.ListN.{length};
-ghost use Rattle.listing.specs.Spans.{Fits};
-ghost use Rattle.listing.specs.Listing.{readAnswer, storedOf, countFrom, storedFrom, listAfter};
+ghost use Rattle.listing.specs.Spans.{Fits, countFrom, storedFrom};
+ghost use Rattle.listing.specs.Listing.{readAnswer, storedOf, listAfter};
 use crate::spans::Span;
 use crate::spans::moved;
 use crate::spans::nth;

@@ -17,9 +17,8 @@ use Rattle.base.proofs.Unit as U
 use Rattle.base.proofs.Unit.Laws as U′
 use Rattle.walks.proofs.Body.{proved, 𝓣of, tests, frees-all}
 use Rattle.walks.proofs.Calls.{calls-value}
-use Rattle.listing.specs.Spans.{Fits, stands, nthOf}
+use Rattle.listing.specs.Spans.{Fits, stands, nthOf, countFrom, storedFrom}
 use Rattle.listing.specs.declared.spans.Span.{Span}
-use Rattle.listing.specs.Listing.{countFrom, storedFrom}
 use Rattle.listing.proofs.Fills.{count-over, count-stops, count-goes, count-most, stored-over, stored-stops, stored-goes}
 use Rattle.listing.proofs.spans.Span as R
 use Rattle.listing.proofs.spans.Span.Laws as R′

@@ -22,11 +22,11 @@ use Rattle.walks.proofs.Calls.{calls-value, gave-some}
 use Rattle.walks.proofs.Lent.{calls-lent}
 use Rattle.walks.proofs.Filling.{length-fill}
 use Rattle.cursor.specs.Cursor.{first}
-use Rattle.listing.specs.Spans.{ones, spanOf, movedOf}
+use Rattle.listing.specs.Spans.{ones, spanOf, movedOf, countFrom, storedFrom}
 use Rattle.cursor.specs.declared.Cursor.{Cursor}
 use Rattle.listing.specs.declared.spans.Span.{Span}
 use Rattle.listing.proofs.Stood.{span-fits, span-most}
-use Rattle.listing.specs.Listing.{readAnswer, storedOf, countFrom, storedFrom}
+use Rattle.listing.specs.Listing.{readAnswer, storedOf}
 use Rattle.listing.proofs.Filled.{unitAt, after, filled, stores, short-stored}
 use Rattle.listing.proofs.Fills.{count-most}
 use Rattle.listing.proofs.Spanned.{cur, got, list-next, cursor-next, count-some}
