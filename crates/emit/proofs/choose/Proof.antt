@@ -24,7 +24,11 @@ after-second-requires : tie.Need-after-second-requires
 after-second-requires c κs = search needs
 
 returns-3 : tie.Need-returns-3
-returns-3 c = second-stays _ _ _ _ (c .before .before .before .before .before .before .before .before .args .work .now) (c .before .before .before .before .before .before .before .before .args .row) (c .before .before .before .before .after-first .ensures) (c .before .after-second .ensures) (c .if3 .taken)
+returns-3 c =
+    let args = c .before .before .before .before .before .before .before .before .args in
+    let first = c .before .before .before .before .after-first .ensures in
+    let second = c .before .after-second .ensures in
+    second-stays _ _ _ _ (args .work .now) (args .row) first second (c .if3 .taken)
 
 add-if5 : tie.Need-add-if5
 add-if5 c = search needs
@@ -42,10 +46,22 @@ shared-slice-read-if5-2 : tie.Need-shared-slice-read-if5-2
 shared-slice-read-if5-2 c = search needs
 
 returns-4 : tie.Need-returns-4
-returns-4 c = character-first _ _ _ _ (c .before .before .before .before .before .before .before .before .before .before .before .before .args .work .now) (c .before .before .before .before .before .before .before .before .before .before .before .before .args .row) (c .before .before .before .before .before .before .before .before .after-first .ensures) (c .before .before .before .before .before .after-second .ensures) (c .before .before .before .before .before .before .before .if1 .left) (c .before .before .before .before .if3 .left) (c .before .before .before .if4 .taken) (c .if5 .taken)
+returns-4 c =
+    let args = c .before .before .before .before .before .before .before .before .before .before .before .before .args in
+    let first = c .before .before .before .before .before .before .before .before .after-first .ensures in
+    let second = c .before .before .before .before .before .after-second .ensures in
+    let first-moves = c .before .before .before .before .before .before .before .if1 .left in
+    let second-moves = c .before .before .before .before .if3 .left in
+    character-first _ _ _ _ (args .work .now) (args .row) first second first-moves second-moves (c .before .before .before .if4 .taken) (c .if5 .taken)
 
 returns-5 : tie.Need-returns-5
-returns-5 c = character-second _ _ _ _ (c .before .before .before .before .before .before .before .before .before .before .before .before .args .work .now) (c .before .before .before .before .before .before .before .before .before .before .before .before .args .row) (c .before .before .before .before .before .before .before .before .after-first .ensures) (c .before .before .before .before .before .after-second .ensures) (c .before .before .before .before .before .before .before .if1 .left) (c .before .before .before .before .if3 .left) (c .before .before .before .if4 .taken) (c .if5 .left)
+returns-5 c =
+    let args = c .before .before .before .before .before .before .before .before .before .before .before .before .args in
+    let first = c .before .before .before .before .before .before .before .before .after-first .ensures in
+    let second = c .before .before .before .before .before .after-second .ensures in
+    let first-moves = c .before .before .before .before .before .before .before .if1 .left in
+    let second-moves = c .before .before .before .before .if3 .left in
+    character-second _ _ _ _ (args .work .now) (args .row) first second first-moves second-moves (c .before .before .before .if4 .taken) (c .if5 .left)
 
 add-if6 : tie.Need-add-if6
 add-if6 c = search needs
@@ -63,10 +79,22 @@ shared-slice-read-if6-2 : tie.Need-shared-slice-read-if6-2
 shared-slice-read-if6-2 c = search needs
 
 returns-6 : tie.Need-returns-6
-returns-6 c = space-first _ _ _ _ (c .before .before .before .before .before .before .before .before .before .before .before .before .args .work .now) (c .before .before .before .before .before .before .before .before .before .before .before .before .args .row) (c .before .before .before .before .before .before .before .before .after-first .ensures) (c .before .before .before .before .before .after-second .ensures) (c .before .before .before .before .before .before .before .if1 .left) (c .before .before .before .before .if3 .left) (c .before .before .before .if4 .left) (c .if6 .taken)
+returns-6 c =
+    let args = c .before .before .before .before .before .before .before .before .before .before .before .before .args in
+    let first = c .before .before .before .before .before .before .before .before .after-first .ensures in
+    let second = c .before .before .before .before .before .after-second .ensures in
+    let first-moves = c .before .before .before .before .before .before .before .if1 .left in
+    let second-moves = c .before .before .before .before .if3 .left in
+    space-first _ _ _ _ (args .work .now) (args .row) first second first-moves second-moves (c .before .before .before .if4 .left) (c .if6 .taken)
 
 returns-7 : tie.Need-returns-7
-returns-7 c = space-second _ _ _ _ (c .before .before .before .before .before .before .before .before .before .before .before .before .args .work .now) (c .before .before .before .before .before .before .before .before .before .before .before .before .args .row) (c .before .before .before .before .before .before .before .before .after-first .ensures) (c .before .before .before .before .before .after-second .ensures) (c .before .before .before .before .before .before .before .if1 .left) (c .before .before .before .before .if3 .left) (c .before .before .before .if4 .left) (c .if6 .left)
+returns-7 c =
+    let args = c .before .before .before .before .before .before .before .before .before .before .before .before .args in
+    let first = c .before .before .before .before .before .before .before .before .after-first .ensures in
+    let second = c .before .before .before .before .before .after-second .ensures in
+    let first-moves = c .before .before .before .before .before .before .before .if1 .left in
+    let second-moves = c .before .before .before .before .if3 .left in
+    space-second _ _ _ _ (args .work .now) (args .row) first second first-moves second-moves (c .before .before .before .if4 .left) (c .if6 .left)
 
 pub choose-spec : {M : Type 1} → statement M
 choose-spec =

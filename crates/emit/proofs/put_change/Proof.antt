@@ -15,32 +15,42 @@ set-in-gr-requires c κs = search needs
 
 put-designation-requires : tie.Need-put-designation-requires
 put-designation-requires c κs =
-    let e = change-gr (c .before .before .before .before .before .args .k) (c .before .before .before .before .before .args .j) _ (c .before .before .before .if1 .left) (c .before .before .if2 .taken) (c .before .set-in-gr .ensures .0) in
-    (c .before .set-in-gr .ensures .1, omega (arith, ap length e, c .before .before .before .before .before .pre .2))
+    let args = c .before .before .before .before .before .args in
+    let set = c .before .set-in-gr .ensures in
+    let e = change-gr (args .k) (args .j) _ (c .before .before .before .if1 .left) (c .before .before .if2 .taken) (set .0) in
+    (set .1, omega (arith, ap length e, c .before .before .before .before .before .pre .2))
 
 same-length : tie.Need-same-length
 same-length c = search needs
 
 returns-2 : tie.Need-returns-2
 returns-2 c =
-    let e = change-gr (c .before .before .before .before .before .before .before .before .args .k) (c .before .before .before .before .before .before .before .before .args .j) _ (c .before .before .before .before .before .before .if1 .left) (c .before .before .before .before .before .if2 .taken) (c .before .before .before .before .set-in-gr .ensures .0) in
-    written-as e (c .before .before .put-designation .ensures)
+    let args = c .before .before .before .before .before .before .before .before .args in
+    let differ = c .before .before .before .before .before .before .if1 .left in
+    let side = c .before .before .before .before .before .if2 .taken in
+    let set = c .before .before .before .before .set-in-gr .ensures .0 in
+    written-as (change-gr (args .k) (args .j) _ differ side set) (c .before .before .put-designation .ensures)
 
 set-in-gl-requires : tie.Need-set-in-gl-requires
 set-in-gl-requires c κs = search needs
 
 put-designation-requires-2 : tie.Need-put-designation-requires-2
 put-designation-requires-2 c κs =
-    let e = change-gl (c .before .before .before .before .before .args .k) (c .before .before .before .before .before .args .j) _ (c .before .before .before .if1 .left) (c .before .before .if2 .left) (c .before .set-in-gl .ensures .0) in
-    (c .before .set-in-gl .ensures .1, omega (arith, ap length e, c .before .before .before .before .before .pre .2))
+    let args = c .before .before .before .before .before .args in
+    let set = c .before .set-in-gl .ensures in
+    let e = change-gl (args .k) (args .j) _ (c .before .before .before .if1 .left) (c .before .before .if2 .left) (set .0) in
+    (set .1, omega (arith, ap length e, c .before .before .before .before .before .pre .2))
 
 same-length-2 : tie.Need-same-length-2
 same-length-2 c = search needs
 
 returns-3 : tie.Need-returns-3
 returns-3 c =
-    let e = change-gl (c .before .before .before .before .before .before .before .before .args .k) (c .before .before .before .before .before .before .before .before .args .j) _ (c .before .before .before .before .before .before .if1 .left) (c .before .before .before .before .before .if2 .left) (c .before .before .before .before .set-in-gl .ensures .0) in
-    written-as e (c .before .before .put-designation2 .ensures)
+    let args = c .before .before .before .before .before .before .before .before .args in
+    let differ = c .before .before .before .before .before .before .if1 .left in
+    let side = c .before .before .before .before .before .if2 .left in
+    let set = c .before .before .before .before .set-in-gl .ensures .0 in
+    written-as (change-gl (args .k) (args .j) _ differ side set) (c .before .before .put-designation2 .ensures)
 
 pub put-change-spec : {M : Type 1} → statement M
 put-change-spec =

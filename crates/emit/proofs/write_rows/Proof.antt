@@ -8,7 +8,8 @@ use Rattle.emit.proofs.write_rows.Tie as tie
 
 returns : tie.Need-returns
 returns c =
-    let w = wrote-many (c .before .before .before .before .args .segments .now) (c .before .before .before .before .args .work .now) (c .before .before .before .before .args .n) (c .before .before .before .before .args .out .now) (c .if1 .taken) in
+    let args = c .before .before .before .before .args in
+    let w = wrote-many (args .segments .now) (args .work .now) (args .n) (args .out .now) (c .if1 .taken) in
     (w .answers, w .output, refl)
 
 add-if2 : tie.Need-add-if2
@@ -19,7 +20,8 @@ mul-if2 c = search needs
 
 returns-2 : tie.Need-returns-2
 returns-2 c =
-    let w = wrote-no-work (c .before .before .before .before .before .args .segments .now) (c .before .before .before .before .before .args .work .now) (c .before .before .before .before .before .args .n) (c .before .before .before .before .before .args .out .now) (c .before .if1 .left) (c .if2 .taken) in
+    let args = c .before .before .before .before .before .args in
+    let w = wrote-no-work (args .segments .now) (args .work .now) (args .n) (args .out .now) (c .before .if1 .left) (c .if2 .taken) in
     (w .answers, w .output, refl)
 
 plan-requires : tie.Need-plan-requires
@@ -30,8 +32,11 @@ same-length c = search needs
 
 returns-3 : tie.Need-returns-3
 returns-3 c =
-    let p = planned-all _ (c .before .before .before .before .before .before .before .before .before .before .args .work .now) _ _ _ (c .before .before .before .before .before .before .if1 .left) (c .before .before .before .before .before .if2 .left) (c .before .before .before .plan .ensures) in
-    let w = wrote-long (c .before .before .before .before .before .before .before .before .before .before .args .segments .now) (c .before .before .before .before .before .before .before .before .before .before .args .work .now) (c .before .before .before .before .before .before .before .before .before .before .args .n) (c .before .before .before .before .before .before .before .before .before .before .args .out .now) (c .before .before .before .before .before .before .if1 .left) (c .before .before .before .before .before .if2 .left) _ (p .0) (c .if3 .taken) in
+    let args = c .before .before .before .before .before .before .before .before .before .before .args in
+    let few = c .before .before .before .before .before .before .if1 .left in
+    let enough = c .before .before .before .before .before .if2 .left in
+    let p = planned-all _ (args .work .now) _ _ _ few enough (c .before .before .before .plan .ensures) in
+    let w = wrote-long (args .segments .now) (args .work .now) (args .n) (args .out .now) few enough _ (p .0) (c .if3 .taken) in
     (w .answers, w .output, p .1 .long)
 
 same-length-2 : tie.Need-same-length-2
@@ -39,14 +44,24 @@ same-length-2 c = search needs
 
 returns-4 : tie.Need-returns-4
 returns-4 c =
-    let p = planned-all _ (c .before .before .before .before .before .before .before .before .before .before .before .args .work .now) _ _ _ (c .before .before .before .before .before .before .before .if1 .left) (c .before .before .before .before .before .before .if2 .left) (c .before .before .before .before .plan .ensures) in
-    let w = wrote-room (c .before .before .before .before .before .before .before .before .before .before .before .args .segments .now) (c .before .before .before .before .before .before .before .before .before .before .before .args .work .now) (c .before .before .before .before .before .before .before .before .before .before .before .args .n) (c .before .before .before .before .before .before .before .before .before .before .before .args .out .now) (c .before .before .before .before .before .before .before .if1 .left) (c .before .before .before .before .before .before .if2 .left) _ (p .0) (c .before .if3 .left) (c .if4 .taken) in
+    let args = c .before .before .before .before .before .before .before .before .before .before .before .args in
+    let few = c .before .before .before .before .before .before .before .if1 .left in
+    let enough = c .before .before .before .before .before .before .if2 .left in
+    let p = planned-all _ (args .work .now) _ _ _ few enough (c .before .before .before .before .plan .ensures) in
+    let w = wrote-room (args .segments .now) (args .work .now) (args .n) (args .out .now) few enough _ (p .0) (c .before .if3 .left) (c .if4 .taken) in
     (w .answers, w .output, p .1 .long)
 
 emit-requires : tie.Need-emit-requires
 emit-requires c κs =
-    let p = planned-all _ (c .before .before .before .before .before .before .before .before .before .before .before .before .before .args .work .now) _ _ _ (c .before .before .before .before .before .before .before .before .before .if1 .left) (c .before .before .before .before .before .before .before .before .if2 .left) (c .before .before .before .before .before .before .plan .ensures) in
-    (c .before .before .before .before .before .before .before .before .before .if1 .left, omega (arith, c .before .before .before .before .before .before .before .before .if2 .left, p .1 .long), ready _ _ _ _ (p .1), room-for (c .before .before .before .before .before .before .before .before .before .before .before .before .before .args .segments .now) (c .before .before .before .before .before .before .before .before .before .before .before .before .before .args .work .now) (c .before .before .before .before .before .before .before .before .before .before .before .before .before .args .n) (c .before .before .before .before .before .before .before .before .before .before .before .before .before .args .out .now) (c .before .before .before .before .before .before .before .before .before .if1 .left) (c .before .before .before .before .before .before .before .before .if2 .left) _ (p .0) _ (p .1 .kept) (c .before .before .if4 .left))
+    let args = c .before .before .before .before .before .before .before .before .before .before .before .before .before .args in
+    let few = c .before .before .before .before .before .before .before .before .before .if1 .left in
+    let enough = c .before .before .before .before .before .before .before .before .if2 .left in
+    let p = planned-all _ (args .work .now) _ _ _ few enough (c .before .before .before .before .before .before .plan .ensures) in (
+      few,
+      omega (arith, enough, p .1 .long),
+      ready _ _ _ _ (p .1),
+      room-for (args .segments .now) (args .work .now) (args .n) (args .out .now) few enough _ (p .0) _ (p .1 .kept) (c .before .before .if4 .left),
+    )
 
 same-length-3 : tie.Need-same-length-3
 same-length-3 c = search needs
@@ -56,8 +71,14 @@ same-length-4 c = search needs
 
 returns-5 : tie.Need-returns-5
 returns-5 c =
-    let p = planned-all _ (c .before .before .before .before .before .before .before .before .before .before .before .before .before .before .before .before .args .work .now) _ _ _ (c .before .before .before .before .before .before .before .before .before .before .before .before .if1 .left) (c .before .before .before .before .before .before .before .before .before .before .before .if2 .left) (c .before .before .before .before .before .before .before .before .before .plan .ensures) in
-    let w = wrote-all (c .before .before .before .before .before .before .before .before .before .before .before .before .before .before .before .before .args .segments .now) (c .before .before .before .before .before .before .before .before .before .before .before .before .before .before .before .before .args .work .now) (c .before .before .before .before .before .before .before .before .before .before .before .before .before .before .before .before .args .n) (c .before .before .before .before .before .before .before .before .before .before .before .before .before .before .before .before .args .out .now) (c .before .before .before .before .before .before .before .before .before .before .before .before .if1 .left) (c .before .before .before .before .before .before .before .before .before .before .before .if2 .left) _ (p .0) _ _ _ (p .1 .kept) (c .before .before .before .before .before .before .if3 .left) (c .before .before .before .before .before .if4 .left) (c .before .before .emit .ensures) in
+    let args = c .before .before .before .before .before .before .before .before .before .before .before .before .before .before .before .before .args in
+    let few = c .before .before .before .before .before .before .before .before .before .before .before .before .if1 .left in
+    let enough = c .before .before .before .before .before .before .before .before .before .before .before .if2 .left in
+    let p = planned-all _ (args .work .now) _ _ _ few enough (c .before .before .before .before .before .before .before .before .before .plan .ensures) in
+    let short = c .before .before .before .before .before .before .if3 .left in
+    let room = c .before .before .before .before .before .if4 .left in
+    let written = c .before .before .emit .ensures in
+    let w = wrote-all (args .segments .now) (args .work .now) (args .n) (args .out .now) few enough _ (p .0) _ _ _ (p .1 .kept) short room written in
     (w .answers, w .output, p .1 .long)
 
 pub write-rows-spec : {M : Type 1} → statement M

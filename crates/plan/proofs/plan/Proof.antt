@@ -11,7 +11,9 @@ use Rattle.plan.proofs.plan.Statement.{statement}
 use Rattle.plan.proofs.plan.Tie as tie
 
 abbrev Inv-loop : tie.InvT-loop
-Inv-loop work₀ n segments m fours threes left right cur₀ base₀ last₀ i₀ work cur base last i = (i ≤ rowsOf n (length work₀)) × (length cur ≡ 80) × Known segments work₀ (rowsOf n (length work₀)) i base last cur × Planned segments work₀ (rowsOf n (length work₀)) i work
+Inv-loop work₀ n segments m fours threes left right cur₀ base₀ last₀ i₀ work cur base last i =
+    (i ≤ rowsOf n (length work₀)) × (length cur ≡ 80) × Known segments work₀ (rowsOf n (length work₀)) i base last cur
+    × Planned segments work₀ (rowsOf n (length work₀)) i work
 
 abbrev μ-loop : tie.MeasureT-loop
 μ-loop work₀ n segments m fours threes left right cur₀ base₀ last₀ i₀ work cur base last i = i
@@ -34,52 +36,89 @@ sub-i : tie.Need-sub-i Inv-loop μ-loop
 sub-i c = search needs
 
 mul-row : tie.Need-mul-row Inv-loop μ-loop
-mul-row c = omega (arith, c .before .before .rows-of .ensures .0, c .before .before .rows-of .ensures .1, c .before .before .rows-of .ensures .2, c .before .loop .inv .0)
+mul-row c =
+    let rows = c .before .before .rows-of .ensures in
+    let inv = c .before .loop .inv in
+    omega (arith, rows .0, rows .1, rows .2, inv .0)
 
 size-from-requires : tie.Need-size-from-requires Inv-loop μ-loop
-size-from-requires c κs = omega (arith, c .before .before .before .rows-of .ensures .0, c .before .before .before .rows-of .ensures .1, c .before .before .before .rows-of .ensures .2, c .before .before .loop .inv .0, c .before .before .loop .inv .3 .long)
+size-from-requires c κs =
+    let rows = c .before .before .before .rows-of .ensures in
+    let inv = c .before .before .loop .inv in
+    omega (arith, rows .0, rows .1, rows .2, inv .0, inv .3 .long)
 
 add-class-of : tie.Need-add-class-of Inv-loop μ-loop
-add-class-of c = omega (arith, c .before .before .before .before .rows-of .ensures .0, c .before .before .before .before .rows-of .ensures .1, c .before .before .before .before .rows-of .ensures .2, c .before .before .before .loop .inv .0)
+add-class-of c =
+    let rows = c .before .before .before .before .rows-of .ensures in
+    let inv = c .before .before .before .loop .inv in
+    omega (arith, rows .0, rows .1, rows .2, inv .0)
 
 slice-read-class-of : tie.Need-slice-read-class-of Inv-loop μ-loop
-slice-read-class-of c = omega (arith, c .before .before .before .before .before .rows-of .ensures .0, c .before .before .before .before .before .rows-of .ensures .1, c .before .before .before .before .before .rows-of .ensures .2, c .before .before .before .before .loop .inv .0, c .before .before .before .before .loop .inv .3 .long)
+slice-read-class-of c =
+    let rows = c .before .before .before .before .before .rows-of .ensures in
+    let inv = c .before .before .before .before .loop .inv in
+    omega (arith, rows .0, rows .1, rows .2, inv .0, inv .3 .long)
 
 class-of-requires : tie.Need-class-of-requires Inv-loop μ-loop
 class-of-requires c κs = search needs
 
 keep-requires : tie.Need-keep-requires Inv-loop μ-loop
-keep-requires c κs = (c .before .before .class-of .ensures .1, omega (arith, c .before .before .before .before .before .before .before .before .rows-of .ensures .0, c .before .before .before .before .before .before .before .before .rows-of .ensures .1, c .before .before .before .before .before .before .before .before .rows-of .ensures .2, c .before .before .before .before .before .before .before .loop .inv .0, c .before .before .before .before .before .before .before .loop .inv .3 .long))
+keep-requires c κs =
+    let rows = c .before .before .before .before .before .before .before .before .rows-of .ensures in
+    let inv = c .before .before .before .before .before .before .before .loop .inv in
+    (c .before .before .class-of .ensures .1, omega (arith, rows .0, rows .1, rows .2, inv .0, inv .3 .long))
 
 unit-before-requires : tie.Need-unit-before-requires Inv-loop μ-loop
-unit-before-requires c κs = (
-  c .before .before .before .before .before .before .before .before .before .before .class-of .ensures .1,
-  c .before .before .before .before .before .before .before .before .before .before .before .before .before .before .before .loop .inv .2 .low,
-  known-smooth _ (c .before .before .before .before .before .before .before .before .before .before .before .before .before .before .before .loop .inv .1) (c .before .before .before .before .before .before .before .before .before .before .before .before .before .before .before .loop .inv .2) (c .before .before .before .before .before .before .before .before .before .before .class-of .ensures .1),
-  refl,
-  refl,
-  turn-near _ _ _ _ _ _ _ _ _ (omega arith) (c .before .before .before .before .before .before .before .before .before .before .before .before .before .before .before .loop .inv .0) (c .before .before .before .before .before .before .before .before .before .before .before .before .before .before .before .loop .inv .2) (c .before .before .before .before .before .before .before .before .before .before .before .before .before .before .before .loop .inv .3) _ _ (c .before .before .before .before .before .before .before .before .before .before .class-of .ensures .0) (c .before .before .before .before .before .before .before .before .before .before .before .before .size-from .ensures .0),
-  c .before .before .before .before .before .before .before .before .before .before .before .before .before .before .before .loop .inv .1,
-  refl,
-  refl,
-)
+unit-before-requires c κs =
+    let inv = c .before .before .before .before .before .before .before .before .before .before .before .before .before .before .before .loop .inv in
+    let size = c .before .before .before .before .before .before .before .before .before .before .before .before .size-from .ensures .0 in
+    let class = c .before .before .before .before .before .before .before .before .before .before .class-of .ensures in (
+      class .1,
+      inv .2 .low,
+      known-smooth _ (inv .1) (inv .2) (class .1),
+      refl,
+      refl,
+      turn-near _ _ _ _ _ _ _ _ _ (omega arith) (inv .0) (inv .2) (inv .3) _ _ (class .0) size,
+      inv .1,
+      refl,
+      refl,
+    )
 
 add-base : tie.Need-add-base Inv-loop μ-loop
-add-base c = omega (arith, known-bound (λ q. c .before .before .before .before .before .before .before .before .before .before .before .before .before .before .before .before .before .before .before .slice-known .given q .fits) (omega (arith, c .before .before .before .before .before .before .before .before .before .before .before .before .before .before .before .before .before .rows-of .ensures .0, c .before .before .before .before .before .before .before .before .before .before .before .before .before .before .before .before .before .rows-of .ensures .1)) (c .before .before .before .before .before .before .before .before .before .before .before .before .before .before .before .before .loop .inv .0) (c .before .before .before .before .before .before .before .before .before .before .before .before .before .before .before .before .loop .inv .2), c .before .before .before .before .before .before .before .before .before .before .before .before .before .size-from .ensures .1)
+add-base c =
+    let top = c .before .before .before .before .before .before .before .before .before .before .before .before .before .before .before .before in
+    let size = c .before .before .before .before .before .before .before .before .before .before .before .before .before .size-from .ensures .1 in
+    let rows = top .before .rows-of .ensures in
+    let inv = top .loop .inv in
+    let known = top .before .before .before .slice-known .given in
+    let bound = known-bound (λ q. known q .fits) (omega (arith, rows .0, rows .1)) (inv .0) (inv .2) in
+    omega (arith, bound, size)
 
 add-base-2 : tie.Need-add-base-2 Inv-loop μ-loop
-add-base-2 c = omega (arith, known-bound (λ q. c .before .before .before .before .before .before .before .before .before .before .before .before .before .before .before .before .before .before .before .before .slice-known .given q .fits) (omega (arith, c .before .before .before .before .before .before .before .before .before .before .before .before .before .before .before .before .before .before .rows-of .ensures .0, c .before .before .before .before .before .before .before .before .before .before .before .before .before .before .before .before .before .before .rows-of .ensures .1)) (c .before .before .before .before .before .before .before .before .before .before .before .before .before .before .before .before .before .loop .inv .0) (c .before .before .before .before .before .before .before .before .before .before .before .before .before .before .before .before .before .loop .inv .2), c .before .before .before .before .before .before .before .before .before .before .before .before .before .before .size-from .ensures .1, c .before .unit-before .ensures .small)
+add-base-2 c =
+    let top = c .before .before .before .before .before .before .before .before .before .before .before .before .before .before .before .before .before in
+    let size = c .before .before .before .before .before .before .before .before .before .before .before .before .before .before .size-from .ensures .1 in
+    let rows = top .before .rows-of .ensures in
+    let inv = top .loop .inv in
+    let known = top .before .before .before .slice-known .given in
+    let bound = known-bound (λ q. known q .fits) (omega (arith, rows .0, rows .1)) (inv .0) (inv .2) in
+    omega (arith, bound, size, c .before .unit-before .ensures .small)
 
 loop-less : tie.Need-loop-less Inv-loop μ-loop
 loop-less c = search needs
 
 loop-again : tie.Need-loop-again Inv-loop μ-loop
-loop-again c = (
-  omega arith,
-  c .before .unit-before .ensures .long ∙ c .before .before .before .before .before .before .before .before .before .before .before .before .before .before .before .before .before .loop .inv .1,
-  turn-known _ _ _ _ _ _ _ _ _ (omega arith) (c .before .before .before .before .before .before .before .before .before .before .before .before .before .before .before .before .before .loop .inv .0) (c .before .before .before .before .before .before .before .before .before .before .before .before .before .before .before .before .before .loop .inv .2) (c .before .before .before .before .before .before .before .before .before .before .before .before .before .before .before .before .before .loop .inv .3) _ _ (c .before .before .before .before .before .before .before .before .before .before .before .before .class-of .ensures .0) (c .before .before .before .before .before .before .before .before .before .before .before .before .before .before .size-from .ensures .0) _ _ _ (c .before .unit-before .ensures),
-  turn-planned _ _ _ _ _ _ _ _ _ (omega arith) (c .before .before .before .before .before .before .before .before .before .before .before .before .before .before .before .before .before .loop .inv .0) (c .before .before .before .before .before .before .before .before .before .before .before .before .before .before .before .before .before .loop .inv .2) (c .before .before .before .before .before .before .before .before .before .before .before .before .before .before .before .before .before .loop .inv .3) _ _ (c .before .before .before .before .before .before .before .before .before .before .before .before .class-of .ensures .0) (c .before .before .before .before .before .before .before .before .before .before .before .before .before .before .size-from .ensures .0) _ (c .before .before .before .before .before .before .before .before .before .keep .ensures),
-)
+loop-again c =
+    let inv = c .before .before .before .before .before .before .before .before .before .before .before .before .before .before .before .before .before .loop .inv in
+    let size = c .before .before .before .before .before .before .before .before .before .before .before .before .before .before .size-from .ensures .0 in
+    let class = c .before .before .before .before .before .before .before .before .before .before .before .before .class-of .ensures .0 in
+    let kept = c .before .before .before .before .before .before .before .before .before .keep .ensures in
+    let turned = c .before .unit-before .ensures in (
+      omega arith,
+      turned .long ∙ inv .1,
+      turn-known _ _ _ _ _ _ _ _ _ (omega arith) (inv .0) (inv .2) (inv .3) _ _ class size _ _ _ turned,
+      turn-planned _ _ _ _ _ _ _ _ _ (omega arith) (inv .0) (inv .2) (inv .3) _ _ class size _ kept,
+    )
 
 array-read-result : tie.Need-array-read-result Inv-loop μ-loop
 array-read-result c = search needs
@@ -88,7 +127,13 @@ cast-result : tie.Need-cast-result Inv-loop μ-loop
 cast-result c = omega (arith, known-low (c .before .loop .inv .1) (c .before .loop .inv .2) 1)
 
 add-result : tie.Need-add-result Inv-loop μ-loop
-add-result c = omega (arith, known-bound (λ q. c .before .before .before .before .slice-known .given q .fits) (omega (arith, c .before .before .rows-of .ensures .0, c .before .before .rows-of .ensures .1)) (c .before .loop .inv .0) (c .before .loop .inv .2), known-low (c .before .loop .inv .1) (c .before .loop .inv .2) 1)
+add-result c =
+    let top = c .before in
+    let rows = top .before .rows-of .ensures in
+    let inv = top .loop .inv in
+    let known = top .before .before .before .slice-known .given in
+    let bound = known-bound (λ q. known q .fits) (omega (arith, rows .0, rows .1)) (inv .0) (inv .2) in
+    omega (arith, bound, known-low (inv .1) (inv .2) 1)
 
 same-length : tie.Need-same-length Inv-loop μ-loop
 same-length c = search needs

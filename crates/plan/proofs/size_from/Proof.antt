@@ -86,9 +86,18 @@ add-result c = search needs
 returns-6 : tie.Need-returns-6
 unfolding sizeOf
 returns-6 c =
-    let e = c .part-of .ensures ∙ ap₂ (λ (n s : ℕ). partOf n s (c .before .before .before .before .before .before .before .before .before .before .before .before .before .before .before .before .before .args .m)) (c .before .before .before .before .before .before .count-of .ensures .0) (c .before .four-octets .ensures) in
-    let six = on-ge _ _ _ _ _ (c .before .before .before .before .before .before .before .before .before .before .if5 .left) (on-lt _ _ _ _ _ (c .before .before .before .before .before .before .before .before .before .if6 .taken) (ap (λ (p : ℕ). 6 + p) e)) in
-    (on-ge _ _ _ _ _ (c .before .before .before .before .before .before .before .before .before .before .before .before .before .before .if1 .left) (on-ge _ _ _ _ _ (c .before .before .before .before .before .before .before .before .before .before .before .before .before .if2 .left) (on-ge _ _ _ _ _ (c .before .before .before .before .before .before .before .before .before .before .before .before .if3 .left) (on-ge _ _ _ _ _ (c .before .before .before .before .before .before .before .before .before .before .before .if4 .left) six))), omega (arith, c .part-of .ensures, c .before .before .before .before .before .before .count-of .ensures .1))
+    let m = c .before .before .before .before .before .before .before .before .before .before .before .before .before .before .before .before .before .args .m in
+    let past1 = c .before .before .before .before .before .before .before .before .before .before .before .before .before .before .if1 .left in
+    let past2 = c .before .before .before .before .before .before .before .before .before .before .before .before .before .if2 .left in
+    let past3 = c .before .before .before .before .before .before .before .before .before .before .before .before .if3 .left in
+    let past4 = c .before .before .before .before .before .before .before .before .before .before .before .if4 .left in
+    let past5 = c .before .before .before .before .before .before .before .before .before .before .if5 .left in
+    let segment = c .before .before .before .before .before .before .before .before .before .if6 .taken in
+    let count = c .before .before .before .before .before .before .count-of .ensures in
+    let part = c .part-of .ensures ∙ ap₂ (λ (n s : ℕ). partOf n s m) (count .0) (c .before .four-octets .ensures) in
+    let six = on-ge _ _ _ _ _ past5 (on-lt _ _ _ _ _ segment (ap (λ (p : ℕ). 6 + p) part)) in
+    let size = on-ge _ _ _ _ _ past1 (on-ge _ _ _ _ _ past2 (on-ge _ _ _ _ _ past3 (on-ge _ _ _ _ _ past4 six))) in
+    (size, omega (arith, c .part-of .ensures, count .1))
 
 returns-7 : tie.Need-returns-7
 unfolding sizeOf

@@ -35,7 +35,8 @@ designation-at-requires c κs = search needs
 
 add-at : tie.Need-add-at Inv-loop μ-loop
 add-at c =
-    let h = turn-designation _ _ _ _ (c .before .before .before .before .before .before .loop .inv) _ (c .before .before .designation-at .ensures) (c .before .if3 .taken) in
+    let head = c .before .before .before .before .before .before .loop .inv in
+    let h = turn-designation _ _ _ _ head _ (c .before .before .designation-at .ensures) (c .before .if3 .taken) in
     omega (arith, h .fits)
 
 designated-requires : tie.Need-designated-requires Inv-loop μ-loop
@@ -43,32 +44,42 @@ designated-requires c κs = search needs
 
 loop-less : tie.Need-loop-less Inv-loop μ-loop
 loop-less c =
-    let h = turn-designation _ _ _ _ (c .before .before .before .before .before .before .before .loop .inv) _ (c .before .before .before .designation-at .ensures) (c .before .before .if3 .taken) in
+    let head = c .before .before .before .before .before .before .before .loop .inv in
+    let h = turn-designation _ _ _ _ head _ (c .before .before .before .designation-at .ensures) (c .before .before .if3 .taken) in
     omega (arith, h .fits, h .some)
 
 loop-again : tie.Need-loop-again Inv-loop μ-loop
-loop-again c = rw (c .designated .ensures) (turn-designation _ _ _ _ (c .before .before .before .before .before .before .before .loop .inv) _ (c .before .before .before .designation-at .ensures) (c .before .before .if3 .taken) .head)
+loop-again c =
+    let head = c .before .before .before .before .before .before .before .loop .inv in
+    let h = turn-designation _ _ _ _ head _ (c .before .before .before .designation-at .ensures) (c .before .before .if3 .taken) in
+    rw (c .designated .ensures) (h .head)
 
 stretch-at-requires : tie.Need-stretch-at-requires Inv-loop μ-loop
 stretch-at-requires c κs = search needs
 
 add-at-2 : tie.Need-add-at-2 Inv-loop μ-loop
 add-at-2 c =
-    let h = turn-stretch _ _ _ _ (c .before .before .before .before .before .loop .inv) _ (c .before .stretch-at .ensures) (c .if4 .taken) in
+    let head = c .before .before .before .before .before .loop .inv in
+    let h = turn-stretch _ _ _ _ head _ (c .before .stretch-at .ensures) (c .if4 .taken) in
     omega (arith, h .fits)
 
 add-count : tie.Need-add-count Inv-loop μ-loop
 add-count c =
-    let h = turn-stretch _ _ _ _ (c .before .before .before .before .before .before .loop .inv) _ (c .before .before .stretch-at .ensures) (c .before .if4 .taken) in
+    let head = c .before .before .before .before .before .before .loop .inv in
+    let h = turn-stretch _ _ _ _ head _ (c .before .before .stretch-at .ensures) (c .before .if4 .taken) in
     omega (arith, h .head .few, h .fits)
 
 loop-less-2 : tie.Need-loop-less-2 Inv-loop μ-loop
 loop-less-2 c =
-    let h = turn-stretch _ _ _ _ (c .before .before .before .before .before .before .loop .inv) _ (c .before .before .stretch-at .ensures) (c .before .if4 .taken) in
+    let head = c .before .before .before .before .before .before .loop .inv in
+    let h = turn-stretch _ _ _ _ head _ (c .before .before .stretch-at .ensures) (c .before .if4 .taken) in
     omega (arith, h .fits, h .some)
 
 loop-again-2 : tie.Need-loop-again-2 Inv-loop μ-loop
-loop-again-2 c = turn-stretch _ _ _ _ (c .before .before .before .before .before .before .loop .inv) _ (c .before .before .stretch-at .ensures) (c .before .if4 .taken) .head
+loop-again-2 c =
+    let head = c .before .before .before .before .before .before .loop .inv in
+    let h = turn-stretch _ _ _ _ head _ (c .before .before .stretch-at .ensures) (c .before .if4 .taken) in
+    h .head
 
 element-requires : tie.Need-element-requires Inv-loop μ-loop
 element-requires c κs = search needs
@@ -81,69 +92,91 @@ accepted-requires c κs = search needs
 
 returns-2 : tie.Need-returns-2 Inv-loop μ-loop
 unfolding checkOf
-returns-2 c = on-ge _ _ _ _ _ (c .before .before .before .before .before .before .before .before .if1 .left) (c .accepted .ensures ∙ turn-end _ _ _ _ _ (c .before .before .before .element .ensures) (c .before .before .before .before .before .before .before .loop .inv) (c .before .enum-told .given .1))
+returns-2 c =
+    let head = c .before .before .before .before .before .before .before .loop .inv in
+    let end = turn-end _ _ _ _ _ (c .before .before .before .element .ensures) head (c .before .enum-told .given .1) in
+    on-ge _ _ _ _ _ (c .before .before .before .before .before .before .before .before .if1 .left) (c .accepted .ensures ∙ end)
 
 enum-known-e : tie.Need-enum-known-e Inv-loop μ-loop
 enum-known-e c = search needs
 
 add-place : tie.Need-add-place Inv-loop μ-loop
 add-place c =
-    let h = turn-short _ _ _ _ _ (c .before .before .before .element .ensures) (c .before .before .before .before .before .before .before .loop .inv) (c .before .e .given .1) in
-    omega (arith, c .before .before .before .before .before .before .before .loop .inv .within)
+    let head = c .before .before .before .before .before .before .before .loop .inv in
+    let h = turn-short _ _ _ _ _ (c .before .before .before .element .ensures) head (c .before .e .given .1) in
+    omega (arith, h, head .within)
 
 refused-requires-2 : tie.Need-refused-requires-2 Inv-loop μ-loop
 refused-requires-2 c κs = search needs
 
 returns-3 : tie.Need-returns-3 Inv-loop μ-loop
 unfolding checkOf
-returns-3 c = on-ge _ _ _ _ _ (c .before .before .before .before .before .before .before .before .before .if1 .left) (c .refused2 .ensures ∙ turn-refused _ _ _ _ _ (c .before .before .before .before .element .ensures) (c .before .before .before .before .before .before .before .before .loop .inv) (c .before .before .e .given .1))
+returns-3 c =
+    let head = c .before .before .before .before .before .before .before .before .loop .inv in
+    let refused = turn-refused _ _ _ _ _ (c .before .before .before .before .element .ensures) head (c .before .before .e .given .1) in
+    on-ge _ _ _ _ _ (c .before .before .before .before .before .before .before .before .before .if1 .left) (c .refused2 .ensures ∙ refused)
 
 enum-known-e-2 : tie.Need-enum-known-e-2 Inv-loop μ-loop
 enum-known-e-2 c = search needs
 
 add-at-3 : tie.Need-add-at-3 Inv-loop μ-loop
 add-at-3 c =
-    let h = turn-silent _ _ _ _ _ (c .before .before .before .element .ensures) (c .before .before .before .before .before .before .before .loop .inv) (c .before .e2 .given .1) in
+    let head = c .before .before .before .before .before .before .before .loop .inv in
+    let h = turn-silent _ _ _ _ _ (c .before .before .before .element .ensures) head (c .before .e2 .given .1) in
     omega (arith, h .fits)
 
 loop-less-3 : tie.Need-loop-less-3 Inv-loop μ-loop
 loop-less-3 c =
-    let h = turn-silent _ _ _ _ _ (c .before .before .before .element .ensures) (c .before .before .before .before .before .before .before .loop .inv) (c .before .e2 .given .1) in
+    let head = c .before .before .before .before .before .before .before .loop .inv in
+    let h = turn-silent _ _ _ _ _ (c .before .before .before .element .ensures) head (c .before .e2 .given .1) in
     omega (arith, h .fits, h .some)
 
 loop-again-3 : tie.Need-loop-again-3 Inv-loop μ-loop
-loop-again-3 c = turn-silent _ _ _ _ _ (c .before .before .before .element .ensures) (c .before .before .before .before .before .before .before .loop .inv) (c .before .e2 .given .1) .head
+loop-again-3 c =
+    let head = c .before .before .before .before .before .before .before .loop .inv in
+    let h = turn-silent _ _ _ _ _ (c .before .before .before .element .ensures) head (c .before .e2 .given .1) in
+    h .head
 
 enum-known-e-3 : tie.Need-enum-known-e-3 Inv-loop μ-loop
 enum-known-e-3 c = search needs
 
 add-at-4 : tie.Need-add-at-4 Inv-loop μ-loop
 add-at-4 c =
-    let h = turn-found _ _ _ _ _ (c .before .before .before .before .element .ensures) (c .before .before .before .before .before .before .before .before .loop .inv) (c .before .before .e3 .given .1) in
+    let head = c .before .before .before .before .before .before .before .before .loop .inv in
+    let h = turn-found _ _ _ _ _ (c .before .before .before .before .element .ensures) head (c .before .before .e3 .given .1) in
     omega (arith, h .fits)
 
 add-at-5 : tie.Need-add-at-5 Inv-loop μ-loop
 add-at-5 c =
-    let h = turn-found _ _ _ _ _ (c .before .before .before .before .element .ensures) (c .before .before .before .before .before .before .before .before .loop .inv) (c .before .before .e3 .given .1) in
+    let head = c .before .before .before .before .before .before .before .before .loop .inv in
+    let h = turn-found _ _ _ _ _ (c .before .before .before .before .element .ensures) head (c .before .before .e3 .given .1) in
     omega (arith, h .fits)
 
 add-count-2 : tie.Need-add-count-2 Inv-loop μ-loop
-add-count-2 c = omega (arith, c .before .before .before .before .before .before .before .before .loop .inv .few, c .before .before .before .before .before .before .before .before .loop .inv .within)
+add-count-2 c =
+    let head = c .before .before .before .before .before .before .before .before .loop .inv in
+    omega (arith, head .few, head .within)
 
 loop-less-4 : tie.Need-loop-less-4 Inv-loop μ-loop
 loop-less-4 c =
-    let h = turn-found _ _ _ _ _ (c .before .before .before .before .element .ensures) (c .before .before .before .before .before .before .before .before .loop .inv) (c .before .before .e3 .given .1) in
+    let head = c .before .before .before .before .before .before .before .before .loop .inv in
+    let h = turn-found _ _ _ _ _ (c .before .before .before .before .element .ensures) head (c .before .before .e3 .given .1) in
     omega (arith, h .fits, h .some)
 
 loop-again-4 : tie.Need-loop-again-4 Inv-loop μ-loop
-loop-again-4 c = turn-found _ _ _ _ _ (c .before .before .before .before .element .ensures) (c .before .before .before .before .before .before .before .before .loop .inv) (c .before .before .e3 .given .1) .head
+loop-again-4 c =
+    let head = c .before .before .before .before .before .before .before .before .loop .inv in
+    let h = turn-found _ _ _ _ _ (c .before .before .before .before .element .ensures) head (c .before .before .e3 .given .1) in
+    h .head
 
 accepted-requires-2 : tie.Need-accepted-requires-2 Inv-loop μ-loop
 accepted-requires-2 c κs = search needs
 
 returns-4 : tie.Need-returns-4 Inv-loop μ-loop
 unfolding checkOf
-returns-4 c = on-ge _ _ _ _ _ (c .before .before .before .if1 .left) (c .accepted2 .ensures ∙ turn-done _ _ _ _ (c .before .before .loop .inv) (c .before .loop-test .left))
+returns-4 c =
+    let done = turn-done _ _ _ _ (c .before .before .loop .inv) (c .before .loop-test .left) in
+    on-ge _ _ _ _ _ (c .before .before .before .if1 .left) (c .accepted2 .ensures ∙ done)
 
 pub check-spec : {M : Type 1} → statement M
 check-spec =

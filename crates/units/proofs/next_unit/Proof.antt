@@ -38,51 +38,94 @@ enum-told c = search needs
 
 returns-2 : tie.Need-returns-2 Inv-loop μ-loop
 unfolding nextOf
-returns-2 c = on-ge _ _ _ _ _ (c .before .before .before .before .if1 .left) (gives-end (now (c .before .before .before .before .before .before .args .s)) (c .before .before .before .loop .at) (c .before .before .before .loop .st) (c .before .before .element .result) (c .before .before .element .ensures) (c .enum-told .given .1) ∙ c .before .before .before .loop .inv)
+returns-2 c =
+    let s = now (c .before .before .before .before .before .before .args .s) in
+    let loop = c .before .before .before .loop in
+    let element = c .before .before .element in
+    let end = gives-end s (loop .at) (loop .st) (element .result) (element .ensures) (c .enum-told .given .1) in
+    on-ge _ _ _ _ _ (c .before .before .before .before .if1 .left) (end ∙ loop .inv)
 
 enum-known-e : tie.Need-enum-known-e Inv-loop μ-loop
 enum-known-e c = search needs
 
 add-stop : tie.Need-add-stop Inv-loop μ-loop
 add-stop c =
-    let h = refused-within (now (c .before .before .before .before .before .before .before .args .s)) (c .before .before .before .before .loop .at) (c .before .before .before .before .loop .st) (c .before .before .before .element .result) (c .before .before .before .element .ensures) (c .before .e .given .1) in
-    omega (arith, c .before .before .before .before .before .if1 .left)
+    let s = now (c .before .before .before .before .before .before .before .args .s) in
+    let loop = c .before .before .before .before .loop in
+    let element = c .before .before .before .element in
+    let within = refused-within s (loop .at) (loop .st) (element .result) (element .ensures) (c .before .e .given .1) in
+    omega (arith, within, c .before .before .before .before .before .if1 .left)
 
 returns-3 : tie.Need-returns-3 Inv-loop μ-loop
 unfolding nextOf
-returns-3 c = on-ge _ _ _ _ _ (c .before .before .before .before .before .if1 .left) (gives-refused (now (c .before .before .before .before .before .before .before .args .s)) (c .before .before .before .before .loop .at) (c .before .before .before .before .loop .st) (c .before .before .before .element .result) (c .before .before .before .element .ensures) (c .before .e .given .1) ∙ c .before .before .before .before .loop .inv)
+returns-3 c =
+    let s = now (c .before .before .before .before .before .before .before .args .s) in
+    let loop = c .before .before .before .before .loop in
+    let element = c .before .before .before .element in
+    let refused = gives-refused s (loop .at) (loop .st) (element .result) (element .ensures) (c .before .e .given .1) in
+    on-ge _ _ _ _ _ (c .before .before .before .before .before .if1 .left) (refused ∙ loop .inv)
 
 enum-known-e-2 : tie.Need-enum-known-e-2 Inv-loop μ-loop
 enum-known-e-2 c = search needs
 
 add-at : tie.Need-add-at Inv-loop μ-loop
-add-at c = omega (arith, c .before .before .before .before .before .if1 .left, step-silent (now (c .before .before .before .before .before .before .before .args .s)) (c .before .before .before .before .loop .at) (c .before .before .before .before .loop .st) (c .before .before .before .element .result) (c .before .before .before .element .ensures) (c .before .e2 .given .1) .fits)
+add-at c =
+    let s = now (c .before .before .before .before .before .before .before .args .s) in
+    let loop = c .before .before .before .before .loop in
+    let element = c .before .before .before .element in
+    let step = step-silent s (loop .at) (loop .st) (element .result) (element .ensures) (c .before .e2 .given .1) in
+    omega (arith, c .before .before .before .before .before .if1 .left, step .fits)
 
 loop-less : tie.Need-loop-less Inv-loop μ-loop
 loop-less c =
-    let h = step-silent (now (c .before .before .before .before .before .before .before .args .s)) (c .before .before .before .before .loop .at) (c .before .before .before .before .loop .st) (c .before .before .before .element .result) (c .before .before .before .element .ensures) (c .before .e2 .given .1) in
-    omega (arith, h .fits, h .some)
+    let s = now (c .before .before .before .before .before .before .before .args .s) in
+    let loop = c .before .before .before .before .loop in
+    let element = c .before .before .before .element in
+    let step = step-silent s (loop .at) (loop .st) (element .result) (element .ensures) (c .before .e2 .given .1) in
+    omega (arith, step .fits, step .some)
 
 loop-again : tie.Need-loop-again Inv-loop μ-loop
-loop-again c = gives-silent (now (c .before .before .before .before .before .before .before .args .s)) (c .before .before .before .before .loop .at) (c .before .before .before .before .loop .st) (c .before .before .before .element .result) (c .before .before .before .element .ensures) (c .before .e2 .given .1) ∙ c .before .before .before .before .loop .inv
+loop-again c =
+    let s = now (c .before .before .before .before .before .before .before .args .s) in
+    let loop = c .before .before .before .before .loop in
+    let element = c .before .before .before .element in
+    gives-silent s (loop .at) (loop .st) (element .result) (element .ensures) (c .before .e2 .given .1) ∙ loop .inv
 
 enum-known-e-3 : tie.Need-enum-known-e-3 Inv-loop μ-loop
 enum-known-e-3 c = search needs
 
 record-requires : tie.Need-record-requires Inv-loop μ-loop
-record-requires c κs = omega (arith, c .before .before .before .before .before .if1 .left, step-found (now (c .before .before .before .before .before .before .before .args .s)) (c .before .before .before .before .loop .at) (c .before .before .before .before .loop .st) (c .before .before .before .element .result) (c .before .before .before .element .ensures) (c .before .e3 .given .1) .fits)
+record-requires c κs =
+    let s = now (c .before .before .before .before .before .before .before .args .s) in
+    let loop = c .before .before .before .before .loop in
+    let element = c .before .before .before .element in
+    let step = step-found s (loop .at) (loop .st) (element .result) (element .ensures) (c .before .e3 .given .1) in
+    omega (arith, c .before .before .before .before .before .if1 .left, step .fits)
 
 add-octets : tie.Need-add-octets Inv-loop μ-loop
-add-octets c = omega (arith, c .before .before .before .before .before .before .before .if1 .left, step-found (now (c .before .before .before .before .before .before .before .before .before .args .s)) (c .before .before .before .before .before .before .loop .at) (c .before .before .before .before .before .before .loop .st) (c .before .before .before .before .before .element .result) (c .before .before .before .before .before .element .ensures) (c .before .before .before .e3 .given .1) .fits)
+add-octets c =
+    let s = now (c .before .before .before .before .before .before .before .before .before .args .s) in
+    let loop = c .before .before .before .before .before .before .loop in
+    let element = c .before .before .before .before .before .element in
+    let step = step-found s (loop .at) (loop .st) (element .result) (element .ensures) (c .before .before .before .e3 .given .1) in
+    omega (arith, c .before .before .before .before .before .before .before .if1 .left, step .fits)
 
 add-after : tie.Need-add-after Inv-loop μ-loop
-add-after c = omega (arith, c .before .before .before .before .before .before .before .if1 .left, step-found (now (c .before .before .before .before .before .before .before .before .before .args .s)) (c .before .before .before .before .before .before .loop .at) (c .before .before .before .before .before .before .loop .st) (c .before .before .before .before .before .element .result) (c .before .before .before .before .before .element .ensures) (c .before .before .before .e3 .given .1) .fits)
+add-after c =
+    let s = now (c .before .before .before .before .before .before .before .before .before .args .s) in
+    let loop = c .before .before .before .before .before .before .loop in
+    let element = c .before .before .before .before .before .element in
+    let step = step-found s (loop .at) (loop .st) (element .result) (element .ensures) (c .before .before .before .e3 .given .1) in
+    omega (arith, c .before .before .before .before .before .before .before .if1 .left, step .fits)
 
 returns-4 : tie.Need-returns-4 Inv-loop μ-loop
 unfolding nextOf
 returns-4 c =
-    on-ge _ _ _ _ _ (c .before .before .before .before .before .before .before .if1 .left)
-    (rw (c .before .«record» .ensures) (gives-found (now (c .before .before .before .before .before .before .before .before .before .args .s)) (c .before .before .before .before .before .before .loop .at) (c .before .before .before .before .before .before .loop .st) (c .before .before .before .before .before .element .result) (c .before .before .before .before .before .element .ensures) (c .before .before .before .e3 .given .1) ∙ c .before .before .before .before .before .before .loop .inv))
+    let s = now (c .before .before .before .before .before .before .before .before .before .args .s) in
+    let loop = c .before .before .before .before .before .before .loop in
+    let element = c .before .before .before .before .before .element in
+    let found = gives-found s (loop .at) (loop .st) (element .result) (element .ensures) (c .before .before .before .e3 .given .1) in
+    on-ge _ _ _ _ _ (c .before .before .before .before .before .before .before .if1 .left) (rw (c .before .«record» .ensures) (found ∙ loop .inv))
 
 pub next-unit-spec : {M : Type 1} → statement M
 next-unit-spec =

@@ -7,7 +7,8 @@ use Rattle.writer.proofs.finish.Tie as tie
 
 returns : tie.Need-returns
 returns c =
-    let f = finish-long (c .before .before .before .before .args .progress) (c .before .before .before .before .args .n) (c .before .before .before .before .args .segments .now) (c .before .before .before .before .args .work .now) (c .before .before .before .before .args .out .now) (c .if1 .taken) in
+    let args = c .before .before .before .before .args in
+    let f = finish-long (args .progress) (args .n) (args .segments .now) (args .work .now) (args .out .now) (c .if1 .taken) in
     (f .0, f .1, refl)
 
 enum-told : tie.Need-enum-told
@@ -27,12 +28,19 @@ same-length-2 c = search needs
 
 returns-2 : tie.Need-returns-2
 returns-2 c =
-    let f = finish-fine (c .before .before .before .before .before .before .before .before .before .before .before .before .before .args .progress) (c .before .before .before .before .before .before .before .before .before .before .before .before .before .args .n) (c .before .before .before .before .before .before .before .before .before .before .before .before .before .args .segments .now) (c .before .before .before .before .before .before .before .before .before .before .before .before .before .args .work .now) (c .before .before .before .before .before .before .before .before .before .before .before .before .before .args .out .now) _ (c .before .before .before .before .before .before .before .before .before .if1 .left) (c .before .before .before .before .before .before .before .enum-told .given .1) in
-    (c .before .before .before .before .write-rows .ensures .0 ∙ f .0, c .before .before .before .before .write-rows .ensures .1 ∙ f .1, c .before .before .before .before .write-rows .ensures .2)
+    let args = c .before .before .before .before .before .before .before .before .before .before .before .before .before .args in
+    let few = c .before .before .before .before .before .before .before .before .before .if1 .left in
+    let fine = c .before .before .before .before .before .before .before .enum-told .given .1 in
+    let written = c .before .before .before .before .write-rows .ensures in
+    let f = finish-fine (args .progress) (args .n) (args .segments .now) (args .work .now) (args .out .now) _ few fine in
+    (written .0 ∙ f .0, written .1 ∙ f .1, written .2)
 
 returns-3 : tie.Need-returns-3
 returns-3 c =
-    let f = finish-faulty (c .before .before .before .before .before .before .before .args .progress) (c .before .before .before .before .before .before .before .args .n) (c .before .before .before .before .before .before .before .args .segments .now) (c .before .before .before .before .before .before .before .args .work .now) (c .before .before .before .before .before .before .before .args .out .now) _ _ (c .before .before .before .if1 .left) (c .before .progress .given .1) in
+    let args = c .before .before .before .before .before .before .before .args in
+    let few = c .before .before .before .if1 .left in
+    let faulty = c .before .progress .given .1 in
+    let f = finish-faulty (args .progress) (args .n) (args .segments .now) (args .work .now) (args .out .now) _ _ few faulty in
     (f .0, f .1, refl)
 
 pub finish-spec : {M : Type 1} → statement M

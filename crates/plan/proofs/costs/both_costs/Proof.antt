@@ -24,17 +24,23 @@ column-requires c κs = search needs
 
 lesser-costs-requires : tie.Need-lesser-costs-requires
 lesser-costs-requires c κs =
-    let f = last-surcharge (c .before .before .before .before .before .before .args .fours .now) 4 (c .before .before .before .before .before .before .pre .2) in (
-      fit-charges _ 4 _ _ (c .before .before .before .before .before .before .pre .0) (c .before .before .before .before .before .before .pre .1) (omega (arith, c .before .before .before .before .before .before .pre .4 .3)) (omega arith) (charges-as f (c .before .before .before .before .charges .ensures)),
-      fit-column 4 _ _ _ _ refl (c .before .before .before .before .before .before .pre .2) (c .before .before .before .before .before .before .pre .0) (c .before .before .before .before .before .before .pre .4 .4) refl (c .before .before .before .column .ensures),
-      c .before .before .before .before .before .before .pre .3,
+    let pre = c .before .before .before .before .before .before .pre in
+    let last = last-surcharge (c .before .before .before .before .before .before .args .fours .now) 4 (pre .2) in
+    let charged = charges-as last (c .before .before .before .before .charges .ensures) in (
+      fit-charges _ 4 _ _ (pre .0) (pre .1) (omega (arith, pre .4 .3)) (omega arith) charged,
+      fit-column 4 _ _ _ _ refl (pre .2) (pre .0) (pre .4 .4) refl (c .before .before .before .column .ensures),
+      pre .3,
     )
 
 returns : tie.Need-returns
 returns c =
-    let f = last-surcharge (c .before .before .before .before .before .before .before .args .fours .now) 4 (c .before .before .before .before .before .before .before .pre .2) in
+    let args = c .before .before .before .before .before .before .before .args in
+    let pre = c .before .before .before .before .before .before .before .pre in
+    let last = last-surcharge (args .fours .now) 4 (pre .2) in
+    let charged = charges-as last (c .before .before .before .before .before .charges .ensures) in
+    let column = c .before .before .before .before .column .ensures in
     columns-as _
-    (λ g q hg hq. lesser-both (c .before .before .before .before .before .before .before .args .x) (c .before .before .before .before .before .before .before .args .next .now) g q hg hq (c .before .before .before .before .before .before .before .pre .0) _ _ _ _ _ (c .before .before .before .before .before .before .before .pre .4) (c .before .before .before .before .before .before .before .pre .2) (charges-as f (c .before .before .before .before .before .charges .ensures)) (c .before .before .before .before .column .ensures))
+    (λ g q hg hq. lesser-both (args .x) (args .next .now) g q hg hq (pre .0) _ _ _ _ _ (pre .4) (pre .2) charged column)
     (c .lesser-costs .ensures)
 
 pub both-costs-spec : {M : Type 1} → statement M

@@ -14,13 +14,17 @@ column-requires c κs = search needs
 
 lesser-costs-requires : tie.Need-lesser-costs-requires
 lesser-costs-requires c κs =
-    let s = fit-column 3 _ _ _ _ refl (c .before .before .before .before .pre .2) (c .before .before .before .before .pre .0) (c .before .before .before .before .pre .4 .2) refl (c .before .before .before .column .ensures) in
-    (s, s, c .before .before .before .before .pre .3)
+    let pre = c .before .before .before .before .pre in
+    let s = fit-column 3 _ _ _ _ refl (pre .2) (pre .0) (pre .4 .2) refl (c .before .before .before .column .ensures) in
+    (s, s, pre .3)
 
 returns : tie.Need-returns
 returns c =
+    let args = c .before .before .before .before .before .args in
+    let pre = c .before .before .before .before .before .pre in
+    let column = c .before .before .before .before .column .ensures in
     columns-as _
-    (λ g q hg hq. lesser-gr (c .before .before .before .before .before .args .x) (c .before .before .before .before .before .args .next .now) g q hg hq (c .before .before .before .before .before .pre .0) _ _ _ (c .before .before .before .before .before .pre .4) (c .before .before .before .before .before .pre .2) (c .before .before .before .before .column .ensures))
+    (λ g q hg hq. lesser-gr (args .x) (args .next .now) g q hg hq (pre .0) _ _ _ (pre .4) (pre .2) column)
     (c .lesser-costs .ensures)
 
 pub gr-costs-spec : {M : Type 1} → statement M

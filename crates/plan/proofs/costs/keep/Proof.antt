@@ -29,7 +29,13 @@ same-length : tie.Need-same-length
 same-length c = search needs
 
 returns-2 : tie.Need-returns-2
-returns-2 c = kept-character _ (c .before .before .before .before .before .before .before .before .before .before .before .args .cur .now) _ _ _ _ (c .before .before .before .before .before .before .before .before .before .if1 .left) (c .before .before .before .before .before .before .before .before .if2 .taken) (c .before .before .before .before .before .before .keep-row .ensures) (c .before .before .keep-column .ensures)
+returns-2 c =
+    let cur = c .before .before .before .before .before .before .before .before .before .before .before .args .cur .now in
+    let character = c .before .before .before .before .before .before .before .before .before .if1 .left in
+    let no-space = c .before .before .before .before .before .before .before .before .if2 .taken in
+    let row = c .before .before .before .before .before .before .keep-row .ensures in
+    let column = c .before .before .keep-column .ensures in
+    kept-character _ cur _ _ _ _ character no-space row column
 
 keep-row-requires-2 : tie.Need-keep-row-requires-2
 keep-row-requires-2 c κs = search needs
@@ -44,7 +50,12 @@ same-length-2 : tie.Need-same-length-2
 same-length-2 c = search needs
 
 returns-3 : tie.Need-returns-3
-returns-3 c = kept-space _ (c .before .before .before .before .before .before .before .before .before .before .before .before .args .cur .now) _ _ _ _ (c .before .before .before .before .before .before .before .before .if3 .taken) (c .before .before .before .before .before .before .keep-row2 .ensures) (c .before .before .keep-row3 .ensures)
+returns-3 c =
+    let cur = c .before .before .before .before .before .before .before .before .before .before .before .before .args .cur .now in
+    let space = c .before .before .before .before .before .before .before .before .if3 .taken in
+    let first = c .before .before .before .before .before .before .keep-row2 .ensures in
+    let second = c .before .before .keep-row3 .ensures in
+    kept-space _ cur _ _ _ _ space first second
 
 returns-4 : tie.Need-returns-4
 returns-4 c = search needs

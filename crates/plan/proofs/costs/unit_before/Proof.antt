@@ -18,16 +18,34 @@ element-copy-out-if2 : tie.Need-element-copy-out-if2
 element-copy-out-if2 c = search needs
 
 returns : tie.Need-returns
-returns c = turned-moved _ _ (c .before .before .before .before .before .before .before .before .args .cur .now) _ (c .before .before .before .before .before .before .before .before .pre .6) (c .before .before .costs-before .ensures) (sym (c .before .before .before .before .before .before .before .changed .ensures) ∙ c .before .before .before .before .before .before .if1 .taken) (c .if2 .taken)
+returns c =
+    let args = c .before .before .before .before .before .before .before .before .args in
+    let pre = c .before .before .before .before .before .before .before .before .pre in
+    let taken = c .before .before .before .before .before .before .if1 .taken in
+    let changed = sym (c .before .before .before .before .before .before .before .changed .ensures) ∙ taken in
+    turned-moved _ _ (args .cur .now) _ (pre .6) (c .before .before .costs-before .ensures) changed (c .if2 .taken)
 
 lower-requires : tie.Need-lower-requires
-lower-requires c κs = (turned-near (c .before .before .before .before .before .before .before .before .before .args .last) _ (c .before .before .before .before .before .before .before .before .before .args .cur .now) _ (c .before .before .before .before .before .before .before .before .before .pre .6) (c .before .before .before .costs-before .ensures) (c .before .before .before .before .before .before .before .before .before .pre .5) (c .before .if2 .left), c .before .before .before .costs-before .ensures .long)
+lower-requires c κs =
+    let args = c .before .before .before .before .before .before .before .before .before .args in
+    let pre = c .before .before .before .before .before .before .before .before .before .pre in
+    let costs = c .before .before .before .costs-before .ensures in
+    (turned-near (args .last) _ (args .cur .now) _ (pre .6) costs (pre .5) (c .before .if2 .left), costs .long)
 
 returns-2 : tie.Need-returns-2
-returns-2 c = turned-lowered _ _ (c .before .before .before .before .before .before .before .before .before .before .args .cur .now) _ (c .before .before .before .before .before .before .before .before .before .before .pre .6) (c .before .before .before .before .costs-before .ensures) (c .before .before .before .before .before .before .before .before .before .before .pre .5) (c .before .before .if2 .left) _ (sym (c .before .before .before .before .before .before .before .before .before .changed .ensures) ∙ c .before .before .before .before .before .before .before .before .if1 .taken) (c .before .before .before .before .before .before .before .before .before .before .pre .2 .small) (c .lower .ensures)
+returns-2 c =
+    let args = c .before .before .before .before .before .before .before .before .before .before .args in
+    let pre = c .before .before .before .before .before .before .before .before .before .before .pre in
+    let taken = c .before .before .before .before .before .before .before .before .if1 .taken in
+    let changed = sym (c .before .before .before .before .before .before .before .before .before .changed .ensures) ∙ taken in
+    let costs = c .before .before .before .before .costs-before .ensures in
+    turned-lowered _ _ (args .cur .now) _ (pre .6) costs (pre .5) (c .before .before .if2 .left) _ changed (pre .2 .small) (c .lower .ensures)
 
 returns-3 : tie.Need-returns-3
-returns-3 c = turned-still _ _ _ (c .before .before .args .cur .now) (c .before .before .pre .6) (sym (c .before .changed .ensures) ∙ c .if1 .left) (c .before .before .pre .1)
+returns-3 c =
+    let pre = c .before .before .pre in
+    let same = sym (c .before .changed .ensures) ∙ c .if1 .left in
+    turned-still _ _ _ (c .before .before .args .cur .now) (pre .6) same (pre .1)
 
 pub unit-before-spec : {M : Type 1} → statement M
 unit-before-spec =

@@ -25,14 +25,18 @@ step-requires c κs = search needs
 
 returns : tie.Need-returns
 returns c =
-    let code : (b : Bool) → c .before .before .before .code-used .result ≡ b → codeUsed (formOf (c .before .before .before .before .before .before .args .set)) (c .before .before .before .before .before .before .args .code) ≡ b = λ b q. ap (λ (f : ℕ). codeUsed f (c .before .before .before .before .before .before .args .code)) (sym (c .before .before .before .before .form-of .ensures)) ∙ sym (c .before .before .before .code-used .ensures) ∙ q in
-    c .step .ensures ∙ ap (λ (t : Bool). stepOf t kind.character (c .before .before .before .before .before .before .args .directions)) (c .before .counts-as-text .ensures)
-    ∙ code-fits (c .before .before .before .before .before .before .args .set) (c .before .before .before .before .before .before .args .code) (c .before .before .before .before .before .before .args .directions) (c .before .before .before .before .before .if1 .taken) (code true (c .before .before .if2 .taken))
+    let args = c .before .before .before .before .before .before .args in
+    let form = ap (λ (f : ℕ). codeUsed f (args .code)) (sym (c .before .before .before .before .form-of .ensures)) in
+    let used : codeUsed (formOf (args .set)) (args .code) ≡ true = form ∙ sym (c .before .before .before .code-used .ensures) ∙ c .before .before .if2 .taken in
+    let text = ap (λ (t : Bool). stepOf t kind.character (args .directions)) (c .before .counts-as-text .ensures) in
+    c .step .ensures ∙ text ∙ code-fits (args .set) (args .code) (args .directions) (c .before .before .before .before .before .if1 .taken) used
 
 returns-2 : tie.Need-returns-2
 returns-2 c =
-    let code : (b : Bool) → c .before .code-used .result ≡ b → codeUsed (formOf (c .before .before .before .before .args .set)) (c .before .before .before .before .args .code) ≡ b = λ b q. ap (λ (f : ℕ). codeUsed f (c .before .before .before .before .args .code)) (sym (c .before .before .form-of .ensures)) ∙ sym (c .before .code-used .ensures) ∙ q in
-    code-unused (c .before .before .before .before .args .set) (c .before .before .before .before .args .code) (c .before .before .before .before .args .directions) (c .before .before .before .if1 .taken) (code false (c .if2 .left))
+    let args = c .before .before .before .before .args in
+    let form = ap (λ (f : ℕ). codeUsed f (args .code)) (sym (c .before .before .form-of .ensures)) in
+    let used : codeUsed (formOf (args .set)) (args .code) ≡ false = form ∙ sym (c .before .code-used .ensures) ∙ c .if2 .left in
+    code-unused (args .set) (args .code) (args .directions) (c .before .before .before .if1 .taken) used
 
 returns-3 : tie.Need-returns-3
 returns-3 c = set-none _ _ _ (c .if1 .left)

@@ -14,29 +14,40 @@ use Rattle.records.proofs.own.segment.Tie as tie
 
 returns : tie.Need-returns
 returns c =
-    let h : length (c .before .before .args .segments .now) < c .before .before .args .start + c .before .before .args .n = omega (arith, c .if1 .taken) in
-    on-gt _ _ _ _ _ h refl
+    let args = c .before .before .args in
+    let outside : length (args .segments .now) < args .start + args .n = omega (arith, c .if1 .taken) in
+    on-gt _ _ _ _ _ outside refl
 
 returns-2 : tie.Need-returns-2
 returns-2 c =
-    let h : length (c .before .before .before .args .segments .now) < c .before .before .before .args .start + c .before .before .before .args .n = omega (arith, c .before .if1 .left, c .if2 .taken) in
-    on-gt _ _ _ _ _ h refl
+    let args = c .before .before .before .args in
+    let outside : length (args .segments .now) < args .start + args .n = omega (arith, c .before .if1 .left, c .if2 .taken) in
+    on-gt _ _ _ _ _ outside refl
 
 returns-3 : tie.Need-returns-3
 returns-3 c =
-    let inside : c .before .before .before .before .args .start + c .before .before .before .before .args .n ≤ length (c .before .before .before .before .args .segments .now) = omega (arith, c .before .before .if1 .left, c .before .if2 .left) in
-    on-le _ _ _ _ _ inside (d-low _ (take (c .before .before .before .before .args .n) (drop (c .before .before .before .before .args .start) (c .before .before .before .before .args .segments .now))) _ (c .if3 .taken))
+    let args = c .before .before .before .before .args in
+    let inside : args .start + args .n ≤ length (args .segments .now) = omega (arith, c .before .before .if1 .left, c .before .if2 .left) in
+    on-le _ _ _ _ _ inside (d-low _ (take (args .n) (drop (args .start) (args .segments .now))) _ (c .if3 .taken))
 
 returns-4 : tie.Need-returns-4
 returns-4 c =
-    let inside : c .before .before .before .before .before .args .start + c .before .before .before .before .before .args .n ≤ length (c .before .before .before .before .before .args .segments .now) = omega (arith, c .before .before .before .if1 .left, c .before .before .if2 .left) in
-    on-le _ _ _ _ _ inside (d-high _ (take (c .before .before .before .before .before .args .n) (drop (c .before .before .before .before .before .args .start) (c .before .before .before .before .before .args .segments .now))) _ (c .before .if3 .left) (c .if4 .taken))
+    let args = c .before .before .before .before .before .args in
+    let inside : args .start + args .n ≤ length (args .segments .now) = omega (arith, c .before .before .before .if1 .left, c .before .before .if2 .left) in
+    let high = d-high _ (take (args .n) (drop (args .start) (args .segments .now))) _ (c .before .if3 .left) (c .if4 .taken) in
+    on-le _ _ _ _ _ inside high
 
 returns-5 : tie.Need-returns-5
 returns-5 c =
-    let inside : c .before .before .before .before .before .before .args .start + c .before .before .before .before .before .before .args .n ≤ length (c .before .before .before .before .before .before .args .segments .now) = omega (arith, c .before .before .before .before .if1 .left, c .before .before .before .if2 .left) in
-    let count : c .before .before .before .before .before .before .args .n ≡ length (take (c .before .before .before .before .before .before .args .n) (drop (c .before .before .before .before .before .before .args .start) (c .before .before .before .before .before .before .args .segments .now))) = simp (length-take, length-drop) (omega arith) in
-    on-le _ _ _ _ _ inside (too-many _ (take (c .before .before .before .before .before .before .args .n) (drop (c .before .before .before .before .before .before .args .start) (c .before .before .before .before .before .before .args .segments .now))) _ (c .before .before .if3 .left) (c .before .if4 .left) (omega (arith, count, c .if5 .taken)))
+    let args = c .before .before .before .before .before .before .args in
+    let starts = c .before .before .before .before .if1 .left in
+    let ends = c .before .before .before .if2 .left in
+    let inside : args .start + args .n ≤ length (args .segments .now) = omega (arith, starts, ends) in
+    let count : args .n ≡ length (take (args .n) (drop (args .start) (args .segments .now))) = simp (length-take, length-drop) (omega arith) in
+    let low = c .before .before .if3 .left in
+    let high = c .before .if4 .left in
+    let many = too-many _ (take (args .n) (drop (args .start) (args .segments .now))) _ low high (omega (arith, count, c .if5 .taken)) in
+    on-le _ _ _ _ _ inside many
 
 add-name-end : tie.Need-add-name-end
 add-name-end c = search needs
@@ -76,31 +87,79 @@ enum-told-3 c = search needs
 
 returns-6 : tie.Need-returns-6
 returns-6 c =
-    let inside : c .before .before .before .before .before .before .before .before .before .before .before .before .before .args .start + c .before .before .before .before .before .before .before .before .before .before .before .before .before .args .n ≤ length (c .before .before .before .before .before .before .before .before .before .before .before .before .before .args .segments .now) = omega (arith, c .before .before .before .before .before .before .before .before .before .before .before .if1 .left, c .before .before .before .before .before .before .before .before .before .before .if2 .left) in
-    let count : c .before .before .before .before .before .before .before .before .before .before .before .before .before .args .n ≡ length (take (c .before .before .before .before .before .before .before .before .before .before .before .before .before .args .n) (drop (c .before .before .before .before .before .before .before .before .before .before .before .before .before .args .start) (c .before .before .before .before .before .before .before .before .before .before .before .before .before .args .segments .now))) = simp (length-take, length-drop) (omega arith) in
-    let ex = c .before .before .before .before .content .ensures ∙ ap (λ (q : Name). contentOf (c .before .before .before .before .before .before .before .before .before .before .before .before .before .args .d) (c .before .before .before .before .before .before .before .before .before .before .before .before .before .args .n) q fresh) (c .before .before .before .before .before .name-end .ensures) ∙ ap (λ (m : ℕ). contentOf (c .before .before .before .before .before .before .before .before .before .before .before .before .before .args .d) (c .before .before .before .before .before .before .before .before .before .before .before .before .before .args .n) (nameOf (take m (drop (c .before .before .before .before .before .before .before .before .before .before .before .before .before .args .start) (c .before .before .before .before .before .before .before .before .before .before .before .before .before .args .segments .now))) 0) fresh) (let z : c .before .before .before .before .before .before .before .before .before .before .before .before .before .args .start + c .before .before .before .before .before .before .before .before .before .before .before .before .before .args .n - c .before .before .before .before .before .before .before .before .before .before .before .before .before .args .start ≡ c .before .before .before .before .before .before .before .before .before .before .before .before .before .args .n = omega arith in z) in
-    on-le _ _ _ _ _ inside (c .step .ensures ∙ content-found _ (take (c .before .before .before .before .before .before .before .before .before .before .before .before .before .args .n) (drop (c .before .before .before .before .before .before .before .before .before .before .before .before .before .args .start) (c .before .before .before .before .before .before .before .before .before .before .before .before .before .args .segments .now))) _ (c .before .before .before .before .before .before .before .before .before .if3 .left) (c .before .before .before .before .before .before .before .before .if4 .left) (omega (arith, count, c .before .before .before .before .before .before .before .if5 .left)) (c .before .before .before .before .before .before .before .before .before .before .before .before .before .args .n) count _ ex _ _ (c .before .before .element .given .1))
+    let args = c .before .before .before .before .before .before .before .before .before .before .before .before .before .args in
+    let starts = c .before .before .before .before .before .before .before .before .before .before .before .if1 .left in
+    let ends = c .before .before .before .before .before .before .before .before .before .before .if2 .left in
+    let inside : args .start + args .n ≤ length (args .segments .now) = omega (arith, starts, ends) in
+    let octets = take (args .n) (drop (args .start) (args .segments .now)) in
+    let count : args .n ≡ length (take (args .n) (drop (args .start) (args .segments .now))) = simp (length-take, length-drop) (omega arith) in
+    let low = c .before .before .before .before .before .before .before .before .before .if3 .left in
+    let high = c .before .before .before .before .before .before .before .before .if4 .left in
+    let few = c .before .before .before .before .before .before .before .if5 .left in
+    let named = ap (λ (q : Name). contentOf (args .d) (args .n) q fresh) (c .before .before .before .before .before .name-end .ensures) in
+    let back : args .start + args .n - args .start ≡ args .n = omega arith in
+    let whole = ap (λ (m : ℕ). contentOf (args .d) (args .n) (nameOf (take m (drop (args .start) (args .segments .now))) 0) fresh) back in
+    let element = c .before .before .before .before .content .ensures ∙ named ∙ whole in
+    let given = c .before .before .element .given .1 in
+    let found = content-found _ octets _ low high (omega (arith, count, few)) (args .n) count _ element _ _ given in
+    on-le _ _ _ _ _ inside (c .step .ensures ∙ found)
 
 returns-7 : tie.Need-returns-7
 returns-7 c =
-    let inside : c .before .before .before .before .before .before .before .before .before .before .before .args .start + c .before .before .before .before .before .before .before .before .before .before .before .args .n ≤ length (c .before .before .before .before .before .before .before .before .before .before .before .args .segments .now) = omega (arith, c .before .before .before .before .before .before .before .before .before .if1 .left, c .before .before .before .before .before .before .before .before .if2 .left) in
-    let count : c .before .before .before .before .before .before .before .before .before .before .before .args .n ≡ length (take (c .before .before .before .before .before .before .before .before .before .before .before .args .n) (drop (c .before .before .before .before .before .before .before .before .before .before .before .args .start) (c .before .before .before .before .before .before .before .before .before .before .before .args .segments .now))) = simp (length-take, length-drop) (omega arith) in
-    let ex = c .before .before .content .ensures ∙ ap (λ (q : Name). contentOf (c .before .before .before .before .before .before .before .before .before .before .before .args .d) (c .before .before .before .before .before .before .before .before .before .before .before .args .n) q fresh) (c .before .before .before .name-end .ensures) ∙ ap (λ (m : ℕ). contentOf (c .before .before .before .before .before .before .before .before .before .before .before .args .d) (c .before .before .before .before .before .before .before .before .before .before .before .args .n) (nameOf (take m (drop (c .before .before .before .before .before .before .before .before .before .before .before .args .start) (c .before .before .before .before .before .before .before .before .before .before .before .args .segments .now))) 0) fresh) (let z : c .before .before .before .before .before .before .before .before .before .before .before .args .start + c .before .before .before .before .before .before .before .before .before .before .before .args .n - c .before .before .before .before .before .before .before .before .before .before .before .args .start ≡ c .before .before .before .before .before .before .before .before .before .before .before .args .n = omega arith in z) in
-    on-le _ _ _ _ _ inside (content-bad _ (take (c .before .before .before .before .before .before .before .before .before .before .before .args .n) (drop (c .before .before .before .before .before .before .before .before .before .before .before .args .start) (c .before .before .before .before .before .before .before .before .before .before .before .args .segments .now))) _ (c .before .before .before .before .before .before .before .if3 .left) (c .before .before .before .before .before .before .if4 .left) (omega (arith, count, c .before .before .before .before .before .if5 .left)) (c .before .before .before .before .before .before .before .before .before .before .before .args .n) count _ ex (λ p st q. end-not-found p st (sym (c .enum-told .given .1) ∙ q)))
+    let args = c .before .before .before .before .before .before .before .before .before .before .before .args in
+    let starts = c .before .before .before .before .before .before .before .before .before .if1 .left in
+    let ends = c .before .before .before .before .before .before .before .before .if2 .left in
+    let inside : args .start + args .n ≤ length (args .segments .now) = omega (arith, starts, ends) in
+    let octets = take (args .n) (drop (args .start) (args .segments .now)) in
+    let count : args .n ≡ length (take (args .n) (drop (args .start) (args .segments .now))) = simp (length-take, length-drop) (omega arith) in
+    let low = c .before .before .before .before .before .before .before .if3 .left in
+    let high = c .before .before .before .before .before .before .if4 .left in
+    let few = c .before .before .before .before .before .if5 .left in
+    let named = ap (λ (q : Name). contentOf (args .d) (args .n) q fresh) (c .before .before .before .name-end .ensures) in
+    let back : args .start + args .n - args .start ≡ args .n = omega arith in
+    let whole = ap (λ (m : ℕ). contentOf (args .d) (args .n) (nameOf (take m (drop (args .start) (args .segments .now))) 0) fresh) back in
+    let element = c .before .before .content .ensures ∙ named ∙ whole in
+    let told = sym (c .enum-told .given .1) in
+    on-le _ _ _ _ _ inside
+    (content-bad _ octets _ low high (omega (arith, count, few)) (args .n) count _ element (λ p st q. end-not-found p st (told ∙ q)))
 
 returns-8 : tie.Need-returns-8
 returns-8 c =
-    let inside : c .before .before .before .before .before .before .before .before .before .before .before .args .start + c .before .before .before .before .before .before .before .before .before .before .before .args .n ≤ length (c .before .before .before .before .before .before .before .before .before .before .before .args .segments .now) = omega (arith, c .before .before .before .before .before .before .before .before .before .if1 .left, c .before .before .before .before .before .before .before .before .if2 .left) in
-    let count : c .before .before .before .before .before .before .before .before .before .before .before .args .n ≡ length (take (c .before .before .before .before .before .before .before .before .before .before .before .args .n) (drop (c .before .before .before .before .before .before .before .before .before .before .before .args .start) (c .before .before .before .before .before .before .before .before .before .before .before .args .segments .now))) = simp (length-take, length-drop) (omega arith) in
-    let ex = c .before .before .content .ensures ∙ ap (λ (q : Name). contentOf (c .before .before .before .before .before .before .before .before .before .before .before .args .d) (c .before .before .before .before .before .before .before .before .before .before .before .args .n) q fresh) (c .before .before .before .name-end .ensures) ∙ ap (λ (m : ℕ). contentOf (c .before .before .before .before .before .before .before .before .before .before .before .args .d) (c .before .before .before .before .before .before .before .before .before .before .before .args .n) (nameOf (take m (drop (c .before .before .before .before .before .before .before .before .before .before .before .args .start) (c .before .before .before .before .before .before .before .before .before .before .before .args .segments .now))) 0) fresh) (let z : c .before .before .before .before .before .before .before .before .before .before .before .args .start + c .before .before .before .before .before .before .before .before .before .before .before .args .n - c .before .before .before .before .before .before .before .before .before .before .before .args .start ≡ c .before .before .before .before .before .before .before .before .before .before .before .args .n = omega arith in z) in
-    on-le _ _ _ _ _ inside (content-bad _ (take (c .before .before .before .before .before .before .before .before .before .before .before .args .n) (drop (c .before .before .before .before .before .before .before .before .before .before .before .args .start) (c .before .before .before .before .before .before .before .before .before .before .before .args .segments .now))) _ (c .before .before .before .before .before .before .before .if3 .left) (c .before .before .before .before .before .before .if4 .left) (omega (arith, count, c .before .before .before .before .before .if5 .left)) (c .before .before .before .before .before .before .before .before .before .before .before .args .n) count _ ex (λ p st q. refused-not-found _ _ p st (sym (c .enum-told2 .given .1) ∙ q)))
+    let args = c .before .before .before .before .before .before .before .before .before .before .before .args in
+    let starts = c .before .before .before .before .before .before .before .before .before .if1 .left in
+    let ends = c .before .before .before .before .before .before .before .before .if2 .left in
+    let inside : args .start + args .n ≤ length (args .segments .now) = omega (arith, starts, ends) in
+    let octets = take (args .n) (drop (args .start) (args .segments .now)) in
+    let count : args .n ≡ length (take (args .n) (drop (args .start) (args .segments .now))) = simp (length-take, length-drop) (omega arith) in
+    let low = c .before .before .before .before .before .before .before .if3 .left in
+    let high = c .before .before .before .before .before .before .if4 .left in
+    let few = c .before .before .before .before .before .if5 .left in
+    let named = ap (λ (q : Name). contentOf (args .d) (args .n) q fresh) (c .before .before .before .name-end .ensures) in
+    let back : args .start + args .n - args .start ≡ args .n = omega arith in
+    let whole = ap (λ (m : ℕ). contentOf (args .d) (args .n) (nameOf (take m (drop (args .start) (args .segments .now))) 0) fresh) back in
+    let element = c .before .before .content .ensures ∙ named ∙ whole in
+    let told = sym (c .enum-told2 .given .1) in
+    on-le _ _ _ _ _ inside
+    (content-bad _ octets _ low high (omega (arith, count, few)) (args .n) count _ element (λ p st q. refused-not-found _ _ p st (told ∙ q)))
 
 returns-9 : tie.Need-returns-9
 returns-9 c =
-    let inside : c .before .before .before .before .before .before .before .before .before .before .before .args .start + c .before .before .before .before .before .before .before .before .before .before .before .args .n ≤ length (c .before .before .before .before .before .before .before .before .before .before .before .args .segments .now) = omega (arith, c .before .before .before .before .before .before .before .before .before .if1 .left, c .before .before .before .before .before .before .before .before .if2 .left) in
-    let count : c .before .before .before .before .before .before .before .before .before .before .before .args .n ≡ length (take (c .before .before .before .before .before .before .before .before .before .before .before .args .n) (drop (c .before .before .before .before .before .before .before .before .before .before .before .args .start) (c .before .before .before .before .before .before .before .before .before .before .before .args .segments .now))) = simp (length-take, length-drop) (omega arith) in
-    let ex = c .before .before .content .ensures ∙ ap (λ (q : Name). contentOf (c .before .before .before .before .before .before .before .before .before .before .before .args .d) (c .before .before .before .before .before .before .before .before .before .before .before .args .n) q fresh) (c .before .before .before .name-end .ensures) ∙ ap (λ (m : ℕ). contentOf (c .before .before .before .before .before .before .before .before .before .before .before .args .d) (c .before .before .before .before .before .before .before .before .before .before .before .args .n) (nameOf (take m (drop (c .before .before .before .before .before .before .before .before .before .before .before .args .start) (c .before .before .before .before .before .before .before .before .before .before .before .args .segments .now))) 0) fresh) (let z : c .before .before .before .before .before .before .before .before .before .before .before .args .start + c .before .before .before .before .before .before .before .before .before .before .before .args .n - c .before .before .before .before .before .before .before .before .before .before .before .args .start ≡ c .before .before .before .before .before .before .before .before .before .before .before .args .n = omega arith in z) in
-    on-le _ _ _ _ _ inside (content-bad _ (take (c .before .before .before .before .before .before .before .before .before .before .before .args .n) (drop (c .before .before .before .before .before .before .before .before .before .before .before .args .start) (c .before .before .before .before .before .before .before .before .before .before .before .args .segments .now))) _ (c .before .before .before .before .before .before .before .if3 .left) (c .before .before .before .before .before .before .if4 .left) (omega (arith, count, c .before .before .before .before .before .if5 .left)) (c .before .before .before .before .before .before .before .before .before .before .before .args .n) count _ ex (λ p st q. silent-not-found _ _ p st (sym (c .enum-told3 .given .1) ∙ q)))
+    let args = c .before .before .before .before .before .before .before .before .before .before .before .args in
+    let starts = c .before .before .before .before .before .before .before .before .before .if1 .left in
+    let ends = c .before .before .before .before .before .before .before .before .if2 .left in
+    let inside : args .start + args .n ≤ length (args .segments .now) = omega (arith, starts, ends) in
+    let octets = take (args .n) (drop (args .start) (args .segments .now)) in
+    let count : args .n ≡ length (take (args .n) (drop (args .start) (args .segments .now))) = simp (length-take, length-drop) (omega arith) in
+    let low = c .before .before .before .before .before .before .before .if3 .left in
+    let high = c .before .before .before .before .before .before .if4 .left in
+    let few = c .before .before .before .before .before .if5 .left in
+    let named = ap (λ (q : Name). contentOf (args .d) (args .n) q fresh) (c .before .before .before .name-end .ensures) in
+    let back : args .start + args .n - args .start ≡ args .n = omega arith in
+    let whole = ap (λ (m : ℕ). contentOf (args .d) (args .n) (nameOf (take m (drop (args .start) (args .segments .now))) 0) fresh) back in
+    let element = c .before .before .content .ensures ∙ named ∙ whole in
+    let told = sym (c .enum-told3 .given .1) in
+    on-le _ _ _ _ _ inside
+    (content-bad _ octets _ low high (omega (arith, count, few)) (args .n) count _ element (λ p st q. silent-not-found _ _ p st (told ∙ q)))
 
 pub segment-spec : {M : Type 1} → statement M
 segment-spec =

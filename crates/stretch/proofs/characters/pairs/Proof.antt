@@ -45,19 +45,33 @@ loop-less : tie.Need-loop-less Inv-loop μ-loop
 loop-less c = search needs
 
 loop-again : tie.Need-loop-again Inv-loop μ-loop
-loop-again c = along-pair _ _ _ _ (c .before .before .before .before .before .before .before .loop .inv) (c .before .before .before .before .before .before .loop-test .taken) (sym (c .before .before .before .graphic-on .ensures) ∙ c .before .before .if1 .taken) (sym (c .before .graphic-on2 .ensures) ∙ c .if2 .taken)
+loop-again c =
+    let along = c .before .before .before .before .before .before .before .loop .inv in
+    let more = c .before .before .before .before .before .before .loop-test .taken in
+    let first = sym (c .before .before .before .graphic-on .ensures) ∙ c .before .before .if1 .taken in
+    let second = sym (c .before .graphic-on2 .ensures) ∙ c .if2 .taken in
+    along-pair _ _ _ _ along more first second
 
 sub-result : tie.Need-sub-result Inv-loop μ-loop
 sub-result c = search needs
 
 returns : tie.Need-returns Inv-loop μ-loop
-returns c = pairs-last _ _ _ _ (c .before .before .before .before .before .before .before .loop .inv) (pair-not _ _ _ (c .before .before .before .before .before .before .loop-test .taken) (sym (c .before .before .before .graphic-on .ensures) ∙ c .before .before .if1 .taken) (sym (c .before .graphic-on2 .ensures) ∙ c .if2 .left))
+returns c =
+    let along = c .before .before .before .before .before .before .before .loop .inv in
+    let more = c .before .before .before .before .before .before .loop-test .taken in
+    let first = sym (c .before .before .before .graphic-on .ensures) ∙ c .before .before .if1 .taken in
+    let second = sym (c .before .graphic-on2 .ensures) ∙ c .if2 .left in
+    pairs-last _ _ _ _ along (pair-not _ _ _ more first second)
 
 sub-result-2 : tie.Need-sub-result-2 Inv-loop μ-loop
 sub-result-2 c = search needs
 
 returns-2 : tie.Need-returns-2 Inv-loop μ-loop
-returns-2 c = pairs-last _ _ _ _ (c .before .before .before .before .before .loop .inv) (pair-no _ _ _ (c .before .before .before .before .loop-test .taken) (sym (c .before .graphic-on .ensures) ∙ c .if1 .left))
+returns-2 c =
+    let along = c .before .before .before .before .before .loop .inv in
+    let more = c .before .before .before .before .loop-test .taken in
+    let first = sym (c .before .graphic-on .ensures) ∙ c .if1 .left in
+    pairs-last _ _ _ _ along (pair-no _ _ _ more first)
 
 sub-result-3 : tie.Need-sub-result-3 Inv-loop μ-loop
 sub-result-3 c = search needs
