@@ -202,7 +202,8 @@ def page(corpora):
         parts += [
             "## Straight lines",
             "Strings of each kind, of lengths in sixteen equal steps. The line is that of least squares; a deviation is a part of the line's value. "
-            "A work room of many units is larger than a processor's nearer caches, which bends the writer's line a little.",
+            "A work room of many units, 72 octets each, is larger than a processor's nearer caches, and a unit costs more from there on: where little "
+            "is computed for a unit (ascii, kanji) the writer's line has two slopes, one for each side.",
             "![Time against size](benchmark.svg)",
             straightness(found),
         ]
