@@ -140,8 +140,8 @@ fn emit(work: &[u8], n: usize, segments: &[u8], out: &mut [u8]) -> usize
     requires { ⌜ (n ≤ 65535) × (72 * n ≤ length (now work)) × Ready (now segments) (now work) n × (length (writing (unitsIn (now segments) (now work) 0 n) (fresh .sets)) ≤ length (now out)) ⌝ }
     ensures { λ r. ⌜ Written (now (out .entry)) 0 (writing (unitsIn (now (segments .entry)) (now (work .entry)) 0 n) (fresh .sets)) r (now (out .exit)) ⌝ }
 {
-    let in_gl: [u8; 17] = [0, 5, 1, 5, 5, 5, 5, 5, 5, 5, 5, 5, 2, 3, 4, 0, 0];
-    let in_gr: [u8; 17] = [16, 0, 16, 1, 2, 3, 4, 5, 6, 7, 8, 9, 10, 11, 12, 16, 16];
+    let in_gl = plan::SERVED_IN_GL;
+    let in_gr = plan::SERVED_IN_GR;
     let mut i: usize = 0;
     let mut k: usize = 1;
     let mut at: usize = 0;

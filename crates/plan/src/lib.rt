@@ -12,6 +12,12 @@ use base::limit;
 
 mod costs;
 
+// The place of GL that serves each class, 5 where none does.
+pub const SERVED_IN_GL: [u8; 17] = [0, 5, 1, 5, 5, 5, 5, 5, 5, 5, 5, 5, 2, 3, 4, 0, 0];
+
+// That of GR, 16 where none does.
+pub const SERVED_IN_GR: [u8; 17] = [16, 0, 16, 1, 2, 3, 4, 5, 6, 7, 8, 9, 10, 11, 12, 16, 16];
+
 // The class of a unit by its row's tag.
 pub fn class_of(tag: u8) -> usize
     ensures { λ r. ⌜ (r ≡ classOf tag) × (r < 17) ⌝ }
@@ -110,8 +116,8 @@ pub fn plan(work: &mut [u8], n: usize, segments: &[u8]) -> usize
     fours[15] = 0;
     let mut threes = [3u8; 32];
     threes[15] = 0;
-    let left: [u8; 17] = [0, 5, 1, 5, 5, 5, 5, 5, 5, 5, 5, 5, 2, 3, 4, 0, 0];
-    let right: [u8; 17] = [16, 0, 16, 1, 2, 3, 4, 5, 6, 7, 8, 9, 10, 11, 12, 16, 16];
+    let left = SERVED_IN_GL;
+    let right = SERVED_IN_GR;
     let mut cur = [0u8; 80];
     let mut base: usize = 0;
     let mut last: usize = 16;
