@@ -228,7 +228,7 @@ ctext_reader ctext_open(void);
    element; the answer is then that of ctext_check, and every further step
    repeats it. A string over 65,535 octets gives CTEXT_TOO_LONG and no unit,
    whatever the reader. A reader made by hand is read on by the rules from where
-   it stands, and its answer's count is its own; one whose place lies past the
+   it stands, and its count goes on from its own; one whose place lies past the
    string, with a set on a side it may not use, or whose depth is over 16, gives
    CTEXT_BAD_UNIT at 0. Reads s, touches nothing. */
 ctext_step ctext_next(const uint8_t *s, size_t n, ctext_reader reader);

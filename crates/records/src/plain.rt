@@ -1,4 +1,4 @@
-// A quick check of characters and spaces. Bounds are chosen by the set and not one of two tests: the processor foresees no test whose
+// A quick check of characters and spaces. The set chooses the bounds, and one test serves all sets: a processor cannot foresee a test whose
 // outcome changes from word to word.
 ghost use mathlib.Core.Path.{_≡_};
 ghost use Rattle.records.specs.Plain.{boundsOf, usedBy, setBy, codeBy, plainOf};
@@ -6,8 +6,8 @@ use base::Unit;
 use base::kind;
 use charset::NO_SET;
 
-// The lowest code of a set, above how many each of its two octets may be more than the lowest: of a set of 94, of 96, of 94 by 94. In one
-// number, so that one choice by the set has all bounds.
+// The bounds of the codes of a set of 94, of 96, of 94 by 94, in one number, so that they are chosen at once: in the higher 16 bits the
+// lowest code, in the lower ones how far each of its two octets may go beyond the lowest.
 fn bounds(set: u8) -> u32
     ensures { λ r. ⌜ r ≡ boundsOf set ⌝ }
 {
