@@ -9,7 +9,7 @@ use lib.ListN.{length, getD, set, length-set}
 use lib.Seq.{getD-set-same, getD-set-other}
 use lib.Dec.{ltb, eqb}
 use borrow.Author.Tests.{ltb-true, ltb-false, eqb-true, eqb-false}
-use Rattle.plan.specs.Costs.{Filled, ColumnFilled, Columns, Charges, Column}
+use Rattle.plan.specs.Costs.{Filled, ColumnFilled, Columns, Charges, Column, Row}
 
 below-cases : (j k : ℕ) → j < k + 1 → (j < k) ⊎ (j ≡ k)
 below-cases j k h = go (ltb j k) refl
@@ -46,6 +46,14 @@ filled-at f m before after v s h e =
 
 pub filled-end : {f : ℕ → ℕ} {at k : ℕ} {before after : List ℕ} (m : ℕ) → Filled f at k before after → k ≤ m → m ≤ k → Filled f at m before after
 filled-end {f} {at} {k} {before} {after} m s l h = subst (λ (i : ℕ). Filled f at i before after) (omega arith) s
+
+-- what is read first is what is then stored
+pub filled-same : {f g : ℕ → ℕ} {at m : ℕ} {before after : List ℕ} → ((r : ℕ) → r < m → f r ≡ g r) → Filled f at m before after → Filled g at m before after
+filled-same e s = record { there = λ r h. s .there r h ∙ e r h; kept = s .kept; long = s .long }
+
+pub row-filled : (costs : List ℕ) (from : ℕ) (before row : List ℕ) → length row ≡ 16 → Filled (λ r. getD costs (from + r) 0) 0 16 before row → Row costs from row
+row-filled costs from before row l s =
+    record { sixteen = l; each = λ r h. ap (λ (i : ℕ). getD row i 0) (let z : r ≡ 0 + r = omega arith in z) ∙ s .there r h }
 
 -- ---- a fact of each of five
 

@@ -74,6 +74,11 @@ pub record Column (costs : List ℕ) (r : ℕ) (added : List ℕ) : Type 0 where
   pub five : length added ≡ 5
   pub each : (g : ℕ) → g < 5 → getD added g 0 ≡ getD costs (16 * g + r) 0
 
+-- 16 costs from a place on
+pub record Row (costs : List ℕ) (from : ℕ) (row : List ℕ) : Type 0 where
+  pub sixteen : length row ≡ 16
+  pub each : (r : ℕ) → r < 16 → getD row r 0 ≡ getD costs (from + r) 0
+
 -- a designation's price 31 times, but nothing in the middle, and then the price once more: from 15 - r on nothing stands at place r
 abbrev pub surcharges : ℕ → List ℕ
 surcharges p =

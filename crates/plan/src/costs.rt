@@ -5,7 +5,7 @@ ghost use Prim.Native.Nat.{ℕ, _+_, _-_, _*_, _≤_, _<_, min};
 ghost use lib.Dec.{eqb};
 ghost use lib.ListN.{length, getD};
 ghost use Rattle.plan.specs.Numbers.{servedInGL, servedInGR};
-ghost use Rattle.plan.specs.Costs.{Filled, ColumnFilled, Columns, SumsFit, Charges, Column, surcharges, InGL, InGR, OnBoth, leastBy, Smooth, changes, Turned, RowKept};
+ghost use Rattle.plan.specs.Costs.{Filled, ColumnFilled, Columns, SumsFit, Charges, Column, Row, surcharges, InGL, InGR, OnBoth, leastBy, Smooth, changes, Turned, RowKept};
 
 fn lesser(a: u8, b: u8) -> u8
     ensures { λ r. ⌜ r ≡ min a b ⌝ }
@@ -249,14 +249,29 @@ pub fn unit_before(
     Taken { base: 0, last }
 }
 
-// Keeps 16 costs, from a place on.
+// The 16 costs from a place on.
+fn row_of(costs: &[u8; 80], from: usize) -> [u8; 16]
+    requires { ⌜ from + 16 ≤ 80 ⌝ }
+    ensures { λ v. ⌜ Row (now (costs .entry)) from v ⌝ }
+{
+    let mut row = [0u8; 16];
+    let mut r: usize = 0;
+    while r < 16 {
+        row[r] = costs[from + r];
+        r += 1;
+    }
+    row
+}
+
+// Keeps 16 costs, from a place on. Through an array of its own, which cannot lie in the work room: so the compiler stores all 16 at once.
 fn keep_row(cur: &[u8; 80], from: usize, work: &mut [u8], at: usize)
     requires { ⌜ (from + 16 ≤ 80) × (at + 16 ≤ length (now work)) ⌝ }
     ensures { λ _. ⌜ Filled (λ r. getD (now (cur .entry)) (from + r) 0) at 16 (now (work .entry)) (now (work .exit)) ⌝ }
 {
+    let row = row_of(cur, from);
     let mut r: usize = 0;
     while r < 16 {
-        work[at + r] = cur[from + r];
+        work[at + r] = row[r];
         r += 1;
     }
 }

@@ -15,10 +15,16 @@ use Rattle.charset.proofs.Laws.{formRule, form-rule}
 use Rattle.text.specs.Text.{graphicOf}
 use Rattle.state.specs.Directions.{writtenOf, stepOf, countsAsText}
 use Rattle.state.specs.declared.directions.Directions.{Directions}
+use Rattle.state.specs.declared.directions.Step.{Step}
 use Rattle.state.specs.declared.directions.Step.the-variants.{Goes}
 use Rattle.grammar.specs.Units.{codeUsed}
 use Rattle.grammar.specs.Records.{unitRead}
 use Rattle.writing.specs.Records.{fault}
+use Rattle.rows.specs.Rows.{withRecord}
+use Rattle.records.specs.Row.{Stowable}
+use Rattle.records.specs.Turn.{onFault, turnOf, roomAfter, quickAfter}
+use Rattle.records.specs.declared.Progress.{Progress}
+use Rattle.records.specs.declared.Progress.the-variants.{Fine, Faulty}
 use Rattle.records.specs.Plain.{boundsOf, aboveOf, usedBy, setBy, codeBy, plainOf, settledOf}
 use Rattle.records.proofs.Refusals.{kind-character, kind-plain, code-fits}
 
@@ -93,6 +99,17 @@ text-goes k d h e = rw (lt-ltb k 2 h) (settled-written d e)
 
 -- ---- a record
 
+-- it has a row: it is no segment
+pub plain-stowable : (r : UnitRecord) → plainOf r ≡ true → Stowable r
+unfolding plainOf pick
+plain-stowable r e = go (leb (r .kind) 1) refl
+  where
+    go : (t : Bool) → leb (r .kind) 1 ≡ t → Stowable r
+    go true p =
+        let l = leb-true (r .kind) 1 p in
+        record { one-of-eight = omega arith; low = λ z. absurd (omega arith); high = λ z. absurd (omega arith); few = λ z. absurd (omega arith) }
+    go false p = absurd (false≢true (rw p at e))
+
 pub plain-goes : (o : List ℕ) (r : UnitRecord) (d : Directions) → settledOf d ≡ true → plainOf r ≡ true → fault (unitRead o r) d ≡ Goes d
 unfolding plainOf setBy codeBy pick
 plain-goes o r d s e = go (leb (r .kind) 1) refl (eqb (r .kind) 1) refl
@@ -108,3 +125,17 @@ plain-goes o r d s e = go (leb (r .kind) 1) refl (eqb (r .kind) 1) refl
         let w = within (r .set) (r .code) (rw (p, q) at e) in
         sym (kind-character o r d k) ∙ sym (code-fits (r .set) (r .code) d (w .set) (code-used (r .set) (r .code) w)) ∙ text-goes kind.character d (omega arith) s
     go false p u q = absurd (false≢true (rw p at e))
+
+-- ---- a turn
+
+-- where the check so far allows it, a record that is let through leaves the progress as it is
+pub quick-goes : (o : List ℕ) (r : UnitRecord) (i : ℕ) (p : Progress) → quickAfter p ≡ true → plainOf r ≡ true → turnOf o r i p ≡ p
+unfolding turnOf
+quick-goes o r i (Fine d) s e = ap (λ (t : Step). onFault t i) (plain-goes o r d s e)
+quick-goes o r i (Faulty n j) s e = absurd (false≢true s)
+
+-- and stands in its row
+pub quick-room : (p : Progress) (r : UnitRecord) (i : ℕ) (w : List ℕ) → quickAfter p ≡ true → roomAfter p r i w ≡ withRecord w i r
+unfolding roomAfter
+quick-room (Fine d) r i w s = refl
+quick-room (Faulty n j) r i w s = absurd (false≢true s)

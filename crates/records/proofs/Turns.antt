@@ -1,19 +1,22 @@
 -- A turn of the check: by what it was before, and by what the record's refusal is; and the seven octets of a row.
-use Prim.Native.Nat.{ℕ, zero, suc, _+_, _/_, _%_, _<_}
+use Prim.Native.Nat.{ℕ, zero, suc, _+_, _/_, _%_, _≤_, _<_}
 use native.Mathlib.Omega.{arith}
 use native.Mathlib.Numerals.{add-one}
 use mathlib.Core.Path.{_≡_, refl, ap, _∙_}
+use mathlib.Core.Bool.{Bool, true, false}
 use mathlib.Core.List.{List, [], _∷_}
 use lib.ListN.{set}
 use lib.Seq.{sets}
 use Rattle.base.specs.declared.Unit.{Unit as UnitRecord}
 use Rattle.state.specs.declared.directions.Directions.{Directions}
 use Rattle.state.specs.declared.directions.Step.the-variants.{Goes, Stops}
+use Rattle.base.specs.Choice.{pick}
 use Rattle.grammar.specs.Records.{unitRead}
 use Rattle.writing.specs.Records.{fault}
 use Rattle.rows.specs.Rows.{tagOf, numberOf, sevenOctets, withRecord}
 use Rattle.records.specs.Row.{Stowable}
-use Rattle.records.specs.Turn.{turnOf, roomAfter}
+use Rattle.records.specs.Plain.{settledOf}
+use Rattle.records.specs.Turn.{turnOf, roomAfter, quickAfter, quickUntil}
 use Rattle.records.specs.declared.Progress.{Progress}
 use Rattle.records.specs.declared.Progress.the-variants.{Fine, Faulty}
 use Rattle.records.proofs.Refusals.{judged-good}
@@ -36,6 +39,36 @@ module _ (o : List ℕ) (r : UnitRecord) (i : ℕ) (p : Progress) (w : List ℕ)
   pub turn-faulty : (n j : ℕ) → p ≡ Faulty n j → (Faulty n j ≡ turnOf o r i p) × (w ≡ roomAfter (turnOf o r i p) r i w)
   unfolding turnOf roomAfter
   turn-faulty n j ep = (rw ep, rw ep)
+
+-- where the quick check ends at the latest
+module _ (p : Progress) (from n : ℕ) where
+  pub until-settled : (d : Directions) → p ≡ Fine d → settledOf d ≡ true → n ≡ quickUntil p from n
+  unfolding quickUntil pick
+  until-settled d ep es = rw (ep, es)
+
+  pub until-unsettled : (d : Directions) → p ≡ Fine d → settledOf d ≡ false → from ≡ quickUntil p from n
+  unfolding quickUntil pick
+  until-unsettled d ep es = rw (ep, es)
+
+  pub until-faulty : (k j : ℕ) → p ≡ Faulty k j → from ≡ quickUntil p from n
+  unfolding quickUntil pick
+  until-faulty k j ep = rw ep
+
+  pub until-quick : from < quickUntil p from n → quickAfter p ≡ true
+  unfolding quickUntil pick
+  until-quick h = go (quickAfter p) refl
+    where
+      go : (b : Bool) → quickAfter p ≡ b → quickAfter p ≡ true
+      go true e = e
+      go false e = absurd (let z : from < from = rw e at h in omega arith)
+
+  pub until-most : from ≤ n → quickUntil p from n ≤ n
+  unfolding quickUntil pick
+  until-most h = go (quickAfter p)
+    where
+      go : (b : Bool) → pick b n from ≤ n
+      go true = omega arith
+      go false = h
 
 -- two stores at different places may change their order
 set-swap : (l : List ℕ) (i j x y : ℕ) → (i ≡ j → ⊥) → set (set l i x) j y ≡ set (set l j y) i x

@@ -1,5 +1,6 @@
 -- The check of a list of unit records, record by record.
 use Prim.Native.Nat.{ℕ}
+use mathlib.Core.Bool.{Bool, false}
 use mathlib.Core.List.{List}
 use lib.Dec.{leb}
 use Rattle.base.specs.Choice.{pick}
@@ -11,6 +12,7 @@ use Rattle.state.specs.declared.directions.Step.the-variants.{Goes, Stops}
 use Rattle.grammar.specs.Records.{unitRead}
 use Rattle.writing.specs.Records.{fault}
 use Rattle.rows.specs.Rows.{withRecord}
+use Rattle.records.specs.Plain.{settledOf}
 use Rattle.records.specs.declared.Progress.{Progress}
 use Rattle.records.specs.declared.Progress.the-variants.{Fine, Faulty}
 
@@ -31,6 +33,15 @@ turnOf o r i (Faulty n j) = Faulty n j
 unfoldable pub roomAfter : Progress → UnitRecord → ℕ → List ℕ → List ℕ
 roomAfter (Fine d) r i w = withRecord w i r
 roomAfter (Faulty n j) r i w = w
+
+-- whether a record that the quick check lets through changes nothing but its row
+abbrev pub quickAfter : Progress → Bool
+quickAfter (Fine d) = settledOf d
+quickAfter (Faulty n j) = false
+
+-- where the quick check of the records from a place on ends at the latest
+unfoldable pub quickUntil : Progress → ℕ → ℕ → ℕ
+quickUntil p from n = pick (quickAfter p) n from
 
 -- how many records are looked at: all, but none of a list that is too long
 unfoldable pub lookedAt : ℕ → ℕ

@@ -3,10 +3,12 @@
 ghost use mathlib.Core.Path.{_≡_};
 ghost use Prim.Native.Nat.{_<_};
 ghost use lib.ListN.{length};
+ghost use Rattle.base.specs.Choice.{pick};
 ghost use Rattle.grammar.specs.Records.{unitRead};
 ghost use Rattle.writing.specs.Records.{fault};
-ghost use Rattle.records.specs.Plain.{settledOf};
-ghost use Rattle.records.specs.Turn.{begun, turnOf, roomAfter, lookedAt};
+ghost use Rattle.rows.specs.Rows.{withRecord};
+ghost use Rattle.records.specs.Plain.{settledOf, plainOf};
+ghost use Rattle.records.specs.Turn.{begun, turnOf, roomAfter, lookedAt, quickUntil};
 use base::Unit;
 use base::kind;
 use base::limit;
@@ -69,6 +71,32 @@ fn settled(directions: Directions) -> bool
     directions.texted
 }
 
+// Where the quick check of the records from a place on ends at the latest: at n, but where the directions are not settled at once.
+pub fn quick_until(progress: Progress, from: usize, n: usize) -> usize
+    ensures { λ r. ⌜ r ≡ quickUntil progress from n ⌝ }
+{
+    match progress {
+        Progress::Fine(directions) => {
+            if settled(directions) {
+                return n;
+            }
+            from
+        }
+        Progress::Faulty(_, _) => from,
+    }
+}
+
+// Record i, where the directions are settled: put into its row if the quick check lets it through, which is the answer.
+pub fn quick_turn(unit: Unit, i: usize, work: &mut [u8]) -> bool
+    ensures { λ r. ⌜ (r ≡ plainOf unit) × (now (work .exit) ≡ pick (plainOf unit) (withRecord (now (work .entry)) i unit) (now (work .entry))) ⌝ }
+{
+    if plain::plain(unit) {
+        row::put(unit, i, work);
+        return true;
+    }
+    false
+}
+
 // Record i: checked, and put into its row where it is not refused and the work room has that row.
 pub fn turn(progress: Progress, unit: Unit, i: usize, segments: &[u8], work: &mut [u8]) -> Progress
     ensures { λ r. ⌜ (r ≡ turnOf (now (segments .entry)) unit i progress)
@@ -76,12 +104,6 @@ pub fn turn(progress: Progress, unit: Unit, i: usize, segments: &[u8], work: &mu
 {
     match progress {
         Progress::Fine(directions) => {
-            if settled(directions) {
-                if plain::plain(unit) {
-                    row::put(unit, i, work);
-                    return Progress::Fine(directions);
-                }
-            }
             let step = judge(unit, segments, directions);
             match step {
                 Step::Goes(next) => {

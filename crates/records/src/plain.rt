@@ -1,23 +1,22 @@
-// A quick check of characters and spaces. The set chooses the bounds, and one test serves all sets: a processor cannot foresee a test whose
+// A quick check of characters and spaces. The set gives the bounds, and one test serves all sets: a processor cannot foresee a test whose
 // outcome changes from word to word.
 ghost use mathlib.Core.Path.{_≡_};
+ghost use Prim.Native.Nat.{_<_};
 ghost use Rattle.records.specs.Plain.{boundsOf, usedBy, setBy, codeBy, plainOf};
 use base::Unit;
 use base::kind;
 use charset::NO_SET;
 
-// The bounds of the codes of a set of 94, of 96, of 94 by 94, in one number, so that they are chosen at once: in the higher 16 bits the
-// lowest code, in the lower ones how far each of its two octets may go beyond the lowest.
+// The bounds of the codes of a set of 94, of 96, of 94 by 94, in one number: in the higher 16 bits the lowest code, in the lower ones how
+// far each of its two octets may go beyond the lowest. Computed and not chosen by tests, of which the compiler makes a branch.
 fn bounds(set: u8) -> u32
+    requires { ⌜ set < 15 ⌝ }
     ensures { λ r. ⌜ r ≡ boundsOf set ⌝ }
 {
-    if set < 3 {
-        return 0x0021_005D;
-    }
-    if set < 12 {
-        return 0x0020_005F;
-    }
-    0x2121_5D5D
+    let c = set as u32;
+    let two_octets = (c + 4) / 16;
+    let not_94 = (c + 13) / 16;
+    0x0021_005D + two_octets * 0x2100_5D00 - (not_94 - two_octets) * 0xFFFE
 }
 
 // Whether both octets of a code lie in the bounds of its set. The code is measured from the lowest, round the 65,536, so that an octet

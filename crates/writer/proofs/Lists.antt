@@ -23,11 +23,13 @@ use Rattle.writing.specs.Records.{fault, Checked, fine, faulty, onStep, checkRe
 use Rattle.writing.specs.Offence.{noRecord}
 use Rattle.writing.proofs.Bounds.{Good}
 use Rattle.rows.specs.Rows.{startFrom, unitTagged, unitFrom, unitsIn, tagOf, sevenOctets, withRecord}
-use Rattle.records.specs.Turn.{begun, onFault, turnOf, roomAfter, lookedAt}
+use Rattle.records.specs.Plain.{plainOf}
+use Rattle.records.specs.Turn.{begun, onFault, turnOf, roomAfter, quickAfter, lookedAt}
 use Rattle.records.specs.declared.Progress.{Progress}
 use Rattle.records.specs.declared.Progress.the-variants.{Fine, Faulty}
 use Rattle.records.proofs.Fits.{fits}
-use Rattle.writer.specs.Stowed.{reached, HoldsRecord, Stowed}
+use Rattle.records.proofs.Quick.{quick-goes, quick-room}
+use Rattle.writer.specs.Stowed.{reached, HoldsRecord, Stowed, quickRun, Passed}
 
 -- ---- the check
 
@@ -200,3 +202,54 @@ reached-next o rs k = refl
 pub reached-none : (o : List ℕ) (rs : List UnitRecord) → begun ≡ reached o rs 0
 unfolding reached
 reached-none o rs = refl
+
+-- ---- for the loop of the quick check
+
+pub run-over : (rs : List UnitRecord) (m i : ℕ) → m ≡ 0 → i ≡ quickRun rs m i
+unfolding quickRun
+run-over rs zero i e = refl
+run-over rs (suc m) i e = absurd (omega arith)
+
+pub run-stops : (rs : List UnitRecord) (m i : ℕ) → plainOf (getD rs i noRecord) ≡ false → i ≡ quickRun rs m i
+unfolding quickRun pick
+run-stops rs zero i e = refl
+run-stops rs (suc m) i e = rw e
+
+pub run-goes : (rs : List UnitRecord) (m k i : ℕ) → m ≡ suc k → plainOf (getD rs i noRecord) ≡ true → quickRun rs k (suc i) ≡ quickRun rs m i
+unfolding quickRun pick
+run-goes rs zero k i e t = absurd (omega arith)
+run-goes rs (suc m) k i e t = rw t (ap (λ (j : ℕ). quickRun rs j (suc i)) (let z : k ≡ m = omega arith in z))
+
+pub run-most : (rs : List UnitRecord) (m i : ℕ) → quickRun rs m i ≤ i + m
+unfolding quickRun pick
+run-most rs zero i = omega arith
+run-most rs (suc m) i = go (plainOf (getD rs i noRecord)) (run-most rs m (suc i))
+  where
+    go : (b : Bool) → quickRun rs m (suc i) ≤ suc i + m → pick b (quickRun rs m (suc i)) i ≤ i + suc m
+    go true h = omega arith
+    go false h = omega arith
+
+pub length-quick : (b : Bool) (r : UnitRecord) (i : ℕ) (w : List ℕ) → length (pick b (withRecord w i r) w) ≡ length w
+unfolding pick
+length-quick true r i w = length-with w i r
+length-quick false r i w = refl
+
+pub passed-none : (p : Progress) (rs : List UnitRecord) (i : ℕ) (w : List ℕ) → Passed p rs i i w w
+passed-none p rs i w = record { onwards = omega arith; same = refl; stays = λ o e. e; stowed = λ o room e s. s }
+
+pub passed-next : (p : Progress) (rs : List UnitRecord) (from i : ℕ) (before after : List ℕ) → quickAfter p ≡ true → plainOf (getD rs i noRecord) ≡ true
+    → Passed p rs from i before after → Passed p rs from (suc i) before (withRecord after i (getD rs i noRecord))
+unfolding reached
+passed-next p rs from i before after q t s =
+    record {
+      onwards = omega (arith, s .onwards);
+      same = length-with after i r ∙ s .same;
+      stays = λ o e. turn o e;
+      stowed = λ o room e h. subst (Stowed o rs (suc i) room) (ap (λ (z : Progress). roomAfter z r i after) (turn o e) ∙ quick-room p r i after q) (stowed-next o rs i room after (s .stowed o room e h));
+    }
+  where
+    r : UnitRecord
+    r = getD rs i noRecord
+
+    turn : (o : List ℕ) → reached o rs from ≡ p → turnOf o r i (reached o rs i) ≡ p
+    turn o e = ap (turnOf o r i) (s .stays o e) ∙ quick-goes o r i p q t

@@ -1,5 +1,5 @@
 -- The check of a whole list, record by record, and what the work room holds after it; and the answer from there.
-use Prim.Native.Nat.{ℕ, zero, suc, _+_, _*_, _≤_, _<_}
+use Prim.Native.Nat.{ℕ, zero, suc, _+_, _-_, _*_, _≤_, _<_}
 use mathlib.Core.Path.{_≡_}
 use mathlib.Core.List.{List}
 use lib.Dec.{ltb}
@@ -13,7 +13,8 @@ use Rattle.base.specs.declared.Unit.{Unit as UnitRecord}
 use Rattle.state.specs.declared.directions.Directions.{Directions}
 use Rattle.writing.specs.Offence.{noRecord}
 use Rattle.rows.specs.Rows.{sevenOctets}
-use Rattle.records.specs.Turn.{begun, turnOf}
+use Rattle.records.specs.Plain.{plainOf}
+use Rattle.records.specs.Turn.{begun, turnOf, quickUntil}
 use Rattle.records.specs.declared.Progress.{Progress}
 use Rattle.records.specs.declared.Progress.the-variants.{Fine, Faulty}
 use Rattle.emit.specs.Emit.{rowsAnswer, rowsOutput}
@@ -32,6 +33,25 @@ pub record Stowed (o : List ℕ) (rs : List UnitRecord) (k : ℕ) (before after 
   pub same : length after ≡ length before
   pub rows : (d : Directions) → reached o rs k ≡ Fine d → (i : ℕ) → i < k → 72 * i + 72 ≤ length before
       → HoldsRecord after i (getD rs i noRecord)
+
+-- ---- the quick check
+
+-- the place of the first of m records from a place on that the quick check does not let through, or of the record after them
+unfoldable pub quickRun : List UnitRecord → ℕ → ℕ → ℕ
+quickRun rs zero i = i
+quickRun rs (suc m) i = pick (plainOf (getD rs i noRecord)) (quickRun rs m (suc i)) i
+
+abbrev pub quickEnd : Progress → List UnitRecord → ℕ → ℕ → ℕ
+quickEnd p rs from n = quickRun rs (quickUntil p from n - from) from
+
+-- the records from a place to before another change nothing in the progress p, and stand in their rows as those before them do
+pub record Passed (p : Progress) (rs : List UnitRecord) (from to : ℕ) (before after : List ℕ) : Type 0 where
+  pub onwards : from ≤ to
+  pub same : length after ≡ length before
+  pub stays : (o : List ℕ) → reached o rs from ≡ p → reached o rs to ≡ p
+  pub stowed : (o room : List ℕ) → reached o rs from ≡ p → Stowed o rs from room before → Stowed o rs to room after
+
+-- ---- the answer
 
 -- the answer for a list of n records that is checked so far, and for an output of m octets; and the output after
 abbrev pub onProgress : {X : Type 0} → Progress → X → (ℕ → ℕ → X) → X

@@ -1,15 +1,35 @@
 // The writer: from a list of unit records to the shortest string that reads as it.
 ghost use mathlib.Core.Path.{_≡_};
+ghost use Prim.Native.Nat.{_≤_};
 ghost use lib.ListN.{length};
 ghost use Rattle.writing.specs.Records.{writerAnswer, writerOutput};
 ghost use Rattle.writing.specs.Demand3.{Demand3For};
 ghost use Rattle.records.specs.Turn.{lookedAt};
-ghost use Rattle.writer.specs.Stowed.{reached, Stowed, finishAnswer, finishOutput};
+ghost use Rattle.writer.specs.Stowed.{reached, Stowed, quickEnd, Passed, finishAnswer, finishOutput};
 use base::Answer;
 use base::Unit;
 use base::limit;
 use base::refusal;
 use records::Progress;
+
+// Checks the records from a place on quickly, and puts them into their rows, up to the first that this check does not let through, whose
+// place is the answer. In a loop of its own, so that the compiler keeps all that it needs in registers.
+fn stow_quickly(progress: Progress, units: &[Unit], from: usize, n: usize, work: &mut [u8]) -> usize
+    requires { ⌜ (from ≤ n) × (n ≤ length (now units)) ⌝ }
+    ensures { λ r. ⌜ (r ≡ quickEnd progress (now (units .entry)) from n)
+        × Passed progress (now (units .entry)) from (quickEnd progress (now (units .entry)) from n) (now (work .entry)) (now (work .exit)) ⌝ }
+{
+    let mut end = records::quick_until(progress, from, n);
+    let mut i = from;
+    while i < end {
+        if records::quick_turn(units[i], i, work) {
+            i += 1;
+        } else {
+            end = i;
+        }
+    }
+    i
+}
 
 // Checks each record, and puts it into its row of the work room.
 fn stow(units: &[Unit], segments: &[u8], work: &mut [u8]) -> Progress
@@ -21,7 +41,8 @@ fn stow(units: &[Unit], segments: &[u8], work: &mut [u8]) -> Progress
     let mut i: usize = 0;
     while i < n {
         progress = records::turn(progress, units[i], i, segments, work);
-        i += 1;
+        let next = stow_quickly(progress, units, i + 1, n, work);
+        i = next;
     }
     progress
 }
