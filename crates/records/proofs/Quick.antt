@@ -1,8 +1,8 @@
 -- The quick check is right: a record that it lets through, where the directions are settled, is refused for nothing and changes no
 -- direction. A space by its kind; a character since the bounds of its set's octets are those of the codes that the set uses.
-use Prim.Native.Nat.{ℕ, _/_, _%_, _≤_, _<_}
+use Prim.Native.Nat.{ℕ, _+_, _-_, _*_, _/_, _%_, _≤_, _<_}
 use native.Mathlib.Omega.{arith}
-use mathlib.Core.Path.{_≡_, refl, sym, ap, _∙_}
+use mathlib.Core.Path.{_≡_, refl, sym, ap, subst, _∙_}
 use mathlib.Core.Bool.{Bool, true, false, false≢true}
 use mathlib.Core.List.{List}
 use lib.Dec.{eqb, leb, ltb}
@@ -25,7 +25,7 @@ use Rattle.records.specs.Row.{Stowable}
 use Rattle.records.specs.Turn.{onFault, turnOf, roomAfter, quickAfter}
 use Rattle.records.specs.declared.Progress.{Progress}
 use Rattle.records.specs.declared.Progress.the-variants.{Fine, Faulty}
-use Rattle.records.specs.Plain.{boundsOf, aboveOf, usedBy, setBy, codeBy, plainOf, settledOf}
+use Rattle.records.specs.Plain.{twoOctets, wider, lowFrom, highFrom, usedBy, setBy, codeBy, plainOf, settledOf}
 use Rattle.records.proofs.Refusals.{kind-character, kind-plain, code-fits}
 
 -- ---- a code
@@ -43,46 +43,46 @@ graphic m a b = rw (le-ltb m 0x21 a, le-leb m 0x7E b)
 record Within (c k : ℕ) : Type 0 where
   whole : k < 0x10000
   set : c < no-set
-  low : aboveOf (boundsOf c) k % 256 ≤ boundsOf c % 0x10000 % 256
-  high : aboveOf (boundsOf c) k / 256 ≤ boundsOf c % 0x10000 / 256
+  low : lowFrom c k ≤ 0x5D + 2 * wider c
+  high : highFrom c k ≤ 0x5D * twoOctets c
 
 within : (c k : ℕ) → usedBy c k ≡ true → Within c k
 unfolding usedBy
 within c k e =
     let a = passed (leb 0x10000 k) _ e in
     let b = passed (leb no-set c) _ (a .1) in
-    let d = passed (ltb (boundsOf c % 0x10000 % 256) (aboveOf (boundsOf c) k % 256)) _ (b .1) in
+    let d = passed (ltb (0x5D + 2 * wider c) (lowFrom c k)) _ (b .1) in
     record {
       whole = leb-false 0x10000 k (a .0);
       set = leb-false no-set c (b .0);
-      low = ltb-false (boundsOf c % 0x10000 % 256) (aboveOf (boundsOf c) k % 256) (d .0);
-      high = leb-true (aboveOf (boundsOf c) k / 256) (boundsOf c % 0x10000 / 256) (d .1);
+      low = ltb-false (0x5D + 2 * wider c) (lowFrom c k) (d .0);
+      high = leb-true (highFrom c k) (0x5D * twoOctets c) (d .1);
     }
 
 -- by the form of the set
+bounded : (c k t m : ℕ) → Within c k → twoOctets c ≡ t → wider c ≡ m
+    → ((k % 256 + 223 + m) % 256 ≤ 0x5D + 2 * m) × ((k / 256 + 256 - 0x21 * t) % 256 ≤ 0x5D * t) × (k < 0x10000)
+bounded c k t m w et em =
+    (subst (λ (m : ℕ). (k % 256 + 223 + m) % 256 ≤ 0x5D + 2 * m) em (w .low), subst (λ (t : ℕ). (k / 256 + 256 - 0x21 * t) % 256 ≤ 0x5D * t) et (w .high), w .whole)
+
 code-used : (c k : ℕ) → Within c k → codeUsed (formOf c) k ≡ true
-unfolding formRule boundsOf codeUsed pick
+unfolding formRule codeUsed pick
 code-used c k w = rw (← form-rule c) (go (ltb c 3) refl (ltb c 12) refl)
   where
     go : (s : Bool) → ltb c 3 ≡ s → (t : Bool) → ltb c 12 ≡ t → codeUsed (formRule c) k ≡ true
     go true p t q =
-        let a = rw p at (w .low) in
-        let b = rw p at (w .high) in
-        rw p (graphic k (omega (arith, w .whole, a, b)) (omega (arith, w .whole, a, b)))
+        let h = ltb-true c 3 p in
+        let b = bounded c k 0 0 w (omega (arith, h)) (omega (arith, h)) in
+        rw p (graphic k (omega (arith, b)) (omega (arith, b)))
     go false p true q =
-        let a = rw (p, q) at (w .low) in
-        let b = rw (p, q) at (w .high) in
-        rw (p, q, le-leb 0x20 k (omega (arith, w .whole, a, b)), le-leb k 0x7F (omega (arith, w .whole, a, b)))
+        let h = ltb-false c 3 p in
+        let l = ltb-true c 12 q in
+        let b = bounded c k 0 1 w (omega (arith, l)) (omega (arith, h, l)) in
+        rw (p, q, le-leb 0x20 k (omega (arith, b)), le-leb k 0x7F (omega (arith, b)))
     go false p false q =
-        let a = rw (p, q) at (w .low) in
-        let b = rw (p, q) at (w .high) in
-        rw (
-          p,
-          q,
-          lt-ltb c 15 (w .set),
-          graphic (k / 256) (omega (arith, w .whole, a, b)) (omega (arith, w .whole, a, b)),
-          graphic (k % 256) (omega (arith, w .whole, a, b)) (omega (arith, w .whole, a, b)),
-        )
+        let l = ltb-false c 12 q in
+        let b = bounded c k 1 0 w (omega (arith, l, w .set)) (omega (arith, l, w .set)) in
+        rw (p, q, lt-ltb c 15 (w .set), graphic (k / 256) (omega (arith, b)) (omega (arith, b)), graphic (k % 256) (omega (arith, b)) (omega (arith, b)))
 
 -- ---- the directions
 

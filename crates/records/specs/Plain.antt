@@ -1,6 +1,6 @@
 -- The quick check of a record, as the program makes it: a character or space that changes nothing in the directions. What it says is not
 -- to be believed: that such a record is refused for nothing is proved (Quick in proofs).
-use Prim.Native.Nat.{ℕ, _+_, _-_, _/_, _%_}
+use Prim.Native.Nat.{ℕ, _+_, _-_, _*_, _/_, _%_}
 use mathlib.Core.Bool.{Bool, true, false}
 use lib.Dec.{eqb, leb, ltb}
 use Rattle.base.specs.Choice.{pick}
@@ -9,21 +9,25 @@ use Rattle.base.specs.declared.Unit.{Unit as UnitRecord}
 use Rattle.charset.specs.Charsets.{no-set}
 use Rattle.state.specs.declared.directions.Directions.{Directions}
 
--- the lowest code of a set, times 65,536, and how many each of its octets may be more
-unfoldable pub boundsOf : ℕ → ℕ
-boundsOf c = pick (ltb c 3) 0x0021005D (pick (ltb c 12) 0x0020005F 0x21215D5D)
+-- 1 for a set of 94 by 94, and for one of 96
+abbrev pub twoOctets : ℕ → ℕ
+twoOctets c = (c + 4) / 16
 
--- a code above the lowest, round the 65,536
-abbrev pub aboveOf : ℕ → ℕ → ℕ
-aboveOf both k = (k + 0x10000 - both / 0x10000) % 0x10000
+abbrev pub wider : ℕ → ℕ
+wider c = (c + 13) / 16 - twoOctets c
+
+-- the octets of a code, each from its lowest on, round the 256
+abbrev pub lowFrom : ℕ → ℕ → ℕ
+lowFrom c k = (k % 256 + 223 + wider c) % 256
+
+abbrev pub highFrom : ℕ → ℕ → ℕ
+highFrom c k = (k / 256 + 256 - 0x21 * twoOctets c) % 256
 
 -- both octets of a code of 16 bits lie in their bounds
 unfoldable pub usedBy : ℕ → ℕ → Bool
 usedBy c k =
     pick (leb 0x10000 k) false
-    (pick (leb no-set c) false
-    (pick (ltb (boundsOf c % 0x10000 % 256) (aboveOf (boundsOf c) k % 256)) false
-    (leb (aboveOf (boundsOf c) k / 256) (boundsOf c % 0x10000 / 256))))
+    (pick (leb no-set c) false (pick (ltb (0x5D + 2 * wider c) (lowFrom c k)) false (leb (highFrom c k) (0x5D * twoOctets c))))
 
 -- a space is looked at as the first character of set 0
 unfoldable pub setBy : ℕ → ℕ → ℕ

@@ -1,39 +1,28 @@
 // A quick check of characters and spaces. The set gives the bounds, and one test serves all sets: a processor cannot foresee a test whose
 // outcome changes from word to word.
 ghost use mathlib.Core.Path.{_≡_};
-ghost use Prim.Native.Nat.{_<_};
-ghost use Rattle.records.specs.Plain.{boundsOf, usedBy, setBy, codeBy, plainOf};
+ghost use Rattle.records.specs.Plain.{usedBy, setBy, codeBy, plainOf};
 use base::Unit;
 use base::kind;
 use charset::NO_SET;
 
-// The bounds of the codes of a set of 94, of 96, of 94 by 94, in one number: in the higher 16 bits the lowest code, in the lower ones how
-// far each of its two octets may go beyond the lowest. Computed and not chosen by tests, of which the compiler makes a branch.
-fn bounds(set: u8) -> u32
-    requires { ⌜ set < 15 ⌝ }
-    ensures { λ r. ⌜ r ≡ boundsOf set ⌝ }
-{
-    let c = set as u32;
-    let two_octets = (c + 4) / 16;
-    let not_94 = (c + 13) / 16;
-    0x0021_005D + two_octets * 0x2100_5D00 - (not_94 - two_octets) * 0xFFFE
-}
-
-// Whether both octets of a code lie in the bounds of its set. The code is measured from the lowest, round the 65,536, so that an octet
-// that is too low is too high.
+// Whether both octets of a code lie in the bounds of its set. Each octet is measured from its lowest, round the 256, so that one that is
+// too low is too high. The bounds are computed from the set, and not chosen by tests, of which the compiler would make branches.
 fn used(set: u8, code: u16) -> bool
     ensures { λ r. ⌜ r ≡ usedBy set code ⌝ }
 {
     if NO_SET <= set {
         return false;
     }
-    let both = bounds(set);
-    let above = (code as u32 + 0x1_0000 - both / 0x1_0000) % 0x1_0000;
-    let most = both % 0x1_0000;
-    if most % 256 < above % 256 {
+    // 1 for a set of 94 by 94, and for one of 96
+    let two_octets = (set as u32 + 4) / 16;
+    let wider = (set as u32 + 13) / 16 - two_octets;
+    let low = (code as u32 % 256 + 223 + wider) % 256;
+    if 0x5D + 2 * wider < low {
         return false;
     }
-    above / 256 <= most / 256
+    let high = (code as u32 / 256 + 256 - 0x21 * two_octets) % 256;
+    high <= 0x5D * two_octets
 }
 
 // A space is looked at as the first character of set 0.
