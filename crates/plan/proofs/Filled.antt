@@ -1,15 +1,15 @@
 -- Stores into a list, place by place and row by row.
-use mathlib.Core.Path.{_≡_, refl, ap, _∙_, subst, sym}
+use mathlib.Core.Path.{_≡_, refl, ap, ap₂, _∙_, subst, sym}
 use mathlib.Core.Bool.{Bool, true, false, cond}
 use mathlib.Core.List.{List, [], _∷_}
 use mathlib.Core.Logic.{_⊎_, inl, inr, ⊎-elim}
-use Prim.Native.Nat.{ℕ, _+_, _*_, _/_, _%_, _≤_, _<_}
+use Prim.Native.Nat.{ℕ, _+_, _*_, _/_, _%_, _≤_, _<_, min}
 use native.Mathlib.Omega.{arith}
 use lib.ListN.{length, getD, set, length-set}
 use lib.Seq.{getD-set-same, getD-set-other}
 use lib.Dec.{ltb, eqb}
 use borrow.Author.Tests.{ltb-true, ltb-false, eqb-true, eqb-false}
-use Rattle.plan.specs.Costs.{Filled, ColumnFilled, Columns, Charges, Column, Row}
+use Rattle.plan.specs.Costs.{Filled, ColumnFilled, Columns, Swept, Charges, Column, Row, fromGL}
 
 below-cases : (j k : ℕ) → j < k + 1 → (j < k) ⊎ (j ≡ k)
 below-cases j k h = go (ltb j k) refl
@@ -96,6 +96,79 @@ column-more f r m before after v s hr h e =
 
 pub column-end : {f : ℕ → ℕ} {r k : ℕ} {before after : List ℕ} → ColumnFilled f r k before after → k ≤ 5 → 5 ≤ k → ColumnFilled f r 5 before after
 column-end {f} {r} {k} {before} {after} s l h = subst (λ (i : ℕ). ColumnFilled f r i before after) (omega arith) s
+
+-- a store in each row
+pub column-five : (l : List ℕ) (r a b c : ℕ) → r < 16 → length l ≡ 80
+    → ColumnFilled (λ g. getD (a ∷ b ∷ c ∷ c ∷ c ∷ []) g 0) r 5 l (set (set (set (set (set l r a) (16 + r) b) (32 + r) c) (48 + r) c) (64 + r) c)
+column-five l r a b c hr len = column-more f r 4 l l4 c s4 hr (omega (arith, s4 .long, len)) refl
+  where
+    f : ℕ → ℕ
+    f g = getD (a ∷ b ∷ c ∷ c ∷ c ∷ []) g 0
+
+    l1 : List ℕ
+    l1 = set l r a
+
+    l2 : List ℕ
+    l2 = set l1 (16 + r) b
+
+    l3 : List ℕ
+    l3 = set l2 (32 + r) c
+
+    l4 : List ℕ
+    l4 = set l3 (48 + r) c
+
+    s1 : ColumnFilled f r 1 l l1
+    s1 = subst (λ (i : ℕ). ColumnFilled f r 1 l (set l i a)) (let z : 16 * 0 + r ≡ r = omega arith in z) (column-more f r 0 l l a (column-none f r l) hr (omega (arith, len)) refl)
+
+    s2 : ColumnFilled f r 2 l l2
+    s2 = column-more f r 1 l l1 b s1 hr (omega (arith, s1 .long, len)) refl
+
+    s3 : ColumnFilled f r 3 l l3
+    s3 = column-more f r 2 l l2 c s2 hr (omega (arith, s2 .long, len)) refl
+
+    s4 : ColumnFilled f r 4 l l4
+    s4 = column-more f r 3 l l3 c s3 hr (omega (arith, s3 .long, len)) refl
+
+pub gl-column-of : (l : List ℕ) (r a p b q t first second other : ℕ) → r < 16 → length l ≡ 80 → first ≡ min (a + p) (b + t) → second ≡ min (b + q) (a + t) → other ≡ min (a + p) (b + q)
+    → ColumnFilled (λ g. getD (fromGL a p b q t) g 0) r 5 l (set (set (set (set (set l r first) (16 + r) second) (32 + r) (other + t)) (48 + r) (other + t)) (64 + r) (other + t))
+gl-column-of l r a p b q t first second other hr len e1 e2 e3 =
+    rw (e1, e2, e3) (column-five l r (min (a + p) (b + t)) (min (b + q) (a + t)) (min (a + p) (b + q) + t) hr len)
+
+-- columns that are computed from what they hold
+pub swept-none : (f : ℕ → ℕ → ℕ) (before : List ℕ) → Swept f 0 before before
+swept-none f before = record { there = λ g r h k. absurd (omega arith); kept = λ g r h k. refl; long = refl }
+
+pub swept-more : (f : ℕ → ℕ → ℕ) (h : ℕ → ℕ) (m : ℕ) (before mid after : List ℕ) → m < 16 → ((g : ℕ) → h g ≡ f g m) → Swept f m before mid
+    → ColumnFilled h m 5 mid after → Swept f (m + 1) before after
+swept-more f h m before mid after hm eh s e =
+    record {
+      there = λ g r hg hr.
+          ⊎-elim
+          (λ q. e .kept g r (omega arith) (λ z. omega arith) ∙ s .there g r hg q)
+          (λ q. rw q (e .there g hg ∙ eh g))
+          (below-cases r m hr);
+      kept = λ g r hm hr. e .kept g r hr (λ z. omega arith) ∙ s .kept g r (omega arith) hr;
+      long = e .long ∙ s .long;
+    }
+
+pub swept-next : {f : ℕ → ℕ → ℕ} {m : ℕ} {before after : List ℕ} → Swept f m before after → m < 16
+    → (getD after m 0 ≡ getD before m 0) × (getD after (16 + m) 0 ≡ getD before (16 + m) 0)
+swept-next {f} {m} {before} {after} s h =
+    let z : 16 * 0 + m ≡ m = omega arith in
+    (subst (λ (i : ℕ). getD after i 0 ≡ getD before i 0) z (s .kept 0 m (omega arith) h), s .kept 1 m (omega arith) h)
+
+-- by a column that is computed from what the first two rows held
+pub swept-gl : (p q t : ℕ) {m : ℕ} {before mid after : List ℕ} → m < 16 → Swept (λ g r. getD (fromGL (getD before r 0) p (getD before (16 + r) 0) q t) g 0) m before mid
+    → ColumnFilled (λ g. getD (fromGL (getD mid m 0) p (getD mid (16 + m) 0) q t) g 0) m 5 mid after
+    → Swept (λ g r. getD (fromGL (getD before r 0) p (getD before (16 + r) 0) q t) g 0) (m + 1) before after
+swept-gl p q t {m} {before} {mid} {after} h s e =
+    let held = swept-next s h in
+    swept-more (λ g r. getD (fromGL (getD before r 0) p (getD before (16 + r) 0) q t) g 0) (λ g. getD (fromGL (getD mid m 0) p (getD mid (16 + m) 0) q t) g 0) m before mid after h
+    (λ g. ap₂ (λ (a b : ℕ). getD (fromGL a p b q t) g 0) (held .0) (held .1)) s e
+
+pub swept-end : {f : ℕ → ℕ → ℕ} {k : ℕ} {before after : List ℕ} → Swept f k before after → k ≤ 16 → 16 ≤ k → length before ≡ 80 → Columns f 16 after
+swept-end {f} {k} {before} {after} s l h e =
+    record { there = λ g r hg hr. s .there g r hg (omega arith); long = s .long ∙ e }
 
 pub columns-none : (f : ℕ → ℕ → ℕ) (table : List ℕ) → length table ≡ 80 → Columns f 0 table
 columns-none f table l = record { there = λ g r h k. absurd (omega arith); long = l }

@@ -1,18 +1,19 @@
 -- The least costs from all numbers by one rule: the lesser of two stretches of costs with surcharges, since no cost rises by more than a
 -- designation's price.
 use mathlib.Core.Path.{_≡_, refl, sym, ap, ap₂, _∙_, subst}
-use mathlib.Core.Bool.{Bool, true, false, cond, _||_, _&&_}
+use mathlib.Core.Bool.{Bool, true, false, cond, _||_, _&&_, false≢true}
 use mathlib.Core.List.{List}
 use mathlib.Core.Logic.{_⊎_, inl, inr}
 use Prim.Native.Nat.{ℕ, _+_, _-_, _*_, _≤_, _<_, min}
 use native.Mathlib.Omega.{arith}
 use lib.ListN.{length, getD}
 use lib.Dec.{leb, ltb, eqb}
-use borrow.Author.Tests.{eqb-true, eqb-false, eq-eqb, ne-eqb, leb-true, leb-false, ltb-true, ltb-false, lt-ltb, le-ltb}
+use borrow.Author.Tests.{eqb-true, eqb-false, eq-eqb, ne-eqb, leb-true, leb-false, le-leb, ltb-true, ltb-false, lt-ltb, le-ltb}
 use Rattle.grammar.proofs.Complete.{and-left, and-right}
 use Rattle.writing.proofs.Sets.{upTo, up-to}
 use Rattle.plan.specs.Numbers.{withGL, withGR, priceOfClass, placesInGL, placesInGR, servedInGL, servedInGR, afterFirst, afterSecond, chosenBy, surcharge}
-use Rattle.plan.specs.Costs.{leastBy, Filled, Columns, SumsFit, Charges, Column, surcharges, Smooth, InGL, InGR, OnBoth}
+use Rattle.plan.specs.Costs.{leastBy, SumsFit, Charges, Column, surcharges, fromGL, OfGL, Smooth, InGR, OnBoth}
+use Rattle.plan.proofs.Filled.{all-five}
 use Rattle.plan.proofs.Numbers.{bounded, first-gl, first-gr, second-gl, second-gr, first-space, second-space, price-gl, price-both, price-gr}
 
 -- ---- the least cost where the sets stay, and where one is designated
@@ -137,13 +138,13 @@ module _ (x : ℕ) (next : List ℕ) (g q : ℕ) (hg : g < 5) (hq : q < 16) (sm 
 
 -- ---- the classes that GL alone serves
 
--- a place of another row
-apart : (g n q : ℕ) → q < 16 → (g ≡ n → ⊥) → (16 * g + q < 16 * n) ⊎ (16 * n + 16 ≤ 16 * g + q)
-apart g n q hq h = go (ltb g n) refl
-  where
-    go : (b : Bool) → ltb g n ≡ b → (16 * g + q < 16 * n) ⊎ (16 * n + 16 ≤ 16 * g + q)
-    go true e = inl (let l = ltb-true g n e in omega arith)
-    go false e = inr (let l = ltb-false g n e in omega arith)
+-- such a class is served at place l first, and then at place m
+record InGL (x l m : ℕ) : Type 0 where
+  dear : priceOfClass x ≡ 3
+  first-place : l < 5
+  second-place : m < 5
+  first : (k : ℕ) → withGL l k ≡ afterFirst x k
+  second : (k : ℕ) → withGL m k ≡ afterSecond x k
 
 -- the rows of the two places stay, and from any other row the cheaper place is designated
 module _ (x l m : ℕ) (next : List ℕ) (s : InGL x l m) where
@@ -169,25 +170,9 @@ module _ (x l m : ℕ) (next : List ℕ) (s : InGL x l m) where
       let at-m = ap (λ (j : ℕ). getD next j 0) em in
       omega (arith, least-goes x k next (λ y. nl (omega (arith, el, y))) (λ y. nm (omega (arith, em, y))), s .dear, at-l, at-m)
 
-  pub gl-least : (p : ℕ) (a b c : List ℕ) → p ≡ 3 → Columns (λ g r. min (getD next (16 * l + r) 0) (getD next (16 * m + r) 0) + p) 16 a
-      → Filled (λ r. getD next (16 * l + r) 0) (16 * l) 16 a b → Filled (λ r. getD next (16 * m + r) 0) (16 * m) 16 b c
-      → Columns (λ g r. leastBy x next (16 * g + r)) 16 c
-  gl-least p a b c ep sa sb sc =
-      record { there = λ g q hg hq. at g q hg hq (eqb g m) refl (eqb g l) refl; long = sc .long ∙ sb .long ∙ sa .long }
-    where
-      at : (g q : ℕ) → g < 5 → q < 16 → (t : Bool) → eqb g m ≡ t → (u : Bool) → eqb g l ≡ u → getD c (16 * g + q) 0 ≡ leastBy x next (16 * g + q)
-      at g q hg hq true e u f =
-          let z = eqb-true g m e in
-          ap (λ (n : ℕ). getD c (16 * n + q) 0) z ∙ sc .there q hq ∙ ap (λ (n : ℕ). getD next (16 * n + q) 0) (sym z) ∙ stays-second g q hq z
-      at g q hg hq false e true f =
-          let n = eqb-false g m e in
-          let z = eqb-true g l f in
-          sc .kept (16 * g + q) (apart g m q hq n)
-          ∙ ap (λ (n : ℕ). getD b (16 * n + q) 0) z ∙ sb .there q hq ∙ ap (λ (n : ℕ). getD next (16 * n + q) 0) (sym z) ∙ stays-first g q hq z
-      at g q hg hq false e false f =
-          let n = eqb-false g m e in
-          let o = eqb-false g l f in
-          sc .kept (16 * g + q) (apart g m q hq n) ∙ sb .kept (16 * g + q) (apart g l q hq o) ∙ sa .there g q hg hq ∙ goes g q p hq ep o n
+  -- a cost in another row is no more than a designation above that in the row of the first place
+  near : (k : ℕ) → k < 80 → Smooth x next → getD next k 0 ≤ 3 + getD next (withGL l k) 0
+  near k h sm = omega (arith, sm .first-near k h, s .dear, ap (λ (j : ℕ). getD next j 0) (s .first k))
 
 -- by the tests of a class: that of a space, or a set that has no place in GR
 in-gl : (x l m r : ℕ) → x < 16 → l ≡ getD placesInGL x 0 → r ≡ getD placesInGR x 0 → m ≡ cond (eqb x 15) 1 l → (eqb x 15 || leb 13 r) ≡ true → InGL x l m
@@ -232,11 +217,95 @@ served-left x l hx e =
 right-test : (x : ℕ) → x < 16 → rightTest x ≡ true
 right-test x hx = up-to 16 rightTest refl x hx
 
--- GL alone serves the class
-pub in-left : (x l m r : ℕ) → x < 16 → l ≡ getD servedInGL x 0 → r ≡ getD servedInGR x 0 → m ≡ cond (eqb x 15) 1 l → 13 ≤ r → InGL x l m
-in-left x l m r hx el er em h =
-    let t = le-ltb (getD servedInGR x 0) 13 (subst (λ (y : ℕ). 13 ≤ y) er h) in
-    in-gl x l m (getD placesInGR x 0) hx (served-left x l hx el) refl em (rw t at (right-test x hx))
+-- GL alone serves three classes
+pub of-gl : (x : ℕ) → OfGL x → (eqb x 0 || eqb x 2 || eqb x 15) ≡ true
+of-gl x (hx, h) =
+    let t = le-leb 13 (getD servedInGR x 0) h in
+    rw t at (up-to 16 (λ y. cond (leb 13 (getD servedInGR y 0)) (eqb y 0 || eqb y 2 || eqb y 15) true) refl x hx)
+
+zero-in-gl : InGL 0 0 0
+zero-in-gl = in-gl 0 0 0 13 (omega arith) refl refl refl refl
+
+two-in-gl : InGL 2 1 1
+two-in-gl = in-gl 2 1 1 13 (omega arith) refl refl refl refl
+
+space-in-gl : InGL 15 0 1
+space-in-gl = in-gl 15 0 1 0 (omega arith) refl refl refl refl
+
+module _ (next : List ℕ) (q : ℕ) (hq : q < 16) (s0 : Smooth 0 next) (s2 : Smooth 2 next) where
+  abbrev a : ℕ
+  a = getD next (16 * 0 + q) 0
+
+  abbrev b : ℕ
+  b = getD next (16 * 1 + q) 0
+
+  above : b ≤ 3 + a
+  above = omega (arith, near 0 0 0 next zero-in-gl (16 * 1 + q) (omega arith) s0, ap (λ (j : ℕ). getD next j 0) (let z : withGL 0 (16 * 1 + q) ≡ 16 * 0 + q = omega arith in z))
+
+  below : a ≤ 3 + b
+  below = omega (arith, near 2 1 1 next two-in-gl (16 * 0 + q) (omega arith) s2, ap (λ (j : ℕ). getD next j 0) (let z : withGL 1 (16 * 0 + q) ≡ 16 * 1 + q = omega arith in z))
+
+  abbrev Least : ℕ → ℕ → ℕ → ℕ → Type 0
+  Least x p p′ g = getD (fromGL a p b p′ 3) g 0 ≡ leastBy x next (16 * g + q)
+
+  of-zero : (g : ℕ) → g < 5 → Least 0 0 6 g
+  of-zero =
+      all-five (Least 0 0 6)
+      (omega (arith, above, below, stays-first 0 0 0 next zero-in-gl 0 q hq refl))
+      (omega (arith, above, below, goes 0 0 0 next zero-in-gl 1 q 3 hq refl (λ e. omega (arith, e)) (λ e. omega (arith, e))))
+      (omega (arith, above, below, goes 0 0 0 next zero-in-gl 2 q 3 hq refl (λ e. omega (arith, e)) (λ e. omega (arith, e))))
+      (omega (arith, above, below, goes 0 0 0 next zero-in-gl 3 q 3 hq refl (λ e. omega (arith, e)) (λ e. omega (arith, e))))
+      (omega (arith, above, below, goes 0 0 0 next zero-in-gl 4 q 3 hq refl (λ e. omega (arith, e)) (λ e. omega (arith, e))))
+
+  of-two : (g : ℕ) → g < 5 → Least 2 6 0 g
+  of-two =
+      all-five (Least 2 6 0)
+      (omega (arith, above, below, goes 2 1 1 next two-in-gl 0 q 3 hq refl (λ e. omega (arith, e)) (λ e. omega (arith, e))))
+      (omega (arith, above, below, stays-first 2 1 1 next two-in-gl 1 q hq refl))
+      (omega (arith, above, below, goes 2 1 1 next two-in-gl 2 q 3 hq refl (λ e. omega (arith, e)) (λ e. omega (arith, e))))
+      (omega (arith, above, below, goes 2 1 1 next two-in-gl 3 q 3 hq refl (λ e. omega (arith, e)) (λ e. omega (arith, e))))
+      (omega (arith, above, below, goes 2 1 1 next two-in-gl 4 q 3 hq refl (λ e. omega (arith, e)) (λ e. omega (arith, e))))
+
+  of-space : (g : ℕ) → g < 5 → Least 15 0 0 g
+  of-space =
+      all-five (Least 15 0 0)
+      (omega (arith, above, below, stays-first 15 0 1 next space-in-gl 0 q hq refl))
+      (omega (arith, above, below, stays-second 15 0 1 next space-in-gl 1 q hq refl))
+      (omega (arith, above, below, goes 15 0 1 next space-in-gl 2 q 3 hq refl (λ e. omega (arith, e)) (λ e. omega (arith, e))))
+      (omega (arith, above, below, goes 15 0 1 next space-in-gl 3 q 3 hq refl (λ e. omega (arith, e)) (λ e. omega (arith, e))))
+      (omega (arith, above, below, goes 15 0 1 next space-in-gl 4 q 3 hq refl (λ e. omega (arith, e)) (λ e. omega (arith, e))))
+
+  -- each by its class
+  least-gl : (x p p′ : ℕ) → OfGL x → p ≡ cond (eqb x 2) 6 0 → p′ ≡ cond (eqb x 0) 6 0 → (g : ℕ) → g < 5 → Least x p p′ g
+  least-gl x p p′ o ep eq g hg = go (eqb x 0) refl (eqb x 2) refl (eqb x 15) refl
+    where
+      -- a class y, and what sets 0 and 2 cost it more
+      class : (y r r′ : ℕ) → eqb x y ≡ true → cond (eqb y 2) 6 0 ≡ r → cond (eqb y 0) 6 0 ≡ r′ → Least y r r′ g → Least x p p′ g
+      class y r r′ e er er′ h =
+          let z = sym (eqb-true x y e) in
+          let zp : r ≡ p = sym er ∙ ap (λ (t : ℕ). cond (eqb t 2) 6 0) z ∙ sym ep in
+          let zp′ : r′ ≡ p′ = sym er′ ∙ ap (λ (t : ℕ). cond (eqb t 0) 6 0) z ∙ sym eq in
+          subst (λ (t : ℕ). Least t p p′ g) z (subst (λ (t : ℕ). Least y t p′ g) zp (subst (λ (t : ℕ). Least y r t g) zp′ h))
+
+      go : (t : Bool) → eqb x 0 ≡ t → (u : Bool) → eqb x 2 ≡ u → (v : Bool) → eqb x 15 ≡ v → Least x p p′ g
+      go true e u f v h = class 0 0 6 e refl refl (of-zero g hg)
+      go false e true f v h = class 2 6 0 f refl refl (of-two g hg)
+      go false e false f true h = class 15 0 0 h refl refl (of-space g hg)
+      go false e false f false h = absurd (false≢true (rw (e, f, h) at (of-gl x o)))
+
+pub unserved-most : (x y : ℕ) → cond (eqb x y) 6 0 ≤ 6
+unserved-most x y = go (eqb x y)
+  where
+    go : (t : Bool) → cond t 6 0 ≤ 6
+    go true = omega arith
+    go false = omega arith
+
+pub gl-least : (x : ℕ) (next : List ℕ) (p p′ three : ℕ) → OfGL x → Smooth 0 next → Smooth 2 next → p ≡ cond (eqb x 2) 6 0 → p′ ≡ cond (eqb x 0) 6 0 → three ≡ 3
+    → (g q : ℕ) → g < 5 → q < 16 → getD (fromGL (getD next q 0) p (getD next (16 + q) 0) p′ three) g 0 ≡ leastBy x next (16 * g + q)
+gl-least x next p p′ three o s0 s2 ep ep′ et g q hg hq =
+    let z : 16 * 0 + q ≡ q = omega arith in
+    subst (λ (t : ℕ). getD (fromGL (getD next q 0) p (getD next (16 + q) 0) p′ t) g 0 ≡ leastBy x next (16 * g + q)) (sym et)
+    (subst (λ (j : ℕ). getD (fromGL (getD next j 0) p (getD next (16 + q) 0) p′ 3) g 0 ≡ leastBy x next (16 * g + q)) z (least-gl next q hq s0 s2 x p p′ o ep ep′ g hg))
 
 -- the class has a place in GR
 pub in-right : (x r : ℕ) → x < 16 → r ≡ getD servedInGR x 0 → r < 13 → (x < 15) × (r ≡ getD placesInGR x 0)

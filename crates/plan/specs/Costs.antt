@@ -1,5 +1,5 @@
 -- What the plan computes: the least costs from all numbers, unit by unit from the last to the first, and what the rows keep of them.
-use Prim.Native.Nat.{ℕ, suc, _+_, _-_, _*_, _/_, _%_, _≤_, _<_}
+use Prim.Native.Nat.{ℕ, suc, _+_, _-_, _*_, _/_, _%_, _≤_, _<_, min}
 use mathlib.Core.Path.{_≡_}
 use mathlib.Core.Bool.{Bool, true, false, cond, not}
 use mathlib.Core.List.{List, [], _∷_}
@@ -11,7 +11,7 @@ use Rattle.base.specs.Limit as limit
 use Rattle.state.specs.declared.Sets.{Sets}
 use Rattle.rows.specs.Rows.{tagAt, startFrom, countOf, partOf, unitsIn}
 use Rattle.writing.specs.Writing.{cost}
-use Rattle.plan.specs.Numbers.{numbered, withGL, classOf, placesInGL, placesInGR, afterFirst, afterSecond, afterChoice, surcharge, priceOfClass}
+use Rattle.plan.specs.Numbers.{numbered, classOf, placesInGL, placesInGR, servedInGR, afterFirst, afterSecond, afterChoice, surcharge, priceOfClass}
 
 -- ---- the units of the rows
 
@@ -55,6 +55,12 @@ pub record Columns (f : ℕ → ℕ → ℕ) (m : ℕ) (table : List ℕ) : Type
   pub there : (g r : ℕ) → g < 5 → r < m → getD table (16 * g + r) 0 ≡ f g r
   pub long : length table ≡ 80
 
+-- the same where the other columns hold what they held
+pub record Swept (f : ℕ → ℕ → ℕ) (m : ℕ) (before after : List ℕ) : Type 0 where
+  pub there : (g r : ℕ) → g < 5 → r < m → getD after (16 * g + r) 0 ≡ f g r
+  pub kept : (g r : ℕ) → m ≤ r → r < 16 → getD after (16 * g + r) 0 ≡ getD before (16 * g + r) 0
+  pub long : length after ≡ length before
+
 -- 16 costs from a place on and a surcharge, whose sums each fit an octet
 pub record SumFits (costs : List ℕ) (at added : ℕ) : Type 0 where
   pub inside : at + 16 ≤ length costs
@@ -85,13 +91,15 @@ surcharges p =
     p ∷ p ∷ p ∷ p ∷ p ∷ p ∷ p ∷ p ∷ p ∷ p ∷ p ∷ p ∷ p ∷ p ∷ p ∷ 0
     ∷ p ∷ p ∷ p ∷ p ∷ p ∷ p ∷ p ∷ p ∷ p ∷ p ∷ p ∷ p ∷ p ∷ p ∷ p ∷ p ∷ []
 
--- a class that GL alone serves: at place l first, and then at place m
-pub record InGL (x l m : ℕ) : Type 0 where
-  pub dear : priceOfClass x ≡ 3
-  pub first-place : l < 5
-  pub second-place : m < 5
-  pub first : (k : ℕ) → withGL l k ≡ afterFirst x k
-  pub second : (k : ℕ) → withGL m k ≡ afterSecond x k
+-- a column before a unit that GL alone serves, from the costs a and b with sets 0 and 2 in GL, and from what each costs more
+abbrev pub fromGL : ℕ → ℕ → ℕ → ℕ → ℕ → List ℕ
+fromGL a p b q price =
+    let other = min (a + p) (b + q) + price in
+    min (a + p) (b + price) ∷ min (b + q) (a + price) ∷ other ∷ other ∷ other ∷ []
+
+-- the classes that GL alone serves: those of sets 0 and 2, and that of a space
+abbrev pub OfGL : ℕ → Type 0
+OfGL x = (x < 16) × (13 ≤ getD servedInGR x 0)
 
 -- a class whose set has a place in GR alone, and on both sides
 

@@ -5,7 +5,7 @@ ghost use Prim.Native.Nat.{ℕ, _+_, _-_, _*_, _≤_, _<_, min};
 ghost use lib.Dec.{eqb};
 ghost use lib.ListN.{length, getD};
 ghost use Rattle.plan.specs.Numbers.{servedInGL, servedInGR};
-ghost use Rattle.plan.specs.Costs.{Filled, ColumnFilled, Columns, SumsFit, Charges, Column, Row, surcharges, InGL, InGR, OnBoth, leastBy, Smooth, changes, Turned, RowKept};
+ghost use Rattle.plan.specs.Costs.{Filled, ColumnFilled, Columns, SumsFit, Charges, Column, Row, surcharges, fromGL, OfGL, InGR, OnBoth, leastBy, Smooth, changes, Turned, RowKept};
 
 fn lesser(a: u8, b: u8) -> u8
     ensures { λ r. ⌜ r ≡ min a b ⌝ }
@@ -74,55 +74,44 @@ fn column(costs: &[u8; 80], r: usize) -> [u8; 5]
     ]
 }
 
-// The cost v in the five rows of column r.
-fn spread(v: u8, cur: &mut [u8; 80], r: usize)
-    requires { ⌜ (r < 16) × (length (now cur) ≡ 80) ⌝ }
-    ensures { λ _. ⌜ ColumnFilled (λ g. v) r 5 (now (cur .entry)) (now (cur .exit)) ⌝ }
+// Column r before a unit that GL alone serves, from its costs a with set 0 in GL and b with set 2: p and q are nothing where that set
+// serves the unit, and else two designations' price, with which it is never the lesser.
+fn gl_column(a: u8, p: u8, b: u8, q: u8, three: u8, cur: &mut [u8; 80], r: usize)
+    requires { ⌜ (r < 16) × (a + p + three ≤ 255) × (b + q + three ≤ 255) × (length (now cur) ≡ 80) ⌝ }
+    ensures { λ _. ⌜ ColumnFilled (λ g. getD (fromGL a p b q three) g 0) r 5 (now (cur .entry)) (now (cur .exit)) ⌝ }
 {
-    let mut g: usize = 0;
-    while g < 5 {
-        cur[16 * g + r] = v;
-        g += 1;
-    }
+    let first = lesser(a + p, b + three);
+    let second = lesser(b + q, a + three);
+    let other = lesser(a + p, b + q) + three;
+    cur[r] = first;
+    cur[16 + r] = second;
+    cur[32 + r] = other;
+    cur[48 + r] = other;
+    cur[64 + r] = other;
 }
 
-// In every row the lesser of the 16 costs from place i and from place j on, with a price.
-fn spread_lesser(next: &[u8; 80], i: usize, j: usize, price: u8, cur: &mut [u8; 80])
-    requires { ⌜ (i ≤ 64) × (j ≤ 64) × (price ≤ 4) × ((k : ℕ) → getD (now next) k 0 ≤ 208) × (length (now next) ≡ 80) × (length (now cur) ≡ 80) ⌝ }
-    ensures { λ _. ⌜ Columns (λ g r. min (getD (now (next .entry)) (i + r) 0) (getD (now (next .entry)) (j + r) 0) + price) 16 (now (cur .exit)) ⌝ }
+// Two designations' price for the class that a set does not serve.
+fn unserved(x: usize, class: usize) -> u8
+    ensures { λ r. ⌜ r ≡ cond (eqb x class) 6 0 ⌝ }
 {
+    if x == class { 6 } else { 0 }
+}
+
+// The least costs of a unit that GL alone serves: of class 0, of class 2, or a space, which both sets serve. In place, since only the first
+// two rows are read, column by column.
+fn gl_costs(x: usize, three: u8, cur: &mut [u8; 80])
+    requires { ⌜ OfGL x × Smooth 0 (now cur) × Smooth 2 (now cur) × (three ≡ 3) × (length (now cur) ≡ 80) ⌝ }
+    ensures { λ _. ⌜ Columns (λ g r. leastBy x (now (cur .entry)) (16 * g + r)) 16 (now (cur .exit)) ⌝ }
+{
+    let p = unserved(x, 2);
+    let q = unserved(x, 0);
     let mut r: usize = 0;
     while r < 16 {
-        let v = lesser(next[i + r], next[j + r]);
-        spread(v + price, cur, r);
+        let a = cur[r];
+        let b = cur[16 + r];
+        gl_column(a, p, b, q, three, cur, r);
         r += 1;
     }
-}
-
-// Row g as next has it.
-fn restore(next: &[u8; 80], g: usize, cur: &mut [u8; 80])
-    requires { ⌜ (g < 5) × (length (now next) ≡ 80) × (length (now cur) ≡ 80) ⌝ }
-    ensures { λ _. ⌜ Filled (λ r. getD (now (next .entry)) (16 * g + r) 0) (16 * g) 16 (now (cur .entry)) (now (cur .exit)) ⌝ }
-{
-    let i = 16 * g;
-    let mut r: usize = 0;
-    while r < 16 {
-        cur[i + r] = next[i + r];
-        r += 1;
-    }
-}
-
-// The least costs of a unit that GL alone serves, at place l or at place m, before what next has: those rows stay, and from the others
-// one of the two is designated.
-fn gl_costs(x: usize, l: usize, m: usize, next: &[u8; 80], three: u8, cur: &mut [u8; 80])
-    requires { ⌜ Smooth x (now next) × (length (now next) ≡ 80) × (three ≡ 3) × (length (now cur) ≡ 80) × InGL x l m ⌝ }
-    ensures { λ _. ⌜ Columns (λ g r. leastBy x (now (next .entry)) (16 * g + r)) 16 (now (cur .exit)) ⌝ }
-{
-    let i = 16 * l;
-    let j = 16 * m;
-    spread_lesser(next, i, j, three, cur);
-    restore(next, l, cur);
-    restore(next, m, cur);
 }
 
 // Those of a character whose set has a place on each side. From 15 - r on, the table has nothing at place r and a designation's price at
@@ -150,43 +139,32 @@ fn gr_costs(x: usize, r: usize, next: &[u8; 80], threes: &[u8; 32], cur: &mut [u
     lesser_costs(threes, j, v, threes, j, v, cur);
 }
 
-// The other place of GL that serves a class, whose first is l: a space may stand with set 2 too.
-fn second_in_gl(x: usize, l: usize) -> usize
-    ensures { λ m. ⌜ m ≡ cond (eqb x 15) 1 l ⌝ }
-{
-    if x == 15 {
-        return 1;
-    }
-    l
-}
-
-// The least costs, but for the unit's own octets, of a unit of class x before what next has; left and right have the places
-// of GL and GR that serve each class.
+// The least costs, but for the unit's own octets, of a unit of class x before what cur has; left and right have the places of GL and GR
+// that serve each class.
 fn costs_before(
     x: usize,
     left: &[u8; 17],
     right: &[u8; 17],
-    next: &[u8; 80],
     fours: &[u8; 32],
     threes: &[u8; 32],
     cur: &mut [u8; 80],
 )
-    requires { ⌜ (x < 16) × Smooth x (now next) × (length (now next) ≡ 80) × (now fours ≡ surcharges 4) × (now threes ≡ surcharges 3) × (length (now cur) ≡ 80)
+    requires { ⌜ (x < 16) × ((y : ℕ) → y < 17 → Smooth y (now cur)) × (now fours ≡ surcharges 4) × (now threes ≡ surcharges 3) × (length (now cur) ≡ 80)
         × (now left ≡ servedInGL) × (now right ≡ servedInGR) ⌝ }
-    ensures { λ _. ⌜ Columns (λ g r. leastBy x (now (next .entry)) (16 * g + r)) 16 (now (cur .exit)) ⌝ }
+    ensures { λ _. ⌜ Columns (λ g r. leastBy x (now (cur .entry)) (16 * g + r)) 16 (now (cur .exit)) ⌝ }
 {
     let l = rows::wide(left[x]);
     let r = rows::wide(right[x]);
     if 13 <= r {
-        let m = second_in_gl(x, l);
-        gl_costs(x, l, m, next, threes[31], cur);
+        gl_costs(x, threes[31], cur);
         return;
     }
+    let next = *cur;
     if l < 5 {
-        both_costs(x, l, r, next, fours, cur);
+        both_costs(x, l, r, &next, fours, cur);
         return;
     }
-    gr_costs(x, r, next, threes, cur);
+    gr_costs(x, r, &next, threes, cur);
 }
 
 // Takes 128 from each cost.
@@ -233,13 +211,12 @@ pub fn unit_before(
     threes: &[u8; 32],
     cur: &mut [u8; 80],
 ) -> Taken
-    requires { ⌜ (x < 17) × (getD (now cur) 1 0 ≤ 200) × Smooth x (now cur) × (now fours ≡ surcharges 4) × (now threes ≡ surcharges 3) × ((k m : ℕ) → k < 80 → m < 80 → leastBy x (now cur) k ≤ 8 + leastBy x (now cur) m) × (length (now cur) ≡ 80)
+    requires { ⌜ (x < 17) × (getD (now cur) 1 0 ≤ 200) × ((y : ℕ) → y < 17 → Smooth y (now cur)) × (now fours ≡ surcharges 4) × (now threes ≡ surcharges 3) × ((k m : ℕ) → k < 80 → m < 80 → leastBy x (now cur) k ≤ 8 + leastBy x (now cur) m) × (length (now cur) ≡ 80)
         × (now left ≡ servedInGL) × (now right ≡ servedInGR) ⌝ }
     ensures { λ r. ⌜ Turned last x (now (cur .entry)) (r .base) (r .last) (now (cur .exit)) ⌝ }
 {
     if changed(last, x) {
-        let next = *cur;
-        costs_before(x, left, right, &next, fours, threes, cur);
+        costs_before(x, left, right, fours, threes, cur);
         if cur[1] <= 200 {
             return Taken { base: 0, last: x };
         }

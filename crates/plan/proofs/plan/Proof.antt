@@ -75,7 +75,7 @@ unit-before-requires c κs =
     let class = c .before .before .before .before .before .before .before .before .before .before .class-of .ensures in (
       class .1,
       inv .2 .low,
-      known-smooth _ (inv .1) (inv .2) (class .1),
+      λ y h. known-smooth y (inv .1) (inv .2) h,
       refl,
       refl,
       turn-near _ _ _ _ _ _ _ _ _ (omega arith) (inv .0) (inv .2) (inv .3) _ _ (class .0) size,

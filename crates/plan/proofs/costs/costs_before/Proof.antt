@@ -1,11 +1,11 @@
 -- `plan::costs::costs_before` meets its contract, by where the class has a place.
 use native.Mathlib.Omega.{arith}
 use Prim.Native.Nat.{ℕ, _≤_}
-use mathlib.Core.Path.{ap, _∙_}
+use mathlib.Core.Path.{ap, subst, _∙_}
 use mathlib.Core.List.{List}
 use lib.ListN.{getD}
 use Rattle.plan.specs.Numbers.{placesInGL}
-use Rattle.plan.proofs.Lesser.{last-surcharge, served-left, in-left, in-right}
+use Rattle.plan.proofs.Lesser.{last-surcharge, served-left, in-right}
 use borrow.Author.Needs.{needs}
 use Rattle.plan.proofs.costs.costs_before.Statement.{statement}
 use Rattle.plan.proofs.costs.costs_before.Tie as tie
@@ -22,44 +22,40 @@ element-copy-out-wide-2 c = search needs
 wide-requires-2 : tie.Need-wide-requires-2
 wide-requires-2 c κs = search needs
 
-second-in-gl-requires : tie.Need-second-in-gl-requires
-second-in-gl-requires c κs = search needs
-
 element-copy-out-gl-costs : tie.Need-element-copy-out-gl-costs
 element-copy-out-gl-costs c = search needs
 
 gl-costs-requires : tie.Need-gl-costs-requires
 gl-costs-requires c κs =
-    let pre = c .before .before .before .before .before .before .before .before .pre in
-    let x = c .before .before .before .before .before .before .before .before .args .x in
-    let left = c .before .before .before .before .before .before .wide .ensures .0 ∙ ap (λ (t : List ℕ). getD t x 0) (pre .6) in
-    let right = c .before .before .before .before .wide2 .ensures .0 ∙ ap (λ (t : List ℕ). getD t x 0) (pre .7) in
-    (pre .1, pre .2, last-surcharge _ 3 (pre .4), pre .5, in-left x _ _ _ (pre .0) left right (c .before .before .second-in-gl .ensures) (c .before .before .before .if1 .taken))
+    let pre = c .before .before .before .before .before .before .before .pre in
+    let x = c .before .before .before .before .before .before .before .args .x in
+    let right = c .before .before .before .wide2 .ensures .0 ∙ ap (λ (t : List ℕ). getD t x 0) (pre .6) in
+    ((pre .0, subst (λ (r : ℕ). 13 ≤ r) right (c .before .before .if1 .taken)), pre .1 0 (omega arith), pre .1 2 (omega arith), last-surcharge _ 3 (pre .3), pre .4)
 
 returns : tie.Need-returns
 returns c = search needs
 
 both-costs-requires : tie.Need-both-costs-requires
 both-costs-requires c κs =
-    let pre = c .before .before .before .before .before .before .before .pre in
-    let x = c .before .before .before .before .before .before .before .args .x in
-    let left = c .before .before .before .before .before .wide .ensures .0 ∙ ap (λ (t : List ℕ). getD t x 0) (pre .6) in
-    let right = c .before .before .before .wide2 .ensures .0 ∙ ap (λ (t : List ℕ). getD t x 0) (pre .7) in
-    let some = in-right x _ (pre .0) right (c .before .before .if1 .left) in
-    (pre .1, pre .2, pre .3, pre .5, (some .0, served-left x _ (pre .0) left, some .1, c .before .if2 .taken, c .before .before .if1 .left))
+    let pre = c .before .before .before .before .before .before .before .before .before .pre in
+    let x = c .before .before .before .before .before .before .before .before .before .args .x in
+    let left = c .before .before .before .before .before .before .before .wide .ensures .0 ∙ ap (λ (t : List ℕ). getD t x 0) (pre .5) in
+    let right = c .before .before .before .before .before .wide2 .ensures .0 ∙ ap (λ (t : List ℕ). getD t x 0) (pre .6) in
+    let some = in-right x _ (pre .0) right (c .before .before .before .before .if1 .left) in
+    (pre .1 x (omega (arith, pre .0)), pre .4, pre .2, pre .4, (some .0, served-left x _ (pre .0) left, some .1, c .before .before .if2 .taken, c .before .before .before .before .if1 .left))
 
 returns-2 : tie.Need-returns-2
 returns-2 c = search needs
 
 gr-costs-requires : tie.Need-gr-costs-requires
 gr-costs-requires c κs =
-    let pre = c .before .before .before .before .before .before .before .pre in
-    let x = c .before .before .before .before .before .before .before .args .x in
-    let left = c .before .before .before .before .before .wide .ensures .0 ∙ ap (λ (t : List ℕ). getD t x 0) (pre .6) in
-    let right = c .before .before .before .wide2 .ensures .0 ∙ ap (λ (t : List ℕ). getD t x 0) (pre .7) in
-    let some = in-right x _ (pre .0) right (c .before .before .if1 .left) in
-    let none : 5 ≤ getD placesInGL x 0 = omega (arith, served-left x _ (pre .0) left, c .before .if2 .left) in
-    (pre .1, pre .2, pre .4, pre .5, (some .0, some .1, c .before .before .if1 .left, none))
+    let pre = c .before .before .before .before .before .before .before .before .before .pre in
+    let x = c .before .before .before .before .before .before .before .before .before .args .x in
+    let left = c .before .before .before .before .before .before .before .wide .ensures .0 ∙ ap (λ (t : List ℕ). getD t x 0) (pre .5) in
+    let right = c .before .before .before .before .before .wide2 .ensures .0 ∙ ap (λ (t : List ℕ). getD t x 0) (pre .6) in
+    let some = in-right x _ (pre .0) right (c .before .before .before .before .if1 .left) in
+    let none : 5 ≤ getD placesInGL x 0 = omega (arith, served-left x _ (pre .0) left, c .before .before .if2 .left) in
+    (pre .1 x (omega (arith, pre .0)), pre .4, pre .3, pre .4, (some .0, some .1, c .before .before .before .before .if1 .left, none))
 
 returns-3 : tie.Need-returns-3
 returns-3 c = search needs
@@ -72,7 +68,6 @@ costs-before-spec =
     wide-requires
     element-copy-out-wide-2
     wide-requires-2
-    second-in-gl-requires
     element-copy-out-gl-costs
     gl-costs-requires
     returns
