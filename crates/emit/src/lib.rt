@@ -167,26 +167,14 @@ pub fn write_rows(work: &mut [u8], n: usize, segments: &[u8], out: &mut [u8]) ->
         × (length (now (work .exit)) ≡ length (now (work .entry))) ⌝ }
 {
     if limit::UNITS < n {
-        return Answer {
-            place: 0,
-            count: 0,
-            number: refusal::TOO_LONG,
-        };
+        return Answer::refused(refusal::TOO_LONG, 0);
     }
     if work.len() < 72 * (n + 1) {
-        return Answer {
-            place: 0,
-            count: 0,
-            number: refusal::NO_WORK_ROOM,
-        };
+        return Answer::refused(refusal::NO_WORK_ROOM, 0);
     }
     let count = plan::plan(work, n, segments);
     if limit::OCTETS < count {
-        return Answer {
-            place: 0,
-            count: 0,
-            number: refusal::TOO_LONG,
-        };
+        return Answer::refused(refusal::TOO_LONG, 0);
     }
     if out.len() < count {
         return Answer {
@@ -196,9 +184,5 @@ pub fn write_rows(work: &mut [u8], n: usize, segments: &[u8], out: &mut [u8]) ->
         };
     }
     emit(work, n, segments, out);
-    Answer {
-        place: n,
-        count,
-        number: refusal::ACCEPTED,
-    }
+    Answer::accepted(n, count)
 }

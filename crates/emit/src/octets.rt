@@ -173,13 +173,8 @@ pub fn put_unit(
     }
     if 21 <= tag {
         if tag < 26 {
-            let n = rows::count_of(work[row + 66], work[row + 67]);
-            let start = rows::four_octets(
-                work[row + 68],
-                work[row + 69],
-                work[row + 70],
-                work[row + 71],
-            );
+            let n = rows::count_at(work, row);
+            let start = rows::start_at(work, row);
             return put_segment(tag, n, start, segments, out, at);
         }
     }

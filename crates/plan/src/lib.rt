@@ -82,13 +82,8 @@ fn size_from(work: &[u8], row: usize, m: usize) -> usize
         return 2;
     }
     if tag < 26 {
-        let n = rows::count_of(work[row + 66], work[row + 67]);
-        let start = rows::four_octets(
-            work[row + 68],
-            work[row + 69],
-            work[row + 70],
-            work[row + 71],
-        );
+        let n = rows::count_at(work, row);
+        let start = rows::start_at(work, row);
         return 6 + rows::part_of(n, start, m);
     }
     2

@@ -1,7 +1,8 @@
 // The rows of the work room: where the units stand while their writing is planned.
 ghost use mathlib.Core.Path.{_≡_};
-ghost use Prim.Native.Nat.{_≤_};
-ghost use Rattle.rows.specs.Rows.{fourOctets, countOf, partOf};
+ghost use Prim.Native.Nat.{_+_, _≤_};
+ghost use lib.ListN.{getD};
+ghost use Rattle.rows.specs.Rows.{startFrom, countOf, partOf};
 
 // An octet as a number of the machine.
 pub fn wide(x: u8) -> usize
@@ -10,18 +11,40 @@ pub fn wide(x: u8) -> usize
     x as usize
 }
 
-// Four octets as a number, the highest first.
-pub fn four_octets(a: u8, b: u8, c: u8, d: u8) -> usize
-    ensures { λ r. ⌜ r ≡ fourOctets a b c d ⌝ }
+// The octet at a place of the room, 0 beyond its end.
+fn octet_at(work: &[u8], at: usize) -> u8
+    ensures { λ r. ⌜ r ≡ getD (now (work .entry)) at 0 ⌝ }
 {
-    ((wide(a) * 256 + wide(b)) * 256 + wide(c)) * 256 + wide(d)
+    if at < work.len() {
+        return work[at];
+    }
+    0
 }
 
-// The n of a segment.
-pub fn count_of(high: u8, low: u8) -> usize
-    ensures { λ r. ⌜ (r ≡ countOf high low) × (r ≤ 16383) ⌝ }
+// The n of the segment of the row that starts at a place.
+pub fn count_at(work: &[u8], row: usize) -> usize
+    ensures { λ r. ⌜ (r ≡ countOf (getD (now (work .entry)) (row + 66) 0) (getD (now (work .entry)) (row + 67) 0)) × (r ≤ 16383) ⌝ }
 {
+    if work.len() <= row {
+        return 0;
+    }
+    let high = octet_at(work, row + 66);
+    let low = octet_at(work, row + 67);
     wide(high % 64) * 256 + wide(low)
+}
+
+// Where its octets start.
+pub fn start_at(work: &[u8], row: usize) -> usize
+    ensures { λ r. ⌜ r ≡ startFrom (now (work .entry)) row ⌝ }
+{
+    if work.len() <= row {
+        return 0;
+    }
+    let a = wide(octet_at(work, row + 68));
+    let b = wide(octet_at(work, row + 69));
+    let c = wide(octet_at(work, row + 70));
+    let d = wide(octet_at(work, row + 71));
+    ((a * 256 + b) * 256 + c) * 256 + d
 }
 
 // The octets of a segment's part that lie in the m octets in which the segments stand.

@@ -2,9 +2,11 @@
 -- the walk of a function's code to the statement that the function meets its contract.
 --     tests      the test that starts a turn of a `while`: the turn goes on, or the loop is left
 --     tests-if   an `if` whose arm leaves, and that has no other
+--     holds      and `fails`: the value that was tested is true, or false
 --     frees-all  all locals are freed at a return, where they stand first and in their order
 --     proved     from a walk to the function's statement
-use mathlib.Core.Bool.{Bool, not}
+use mathlib.Core.Path.{_≡_, refl}
+use mathlib.Core.Bool.{Bool, true, false, not}
 use mathlib.Core.List.{List, [], _∷_}
 use Prim.Native.Nat.{ℕ, zero}
 use lib.Dec.{T}
@@ -34,6 +36,15 @@ module _ {M : Type 1} {𝓤 : URA M} {H : Heap 𝓤} {A : Atoms 𝓤} {K : Type 
   pub tests-if : K → {c : Operand} {a rest : Body} {y : Bool} → Opd K W Γ E c (vbool y)
       → (T y → Seq K W Γ (runs C Λ E a (anyQ (afterSeq 𝓤 H (Wp 𝓤 H C Λ E rest (post 𝓤 H q)) (post 𝓤 H q))))) → (T (not y) → Seq K W Γ (runs C Λ E rest q)) → Seq K W Γ (runs C Λ E (seq (cond c a skip) rest) q)
   tests-if t o held failed = first t $ branches t o held (λ z. skips t $ record { prf = failed z .prf })
+
+-- ---- what a test says of the value tested
+pub holds : (y : Bool) → T y → y ≡ true
+holds true h = refl
+holds false h = absurd h
+
+pub fails : (y : Bool) → T (not y) → y ≡ false
+fails true h = absurd h
+fails false h = refl
 
 -- ---- the locals at a return
 abbrev pub rooms : {M : Type 1} {𝓤 : URA M} → List (Ty × ℕ) → List (Item 𝓤) → List (Item 𝓤)

@@ -60,19 +60,11 @@ pub fn finish(
         × (length (now (work .exit)) ≡ length (now (work .entry))) ⌝ }
 {
     if limit::UNITS < n {
-        return Answer {
-            place: 0,
-            count: 0,
-            number: refusal::TOO_LONG,
-        };
+        return Answer::refused(refusal::TOO_LONG, 0);
     }
     match progress {
         Progress::Fine(_) => emit::write_rows(work, n, segments, out),
-        Progress::Faulty(number, place) => Answer {
-            place: place,
-            count: 0,
-            number: number,
-        },
+        Progress::Faulty(number, place) => Answer::refused(number, place),
     }
 }
 

@@ -15,7 +15,7 @@ use denote.Struct.Laws as LL
 use Rattle.base.specs.declared.Unit.{Unit as UnitRecord}
 use Rattle.base.proofs.Unit as U
 use Rattle.base.proofs.Unit.Laws as U′
-use Rattle.walks.proofs.Body.{proved, 𝓣of, tests, frees-all}
+use Rattle.walks.proofs.Body.{proved, 𝓣of, tests, holds, fails, frees-all}
 use Rattle.walks.proofs.Calls.{calls-value}
 use Rattle.listing.specs.Spans.{Fits, stands, nthOf, countFrom, storedFrom}
 use Rattle.listing.specs.declared.spans.Span.{Span}
@@ -55,14 +55,6 @@ bytes = sliceTy (tyRef (named 0) imm (tyInt w8))
 
 abbrev list : Ty
 list = sliceTy (tyRef (named 1) mut (pointee (U.the-row .written)))
-
-holds : (y : Bool) → Holds y → y ≡ true
-holds true h = refl
-holds false h = absurd h
-
-fails : (y : Bool) → Holds (not y) → y ≡ false
-fails true h = absurd h
-fails false h = refl
 
 module _ {M : Type 1} (𝓤 : URA M) (H : Heap 𝓤) (A : Atoms 𝓤) (W : Given 𝓤 H A) (at-mem : Memory → SProp 𝓤) (run : Routine → Fun 𝓤) (κ κ′ : Lft) (q q′ : Share)
     (s : RefT (List ℕ)) (r : Span) (b o : ℕ) (γ : GName) (ys : List UnitRecord) (start : ℕ)

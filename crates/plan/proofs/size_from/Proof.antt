@@ -35,47 +35,11 @@ returns-5 : tie.Need-returns-5
 unfolding sizeOf
 returns-5 c = (search ladder depth 9, omega arith)
 
-add-count-of : tie.Need-add-count-of
-add-count-of c = search needs
+count-at-requires : tie.Need-count-at-requires
+count-at-requires c κs = search needs
 
-shared-slice-read-count-of : tie.Need-shared-slice-read-count-of
-shared-slice-read-count-of c = search needs
-
-add-count-of-2 : tie.Need-add-count-of-2
-add-count-of-2 c = search needs
-
-shared-slice-read-count-of-2 : tie.Need-shared-slice-read-count-of-2
-shared-slice-read-count-of-2 c = search needs
-
-count-of-requires : tie.Need-count-of-requires
-count-of-requires c κs = search needs
-
-add-four-octets : tie.Need-add-four-octets
-add-four-octets c = search needs
-
-shared-slice-read-four-octets : tie.Need-shared-slice-read-four-octets
-shared-slice-read-four-octets c = search needs
-
-add-four-octets-2 : tie.Need-add-four-octets-2
-add-four-octets-2 c = search needs
-
-shared-slice-read-four-octets-2 : tie.Need-shared-slice-read-four-octets-2
-shared-slice-read-four-octets-2 c = search needs
-
-add-four-octets-3 : tie.Need-add-four-octets-3
-add-four-octets-3 c = search needs
-
-shared-slice-read-four-octets-3 : tie.Need-shared-slice-read-four-octets-3
-shared-slice-read-four-octets-3 c = search needs
-
-add-four-octets-4 : tie.Need-add-four-octets-4
-add-four-octets-4 c = search needs
-
-shared-slice-read-four-octets-4 : tie.Need-shared-slice-read-four-octets-4
-shared-slice-read-four-octets-4 c = search needs
-
-four-octets-requires : tie.Need-four-octets-requires
-four-octets-requires c κs = search needs
+start-at-requires : tie.Need-start-at-requires
+start-at-requires c κs = search needs
 
 part-of-requires : tie.Need-part-of-requires
 part-of-requires c κs = search needs
@@ -86,15 +50,15 @@ add-result c = search needs
 returns-6 : tie.Need-returns-6
 unfolding sizeOf
 returns-6 c =
-    let m = c .before .before .before .before .before .before .before .before .before .before .before .before .before .before .before .before .before .args .m in
-    let past1 = c .before .before .before .before .before .before .before .before .before .before .before .before .before .before .if1 .left in
-    let past2 = c .before .before .before .before .before .before .before .before .before .before .before .before .before .if2 .left in
-    let past3 = c .before .before .before .before .before .before .before .before .before .before .before .before .if3 .left in
-    let past4 = c .before .before .before .before .before .before .before .before .before .before .before .if4 .left in
-    let past5 = c .before .before .before .before .before .before .before .before .before .before .if5 .left in
-    let segment = c .before .before .before .before .before .before .before .before .before .if6 .taken in
-    let count = c .before .before .before .before .before .before .count-of .ensures in
-    let part = c .part-of .ensures ∙ ap₂ (λ (n s : ℕ). partOf n s m) (count .0) (c .before .four-octets .ensures) in
+    let m = c .before .before .before .before .before .before .before .before .before .before .before .args .m in
+    let past1 = c .before .before .before .before .before .before .before .before .if1 .left in
+    let past2 = c .before .before .before .before .before .before .before .if2 .left in
+    let past3 = c .before .before .before .before .before .before .if3 .left in
+    let past4 = c .before .before .before .before .before .if4 .left in
+    let past5 = c .before .before .before .before .if5 .left in
+    let segment = c .before .before .before .if6 .taken in
+    let count = c .before .before .count-at .ensures in
+    let part = c .part-of .ensures ∙ ap₂ (λ (n s : ℕ). partOf n s m) (count .0) (c .before .start-at .ensures) in
     let six = on-ge _ _ _ _ _ past5 (on-lt _ _ _ _ _ segment (ap (λ (p : ℕ). 6 + p) part)) in
     let size = on-ge _ _ _ _ _ past1 (on-ge _ _ _ _ _ past2 (on-ge _ _ _ _ _ past3 (on-ge _ _ _ _ _ past4 six))) in
     (size, omega (arith, c .part-of .ensures, count .1))
@@ -114,20 +78,8 @@ size-from-spec =
     returns-3
     returns-4
     returns-5
-    add-count-of
-    shared-slice-read-count-of
-    add-count-of-2
-    shared-slice-read-count-of-2
-    count-of-requires
-    add-four-octets
-    shared-slice-read-four-octets
-    add-four-octets-2
-    shared-slice-read-four-octets-2
-    add-four-octets-3
-    shared-slice-read-four-octets-3
-    add-four-octets-4
-    shared-slice-read-four-octets-4
-    four-octets-requires
+    count-at-requires
+    start-at-requires
     part-of-requires
     add-result
     returns-6

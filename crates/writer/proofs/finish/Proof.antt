@@ -5,11 +5,14 @@ use borrow.Author.Needs.{needs}
 use Rattle.writer.proofs.finish.Statement.{statement}
 use Rattle.writer.proofs.finish.Tie as tie
 
+refused-requires : tie.Need-refused-requires
+refused-requires c κs = search needs
+
 returns : tie.Need-returns
 returns c =
-    let args = c .before .before .before .before .args in
-    let f = finish-long (args .progress) (args .n) (args .segments .now) (args .work .now) (args .out .now) (c .if1 .taken) in
-    (f .0, f .1, refl)
+    let args = c .before .before .before .before .before .args in
+    let f = finish-long (args .progress) (args .n) (args .segments .now) (args .work .now) (args .out .now) (c .before .if1 .taken) in
+    (c .refused .ensures ∙ f .0, f .1, refl)
 
 enum-told : tie.Need-enum-told
 enum-told c = search needs
@@ -19,6 +22,9 @@ write-rows-requires c κs = search needs
 
 enum-known-progress : tie.Need-enum-known-progress
 enum-known-progress c = search needs
+
+refused-requires-2 : tie.Need-refused-requires-2
+refused-requires-2 c κs = search needs
 
 same-length : tie.Need-same-length
 same-length c = search needs
@@ -37,20 +43,22 @@ returns-2 c =
 
 returns-3 : tie.Need-returns-3
 returns-3 c =
-    let args = c .before .before .before .before .before .before .before .args in
-    let few = c .before .before .before .if1 .left in
-    let faulty = c .before .progress .given .1 in
+    let args = c .before .before .before .before .before .before .before .before .args in
+    let few = c .before .before .before .before .if1 .left in
+    let faulty = c .before .before .progress .given .1 in
     let f = finish-faulty (args .progress) (args .n) (args .segments .now) (args .work .now) (args .out .now) _ _ few faulty in
-    (f .0, f .1, refl)
+    (c .refused2 .ensures ∙ f .0, f .1, refl)
 
 pub finish-spec : {M : Type 1} → statement M
 finish-spec =
     tie.close
     (tie.spec
+    refused-requires
     returns
     enum-told
     write-rows-requires
     enum-known-progress
+    refused-requires-2
     same-length
     same-length-2
     returns-2

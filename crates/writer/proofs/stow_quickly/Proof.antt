@@ -16,7 +16,7 @@ use Rattle.base.specs.Choice.{pick}
 use Rattle.base.specs.declared.Unit.{Unit as UnitRecord}
 use Rattle.base.proofs.Unit as U
 use Rattle.base.proofs.Unit.Laws as U′
-use Rattle.walks.proofs.Body.{proved, 𝓣of, tests, frees-all}
+use Rattle.walks.proofs.Body.{proved, 𝓣of, tests, holds, fails, frees-all}
 use Rattle.walks.proofs.Calls.{calls-value, gave-some}
 use Rattle.walks.proofs.Lent.{calls-lent}
 use Rattle.writing.specs.Offence.{noRecord}
@@ -73,14 +73,6 @@ mach p = EL.val P.the-type P′.the-laws p
 
 abbrev IsP : Progress → Type 0
 IsP p = Is P.the-row p (mach p ∷ [])
-
-holds : (y : Bool) → Holds y → y ≡ true
-holds true h = refl
-holds false h = absurd h
-
-fails : (y : Bool) → Holds (not y) → y ≡ false
-fails true h = absurd h
-fails false h = refl
 
 module _ {M : Type 1} (𝓤 : URA M) (H : Heap 𝓤) (A : Atoms 𝓤) (W : Given 𝓤 H A) (at-mem : Memory → SProp 𝓤) (run : Routine → Fun 𝓤) (κ₀ κ₁ : Lft) (q₀ q₁ : Share)
     (p : Progress) (s : RefT (List UnitRecord)) (i₀ n : ℕ) (b o : ℕ) (γ : GName) (ys : List ℕ)

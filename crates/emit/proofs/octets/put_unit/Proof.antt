@@ -105,73 +105,37 @@ returns-2 c =
     let e = single-octet (args .segments .now) (sideOf (args .left)) (getD w (r + 65) 0) (getD w (r + 66) 0) (getD w (r + 67) 0) (startFrom w r) _ (c .single .ensures) (sym (c .before .before .before .before .two-octets .ensures) ∙ c .before .before .before .if1 .left) (c .before .before .if2 .taken) in
     written-as e (written-1 _ _ _)
 
-add-count-of : tie.Need-add-count-of
-add-count-of c = search needs
+count-at-requires : tie.Need-count-at-requires
+count-at-requires c κs = search needs
 
-shared-slice-read-count-of : tie.Need-shared-slice-read-count-of
-shared-slice-read-count-of c = search needs
-
-add-count-of-2 : tie.Need-add-count-of-2
-add-count-of-2 c = search needs
-
-shared-slice-read-count-of-2 : tie.Need-shared-slice-read-count-of-2
-shared-slice-read-count-of-2 c = search needs
-
-count-of-requires : tie.Need-count-of-requires
-count-of-requires c κs = search needs
-
-add-four-octets : tie.Need-add-four-octets
-add-four-octets c = search needs
-
-shared-slice-read-four-octets : tie.Need-shared-slice-read-four-octets
-shared-slice-read-four-octets c = search needs
-
-add-four-octets-2 : tie.Need-add-four-octets-2
-add-four-octets-2 c = search needs
-
-shared-slice-read-four-octets-2 : tie.Need-shared-slice-read-four-octets-2
-shared-slice-read-four-octets-2 c = search needs
-
-add-four-octets-3 : tie.Need-add-four-octets-3
-add-four-octets-3 c = search needs
-
-shared-slice-read-four-octets-3 : tie.Need-shared-slice-read-four-octets-3
-shared-slice-read-four-octets-3 c = search needs
-
-add-four-octets-4 : tie.Need-add-four-octets-4
-add-four-octets-4 c = search needs
-
-shared-slice-read-four-octets-4 : tie.Need-shared-slice-read-four-octets-4
-shared-slice-read-four-octets-4 c = search needs
-
-four-octets-requires : tie.Need-four-octets-requires
-four-octets-requires c κs = search needs
+start-at-requires : tie.Need-start-at-requires
+start-at-requires c κs = search needs
 
 put-segment-requires : tie.Need-put-segment-requires
 put-segment-requires c κs =
-    let args = c .before .before .before .before .before .before .before .before .before .before .before .before .before .before .before .before .before .before .args in
+    let args = c .before .before .before .before .before .before .before .before .before .before .before .before .args in
     let w = args .work .now in
     let r = args .row in
-    let count = c .before .before .before .before .before .before .count-of in
-    let start = c .before .four-octets in
-    let low = c .before .before .before .before .before .before .before .before .before .before .if3 .taken in
-    let high = c .before .before .before .before .before .before .before .before .before .if4 .taken in
+    let count = c .before .before .count-at in
+    let start = c .before .start-at in
+    let low = c .before .before .before .before .if3 .taken in
+    let high = c .before .before .before .if4 .taken in
     let e = segment-octets (args .segments .now) (sideOf (args .left)) (getD w (r + 65) 0) (getD w (r + 66) 0) (getD w (r + 67) 0) (startFrom w r) _ _ (count .ensures .0) (start .ensures) low high in
     let n = segment-length (args .segments .now) (27 + getD w (r + 65) 0) (count .result) (start .result) in
-    (low, high, count .ensures .1, omega (arith, ap length e, n, c .before .before .before .before .before .before .before .before .before .before .before .before .before .before .before .before .before .before .pre .1))
+    (low, high, count .ensures .1, omega (arith, ap length e, n, c .before .before .before .before .before .before .before .before .before .before .before .before .pre .1))
 
 same-length-3 : tie.Need-same-length-3
 same-length-3 c = search needs
 
 returns-3 : tie.Need-returns-3
 returns-3 c =
-    let args = c .before .before .before .before .before .before .before .before .before .before .before .before .before .before .before .before .before .before .before .before .before .args in
+    let args = c .before .before .before .before .before .before .before .before .before .before .before .before .before .before .before .args in
     let w = args .work .now in
     let r = args .row in
-    let count = c .before .before .before .before .before .before .before .before .before .count-of in
-    let start = c .before .before .before .before .four-octets in
-    let low = c .before .before .before .before .before .before .before .before .before .before .before .before .before .if3 .taken in
-    let high = c .before .before .before .before .before .before .before .before .before .before .before .before .if4 .taken in
+    let count = c .before .before .before .before .before .count-at in
+    let start = c .before .before .before .before .start-at in
+    let low = c .before .before .before .before .before .before .before .if3 .taken in
+    let high = c .before .before .before .before .before .before .if4 .taken in
     let e = segment-octets (args .segments .now) (sideOf (args .left)) (getD w (r + 65) 0) (getD w (r + 66) 0) (getD w (r + 67) 0) (startFrom w r) _ _ (count .ensures .0) (start .ensures) low high in
     written-as e (c .before .before .put-segment .ensures)
 
@@ -224,20 +188,8 @@ put-unit-spec =
     add-result-2
     same-length-2
     returns-2
-    add-count-of
-    shared-slice-read-count-of
-    add-count-of-2
-    shared-slice-read-count-of-2
-    count-of-requires
-    add-four-octets
-    shared-slice-read-four-octets
-    add-four-octets-2
-    shared-slice-read-four-octets-2
-    add-four-octets-3
-    shared-slice-read-four-octets-3
-    add-four-octets-4
-    shared-slice-read-four-octets-4
-    four-octets-requires
+    count-at-requires
+    start-at-requires
     put-segment-requires
     same-length-3
     returns-3
