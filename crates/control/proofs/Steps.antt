@@ -6,7 +6,7 @@ use lib.ListN.{length, getD}
 use Rattle.base.specs.Choice.{from}
 use Rattle.base.proofs.Ladder.{octet, ended}
 use Rattle.state.proofs.Steps.{steps}
-use Rattle.state.specs.declared.element.Element.{Element}
+use Rattle.state.specs.declared.elements.Element.{Element}
 use Rattle.control.specs.Escape.{intermediatesOf}
 
 module _ (s : List ℕ) (at : ℕ) (r : Element) where

@@ -11,8 +11,8 @@ use Rattle.segment.specs.Segment.{extendedOf}
 use Rattle.state.specs.Elements.{refused, next}
 use Rattle.state.specs.State.{designatedOf}
 use Rattle.state.specs.declared.State.{State}
-use Rattle.state.specs.declared.element.Element.{Element}
-use Rattle.state.specs.declared.element.Element.the-variants.{Silent}
+use Rattle.state.specs.declared.elements.Element.{Element}
+use Rattle.state.specs.declared.elements.Element.the-variants.{Silent}
 
 -- after the first intermediate: further ones 20-2F, "then a final 40-7E; any other octet: 4. A final .. that follows intermediates: 5."
 unfoldable pub intermediatesOf : List ℕ → Element

@@ -7,7 +7,7 @@ use Rattle.base.specs.Refusal as refusal
 use Rattle.base.specs.Kind as kind
 use Rattle.state.specs.Elements.{unit, refused, next}
 use Rattle.state.specs.declared.State.{State}
-use Rattle.state.specs.declared.element.Element.{Element}
+use Rattle.state.specs.declared.elements.Element.{Element}
 
 -- after 9B 31 and 9B 32
 unfoldable pub beginOf : ℕ → List ℕ → State → Element

@@ -10,7 +10,7 @@ use charset::NO_SET;
 use charset::Side;
 use segment::extended;
 use state::State;
-use state::element::Element;
+use state::elements::Element;
 
 // The octets after the first intermediate of a designation.
 pub fn intermediates(s: &[u8], at: usize) -> Element

@@ -5,8 +5,8 @@ ghost use Rattle.control.specs.Mark.{beginOf, csiOf};
 use base::kind;
 use base::refusal;
 use state::State;
-use state::element::Element;
-use state::element::bare;
+use state::elements::Element;
+use state::elements::bare;
 
 // The octets after 9B 31 and 9B 32.
 pub fn begin(s: &[u8], at: usize, kind: u8, st: State) -> Element

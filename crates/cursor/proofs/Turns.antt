@@ -18,9 +18,9 @@ use Rattle.state.specs.State.{state, on, put, designatedOf}
 use Rattle.state.specs.declared.Sets.{Sets}
 use Rattle.state.specs.declared.State.{State}
 use Rattle.state.specs.declared.directions.Directions.{Directions}
-use Rattle.state.specs.declared.element.Part.{Part}
-use Rattle.state.specs.declared.element.Element.{Element}
-use Rattle.state.specs.declared.element.Element.the-variants.{End, Refused, Silent, Found}
+use Rattle.state.specs.declared.elements.Part.{Part}
+use Rattle.state.specs.declared.elements.Element.{Element}
+use Rattle.state.specs.declared.elements.Element.the-variants.{End, Refused, Silent, Found}
 use Rattle.element.specs.Element.{elementOf}
 use Rattle.element.proofs.Alike.{free, Freed, freed-silent, freed-found, free-element}
 use Rattle.grammar.specs.Reading.{size}

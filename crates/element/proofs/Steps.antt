@@ -7,7 +7,7 @@ use Rattle.base.specs.Choice.{from}
 use Rattle.base.proofs.Ladder.{octet, ended}
 use Rattle.state.proofs.Steps.{steps}
 use Rattle.state.specs.declared.State.{State}
-use Rattle.state.specs.declared.element.Element.{Element}
+use Rattle.state.specs.declared.elements.Element.{Element}
 use Rattle.element.specs.Element.{shapeOf}
 
 module _ (s : List ℕ) (at : ℕ) (st : State) (r : Element) where

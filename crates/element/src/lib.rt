@@ -7,9 +7,9 @@ use base::refusal;
 use state::Sets;
 use state::State;
 use state::directions::Step;
-use state::element::Element;
-use state::element::Part;
-use state::element::bare;
+use state::elements::Element;
+use state::elements::Part;
+use state::elements::bare;
 
 // The shape of the element at a place.
 pub fn shape(s: &[u8], at: usize, st: State) -> Element

@@ -24,9 +24,9 @@ use Rattle.state.specs.declared.directions.Directions.{Directions}
 use Rattle.state.specs.declared.State.{State}
 use Rattle.state.specs.declared.directions.Step.{Step}
 use Rattle.state.specs.declared.directions.Step.the-variants.{Goes, Stops}
-use Rattle.state.specs.declared.element.Part.{Part}
-use Rattle.state.specs.declared.element.Element.{Element}
-use Rattle.state.specs.declared.element.Element.the-variants.{End, Refused, Silent, Found}
+use Rattle.state.specs.declared.elements.Part.{Part}
+use Rattle.state.specs.declared.elements.Element.{Element}
+use Rattle.state.specs.declared.elements.Element.the-variants.{End, Refused, Silent, Found}
 use Rattle.grammar.specs.Units.{TextUnit, octets, lead, designation}
 use Rattle.grammar.specs.Grammar.{Reads, done, designate, show, Accepted}
 use Rattle.base.specs.Limit as limit

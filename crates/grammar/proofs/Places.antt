@@ -14,9 +14,9 @@ use Rattle.base.proofs.Ladder.{from-end, from-from, from-length}
 use Rattle.element.specs.Element.{elementOf, shapeOf, directedOf}
 use Rattle.element.proofs.Sizes.{Sized, Fit, MeantPart, element-size, of-refused, of-number, of-silent, fit-silent, of-found, of-meant, fit-found}
 use Rattle.state.specs.declared.State.{State}
-use Rattle.state.specs.declared.element.Part.{Part}
-use Rattle.state.specs.declared.element.Element.{Element}
-use Rattle.state.specs.declared.element.Element.the-variants.{End, Refused, Silent, Found}
+use Rattle.state.specs.declared.elements.Part.{Part}
+use Rattle.state.specs.declared.elements.Element.{Element}
+use Rattle.state.specs.declared.elements.Element.the-variants.{End, Refused, Silent, Found}
 use Rattle.grammar.specs.Reading.{size, elements}
 use Rattle.grammar.proofs.Elements.{elements-end, elements-refused, elements-silent, elements-found}
 

@@ -13,7 +13,7 @@ use Rattle.base.specs.Refusal as refusal
 use Rattle.state.specs.Elements.{refused}
 use Rattle.segment.specs.Segment.{segmentPart, nameOctetOf, nameOf, textWidthOf, contentOf}
 use Rattle.state.specs.declared.State.{State}
-use Rattle.state.specs.declared.element.Element.the-variants.{Found}
+use Rattle.state.specs.declared.elements.Element.the-variants.{Found}
 use Rattle.segment.specs.declared.Name.the-variants.{Ends, Bad}
 use Rattle.grammar.specs.Units.{textOctets, segment}
 

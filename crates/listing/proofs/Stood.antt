@@ -20,8 +20,8 @@ use Rattle.state.specs.Directions.{stepOf}
 use Rattle.state.specs.Elements.{part}
 use Rattle.state.specs.State.{state}
 use Rattle.state.specs.declared.Sets.{Sets}
-use Rattle.state.specs.declared.element.Element.{Element}
-use Rattle.state.specs.declared.element.Element.the-variants.{Found}
+use Rattle.state.specs.declared.elements.Element.{Element}
+use Rattle.state.specs.declared.elements.Element.the-variants.{Found}
 use Rattle.element.specs.Element.{shapeOf, steppedOf, directedOf, elementOf}
 use Rattle.grammar.proofs.Places.{at-found}
 use Rattle.units.specs.Next.{outcomeOf, nextOf}

@@ -24,9 +24,9 @@ use Rattle.grammar.proofs.Agrees.{Right, refused, passed, read, right, fresh-le
 use Rattle.state.specs.Directions.{inForceOf}
 use Rattle.state.specs.State.{on, fresh}
 use Rattle.state.specs.declared.State.{State}
-use Rattle.state.specs.declared.element.Part.{Part}
-use Rattle.state.specs.declared.element.Element.{Element}
-use Rattle.state.specs.declared.element.Element.the-variants.{End, Refused, Silent, Found}
+use Rattle.state.specs.declared.elements.Part.{Part}
+use Rattle.state.specs.declared.elements.Element.{Element}
+use Rattle.state.specs.declared.elements.Element.the-variants.{End, Refused, Silent, Found}
 use Rattle.pieces.specs.PieceKind as pieceKind
 use Rattle.pieces.specs.Pieces.{noPiece, sideKindOf, pieceKindOf, pieceOf, isRun, sameRunOf, longer, joined, piecesOf, stateAt}
 use Rattle.pieces.specs.declared.Piece.{Piece}

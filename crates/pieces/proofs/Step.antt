@@ -13,9 +13,9 @@ use Rattle.element.proofs.Sizes.{Sized, element-size, of-end, of-silent, of-fou
 use Rattle.grammar.specs.Reading.{size, elements, noneRefused}
 use Rattle.grammar.proofs.Elements.{elements-end, elements-refused, elements-silent, elements-found}
 use Rattle.state.specs.declared.State.{State}
-use Rattle.state.specs.declared.element.Part.{Part}
-use Rattle.state.specs.declared.element.Element.{Element}
-use Rattle.state.specs.declared.element.Element.the-variants.{End, Refused, Silent, Found}
+use Rattle.state.specs.declared.elements.Part.{Part}
+use Rattle.state.specs.declared.elements.Element.{Element}
+use Rattle.state.specs.declared.elements.Element.the-variants.{End, Refused, Silent, Found}
 use Rattle.pieces.specs.PieceKind as pieceKind
 use Rattle.pieces.specs.Pieces.{piece, noPiece, pieceKindOf, pieceOf, joined, piecesFrom}
 use Rattle.pieces.specs.declared.Piece.{Piece}

@@ -10,8 +10,8 @@ use Rattle.base.specs.Kind as kind
 use Rattle.grammar.specs.Reading.{size, elements}
 use Rattle.state.specs.State.{fresh}
 use Rattle.state.specs.declared.State.{State}
-use Rattle.state.specs.declared.element.Element.{Element}
-use Rattle.state.specs.declared.element.Element.the-variants.{End, Refused, Silent, Found}
+use Rattle.state.specs.declared.elements.Element.{Element}
+use Rattle.state.specs.declared.elements.Element.the-variants.{End, Refused, Silent, Found}
 use Rattle.pieces.specs.PieceKind as pieceKind
 use Rattle.pieces.specs.declared.Piece.{Piece}
 

@@ -5,7 +5,7 @@ ghost use Rattle.element.specs.Element.{elementOf};
 ghost use Rattle.pieces.specs.Pieces.{noPiece, sideKindOf, pieceKindOf, sameRunOf, extendedTo, pieceOf, setIn, endingOf};
 use base::kind;
 use state::State;
-use state::element::Element;
+use state::elements::Element;
 
 // What a piece is.
 pub const GL_RUN: u8 = 0;

@@ -90,7 +90,7 @@ fn gl_column(a: u8, p: u8, b: u8, q: u8, three: u8, cur: &mut [u8; 80], r: usize
     cur[64 + r] = other;
 }
 
-// Two designations' price for the class that a set does not serve.
+// What a set costs a class more: two designations' price where it does not serve it, else nothing.
 fn unserved(x: usize, class: usize) -> u8
     ensures { λ r. ⌜ r ≡ cond (eqb x class) 6 0 ⌝ }
 {
@@ -103,6 +103,7 @@ fn gl_costs(x: usize, three: u8, cur: &mut [u8; 80])
     requires { ⌜ OfGL x × Smooth 0 (now cur) × Smooth 2 (now cur) × (three ≡ 3) × (length (now cur) ≡ 80) ⌝ }
     ensures { λ _. ⌜ Columns (λ g r. leastBy x (now (cur .entry)) (16 * g + r)) 16 (now (cur .exit)) ⌝ }
 {
+    // set 0 serves all three but class 2, and set 2 all but class 0
     let p = unserved(x, 2);
     let q = unserved(x, 0);
     let mut r: usize = 0;

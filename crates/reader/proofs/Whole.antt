@@ -20,7 +20,7 @@ use Rattle.charset.specs.Charsets.{allowed, mayUse}
 use Rattle.element.proofs.Sizes.{Fit}
 use Rattle.state.specs.State.{fresh}
 use Rattle.state.specs.declared.State.{State}
-use Rattle.state.specs.declared.element.Element.{Element}
+use Rattle.state.specs.declared.elements.Element.{Element}
 use Rattle.grammar.specs.Reading.{size, elements, answerOf, checkOf}
 use Rattle.grammar.proofs.Places.{Ahead, ends, stops, passes, reads, ahead-is, ahead-from}
 use Rattle.units.specs.Records.{recordOf, recordsFrom, recordsOf}

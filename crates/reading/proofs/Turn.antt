@@ -16,9 +16,9 @@ use Rattle.grammar.specs.Reading.{size, elements, answerOf}
 use Rattle.grammar.proofs.Elements.{elements-end, elements-refused, elements-silent, elements-found}
 use Rattle.state.specs.State.{fresh, designatedOf}
 use Rattle.state.specs.declared.State.{State}
-use Rattle.state.specs.declared.element.Part.{Part}
-use Rattle.state.specs.declared.element.Element.{Element}
-use Rattle.state.specs.declared.element.Element.the-variants.{End, Refused, Silent, Found}
+use Rattle.state.specs.declared.elements.Part.{Part}
+use Rattle.state.specs.declared.elements.Element.{Element}
+use Rattle.state.specs.declared.elements.Element.the-variants.{End, Refused, Silent, Found}
 use Rattle.stretch.specs.Characters.{stretchAt}
 use Rattle.stretch.specs.Designation.{designationAt}
 use Rattle.stretch.specs.declared.characters.Stretch.{Stretch}

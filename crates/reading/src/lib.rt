@@ -6,7 +6,7 @@ use base::limit;
 use base::refusal;
 use charset::NO_SET;
 use state::State;
-use state::element::Element;
+use state::elements::Element;
 use stretch::characters::stretch_at;
 use stretch::designation::designation_at;
 

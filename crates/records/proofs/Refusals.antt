@@ -20,9 +20,9 @@ use Rattle.state.specs.State.{fresh}
 use Rattle.state.specs.declared.State.{State}
 use Rattle.state.specs.declared.directions.Directions.{Directions}
 use Rattle.state.specs.declared.directions.Step.the-variants.{Goes, Stops}
-use Rattle.state.specs.declared.element.Part.{Part}
-use Rattle.state.specs.declared.element.Element.{Element}
-use Rattle.state.specs.declared.element.Element.the-variants.{End, Refused, Silent, Found}
+use Rattle.state.specs.declared.elements.Part.{Part}
+use Rattle.state.specs.declared.elements.Element.{Element}
+use Rattle.state.specs.declared.elements.Element.the-variants.{End, Refused, Silent, Found}
 use Rattle.grammar.specs.Units.{TextUnit, char, ext, unitOf, textOctets, codeUsed, segment, good}
 use Rattle.grammar.specs.Reading.{direct}
 use Rattle.grammar.proofs.Segment.{content}

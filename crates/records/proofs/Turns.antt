@@ -40,7 +40,7 @@ module _ (o : List ℕ) (r : UnitRecord) (i : ℕ) (p : Progress) (w : List ℕ)
   unfolding turnOf roomAfter
   turn-faulty n j ep = (rw ep, rw ep)
 
--- where the quick check ends at the latest
+-- the end of the records that the quick check may look at
 module _ (p : Progress) (from n : ℕ) where
   pub until-settled : (d : Directions) → p ≡ Fine d → settledOf d ≡ true → n ≡ quickUntil p from n
   unfolding quickUntil pick

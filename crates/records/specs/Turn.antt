@@ -39,7 +39,7 @@ abbrev pub quickAfter : Progress → Bool
 quickAfter (Fine d) = settledOf d
 quickAfter (Faulty n j) = false
 
--- where the quick check of the records from a place on ends at the latest
+-- the end of the records from a place on that the quick check may look at
 unfoldable pub quickUntil : Progress → ℕ → ℕ → ℕ
 quickUntil p from n = pick (quickAfter p) n from
 

@@ -71,7 +71,7 @@ fn settled(directions: Directions) -> bool
     directions.texted
 }
 
-// Where the quick check of the records from a place on ends at the latest: at n, but where the directions are not settled at once.
+// The end of the records from a place on that the quick check may look at: n where the directions are settled, else the place itself.
 pub fn quick_until(progress: Progress, from: usize, n: usize) -> usize
     ensures { λ r. ⌜ r ≡ quickUntil progress from n ⌝ }
 {

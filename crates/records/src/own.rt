@@ -22,7 +22,7 @@ use state::State;
 use state::directions::Directions;
 use state::directions::Step;
 use state::directions::counts_as_text;
-use state::element::Element;
+use state::elements::Element;
 
 // A code of one octet that a set of 94 uses.
 fn graphic(code: u16) -> bool

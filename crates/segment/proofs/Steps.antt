@@ -12,7 +12,7 @@ use Rattle.base.proofs.Ladder.{octet, ended, on-le, on-gt}
 use Rattle.state.proofs.Steps.{steps}
 use Rattle.state.specs.Elements.{refused}
 use Rattle.state.specs.declared.State.{State}
-use Rattle.state.specs.declared.element.Element.{Element}
+use Rattle.state.specs.declared.elements.Element.{Element}
 use Rattle.segment.specs.Segment.{nameOf, textWidthOf, contentOf, bodyOf}
 use Rattle.segment.specs.declared.Name.{Name}
 

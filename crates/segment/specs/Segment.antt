@@ -10,9 +10,9 @@ use Rattle.base.specs.Kind as kind
 use Rattle.state.specs.Directions.{countsAsText}
 use Rattle.state.specs.Elements.{part, refused, next}
 use Rattle.state.specs.declared.State.{State}
-use Rattle.state.specs.declared.element.Part.{Part}
-use Rattle.state.specs.declared.element.Element.{Element}
-use Rattle.state.specs.declared.element.Element.the-variants.{Found}
+use Rattle.state.specs.declared.elements.Part.{Part}
+use Rattle.state.specs.declared.elements.Element.{Element}
+use Rattle.state.specs.declared.elements.Element.the-variants.{Found}
 use Rattle.segment.specs.declared.Name.{Name}
 use Rattle.segment.specs.declared.Name.the-variants.{Ends, Bad}
 

@@ -8,8 +8,8 @@ use base::kind;
 use base::refusal;
 use state::State;
 use state::directions::counts_as_text;
-use state::element::Element;
-use state::element::Part;
+use state::elements::Element;
+use state::elements::Part;
 
 // Where a name ends: the place of its 02, or of the first octet that is no name's (the length where there is no 02).
 pub enum Name {

@@ -16,7 +16,7 @@ use Rattle.grammar.specs.Reading.{size, elements}
 use Rattle.grammar.proofs.Places.{Ahead, ends, stops, passes, reads}
 use Rattle.state.specs.State.{fresh}
 use Rattle.state.specs.declared.State.{State}
-use Rattle.state.specs.declared.element.Element.{Element}
+use Rattle.state.specs.declared.elements.Element.{Element}
 use Rattle.units.specs.Next.{outcomeOf}
 use Rattle.units.specs.Records.{recordOf, recordsFrom, recordsOf}
 use Rattle.units.specs.declared.Outcome.the-variants.{Gives}

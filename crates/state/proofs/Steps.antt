@@ -7,7 +7,7 @@ use Rattle.base.specs.Choice.{from}
 use Rattle.base.specs.Refusal as refusal
 use Rattle.base.proofs.Ladder.{octet, ended, ladder}
 use Rattle.state.specs.Elements.{next, refused}
-use Rattle.state.specs.declared.element.Element.{Element}
+use Rattle.state.specs.declared.elements.Element.{Element}
 
 module _ (s : List ℕ) (at : ℕ) (f : ℕ → List ℕ → Element) (r : Element) where
   pub on-next : at < length s → r ≡ f (getD s at 0) (from (at + 1) s) → r ≡ next (from at s) f

@@ -5,9 +5,9 @@ use mathlib.Core.List.{List, [], _∷_}
 use Rattle.base.specs.Refusal as refusal
 use Rattle.state.specs.Directions.{countsAsText}
 use Rattle.state.specs.declared.State.{State}
-use Rattle.state.specs.declared.element.Part.{Part}
-use Rattle.state.specs.declared.element.Element.{Element}
-use Rattle.state.specs.declared.element.Element.the-variants.{End, Refused, Silent, Found}
+use Rattle.state.specs.declared.elements.Part.{Part}
+use Rattle.state.specs.declared.elements.Element.{Element}
+use Rattle.state.specs.declared.elements.Element.the-variants.{End, Refused, Silent, Found}
 
 -- kind, set, code, octets before the unit's own, the unit's octets, whether it is text for the direction rule
 abbrev pub part : ℕ → ℕ → ℕ → ℕ → ℕ → Bool → Part

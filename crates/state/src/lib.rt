@@ -4,7 +4,7 @@ ghost use Rattle.state.specs.State.{fresh, designatedOf, directedTo};
 use charset::Side;
 
 pub mod directions;
-pub mod element;
+pub mod elements;
 
 use crate::directions::Directions;
 

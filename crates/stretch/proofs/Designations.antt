@@ -19,8 +19,8 @@ use Rattle.element.specs.Element.{shapeOf, directedOf, elementOf}
 use Rattle.state.specs.Elements.{next}
 use Rattle.state.specs.State.{designatedOf}
 use Rattle.state.specs.declared.State.{State}
-use Rattle.state.specs.declared.element.Element.{Element}
-use Rattle.state.specs.declared.element.Element.the-variants.{Silent}
+use Rattle.state.specs.declared.elements.Element.{Element}
+use Rattle.state.specs.declared.elements.Element.the-variants.{Silent}
 use Rattle.stretch.specs.Designation as quick
 use Rattle.stretch.specs.declared.designation.Designation.{Designation}
 

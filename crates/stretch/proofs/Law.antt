@@ -14,9 +14,9 @@ use Rattle.element.proofs.Sizes.{element-size, of-found}
 use Rattle.grammar.specs.Reading.{size, onward, elements, answerOf}
 use Rattle.grammar.proofs.Elements.{elements-drop}
 use Rattle.state.specs.declared.State.{State}
-use Rattle.state.specs.declared.element.Part.{Part}
-use Rattle.state.specs.declared.element.Element.{Element}
-use Rattle.state.specs.declared.element.Element.the-variants.{Found}
+use Rattle.state.specs.declared.elements.Part.{Part}
+use Rattle.state.specs.declared.elements.Element.{Element}
+use Rattle.state.specs.declared.elements.Element.the-variants.{Found}
 use Rattle.stretch.specs.Characters.{leadOf}
 
 -- an element of n octets that gives a unit and leaves the state

@@ -21,9 +21,9 @@ use Rattle.state.specs.declared.State.{State}
 use Rattle.state.specs.declared.directions.Directions.{Directions}
 use Rattle.state.specs.declared.directions.Step.{Step}
 use Rattle.state.specs.declared.directions.Step.the-variants.{Goes, Stops}
-use Rattle.state.specs.declared.element.Part.{Part}
-use Rattle.state.specs.declared.element.Element.{Element}
-use Rattle.state.specs.declared.element.Element.the-variants.{Found}
+use Rattle.state.specs.declared.elements.Part.{Part}
+use Rattle.state.specs.declared.elements.Element.{Element}
+use Rattle.state.specs.declared.elements.Element.the-variants.{Found}
 use Rattle.text.specs.Text.{graphicOf, oneOctetOf, twoOctetsOf, secondOctetOf, characterOf, textOf}
 use Rattle.stretch.specs.Characters.{glOctet, graphicOn, grOctet, singleOf, oneAt, twoAt, settledOf}
 use Rattle.stretch.proofs.Law.{One}

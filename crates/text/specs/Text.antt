@@ -9,7 +9,7 @@ use Rattle.base.specs.Kind as kind
 use Rattle.charset.specs.Charsets.{form-96, form-94x94, formOf}
 use Rattle.state.specs.Elements.{unit, refused, next}
 use Rattle.state.specs.declared.State.{State}
-use Rattle.state.specs.declared.element.Element.{Element}
+use Rattle.state.specs.declared.elements.Element.{Element}
 
 -- an octet less its top bit that a set of 94 uses, and either octet of a set of 94 by 94: "21-7E", "A1-FE"
 unfoldable pub graphicOf : ℕ → Bool

@@ -7,8 +7,8 @@ use base::refusal;
 use charset::FORM_94X94;
 use charset::FORM_96;
 use state::State;
-use state::element::Element;
-use state::element::Part;
+use state::elements::Element;
+use state::elements::Part;
 
 // An octet, less its top bit, that a set of 94 uses.
 pub fn graphic(c: u8) -> bool

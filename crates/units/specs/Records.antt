@@ -3,9 +3,9 @@ use Prim.Native.Nat.{ℕ, _+_}
 use mathlib.Core.List.{List, [], _∷_}
 use Rattle.base.specs.declared.Unit.{Unit as UnitRecord}
 use Rattle.state.specs.State.{fresh}
-use Rattle.state.specs.declared.element.Part.{Part}
-use Rattle.state.specs.declared.element.Element.{Element}
-use Rattle.state.specs.declared.element.Element.the-variants.{End, Refused, Silent, Found}
+use Rattle.state.specs.declared.elements.Part.{Part}
+use Rattle.state.specs.declared.elements.Element.{Element}
+use Rattle.state.specs.declared.elements.Element.the-variants.{End, Refused, Silent, Found}
 use Rattle.grammar.specs.Reading.{size, elements}
 
 -- a record with nothing in it

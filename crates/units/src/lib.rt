@@ -7,8 +7,8 @@ use base::Unit;
 use base::limit;
 use base::refusal;
 use state::State;
-use state::element::Element;
-use state::element::Part;
+use state::elements::Element;
+use state::elements::Part;
 
 pub enum Outcome {
     // a unit, and the place and the state after it

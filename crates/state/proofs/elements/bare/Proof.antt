@@ -1,7 +1,7 @@
 -- `element::bare` meets its contract, by what `counts_as_text` ensures.
 use borrow.Author.Needs.{needs}
-use Rattle.state.proofs.element.bare.Statement.{statement}
-use Rattle.state.proofs.element.bare.Tie as tie
+use Rattle.state.proofs.elements.bare.Statement.{statement}
+use Rattle.state.proofs.elements.bare.Tie as tie
 
 counts-as-text-requires : tie.Need-counts-as-text-requires
 counts-as-text-requires c κs = search needs
