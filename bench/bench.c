@@ -3,9 +3,9 @@
 //   bench table CORPUS..    for each corpus and each function: the median time of a string, and the ratios to the yardstick
 //   bench ladder CORPUS..   for each length of the strings of each corpus: the time to check, read and write one
 //
-// Times are of the thread's processor clock. Each repetition measures every function in turn, and each function directly after the
-// yardstick: a ratio is the median of the ratios within a repetition, so that what slows the whole machine down cancels out. One work
-// room and one list are used again for every string.
+// Times are of the thread's processor clock. Each repetition goes through all corpora and measures every function in turn, and each
+// function directly after the yardstick: a ratio is the median of the ratios within a repetition, so that what slows the whole machine
+// down cancels out. One work room and one list are used again for every string.
 #define _POSIX_C_SOURCE 200809L
 #include <stdbool.h>
 #include <stdio.h>
@@ -184,40 +184,74 @@ struct times {
     double own[REPETITIONS], by_yardstick[REPETITIONS], by_limit[REPETITIONS], by_check[REPETITIONS];
 };
 
-static void measure(struct times times[FUNCTIONS])
+// A corpus with what is prepared of it, which functions take it and how often, and their times.
+struct measured {
+    const char *path;
+    struct corpus corpus;
+    struct prepared *prepared;
+    struct function functions[FUNCTIONS];
+    struct times times[FUNCTIONS];
+};
+
+static void turn_to(const struct measured *m)
 {
-    for (int r = 0; r < REPETITIONS; r++) {
-        for (int k = 0; k < FUNCTIONS; k++) {
-            if (!functions[k].run) continue;
-            double base = slice(&functions[YARDSTICK], 0, corpus.count);
-            double limit = functions[LIMIT].run ? slice(&functions[LIMIT], 0, corpus.count) : 0;
-            double check = k >= READ && functions[CHECK].run ? slice(&functions[CHECK], 0, corpus.count) : 0;
-            double own = slice(&functions[k], 0, corpus.count);
-            times[k].own[r] = own;
-            times[k].by_yardstick[r] = own / base;
-            times[k].by_limit[r] = limit > 0 ? own / limit : 0;
-            times[k].by_check[r] = check > 0 ? own / check : 0;
-        }
-    }
+    corpus = m->corpus;
+    prepared = m->prepared;
+    memcpy(functions, m->functions, sizeof functions);
 }
 
-static void table(const char *path)
+static void make_ready(struct measured *m, const char *path)
 {
-    static struct times times[FUNCTIONS];
     load(path, true);
     functions[X11_READ].run = x11_is_there() && x11_takes_all() ? run_x11_read : NULL;
     functions[X11_WRITE].run = functions[X11_READ].run ? run_x11_write : NULL;
     for (int k = 0; k < FUNCTIONS; k++)
         if (functions[k].run) choose_turns(&functions[k], 0, corpus.count);
-    measure(times);
+    m->path = path;
+    m->corpus = corpus;
+    m->prepared = prepared;
+    memcpy(m->functions, functions, sizeof functions);
+}
+
+static void repeat(struct measured *m, int r)
+{
+    turn_to(m);
+    for (int k = 0; k < FUNCTIONS; k++) {
+        if (!functions[k].run) continue;
+        double base = slice(&functions[YARDSTICK], 0, corpus.count);
+        double limit = functions[LIMIT].run ? slice(&functions[LIMIT], 0, corpus.count) : 0;
+        double check = k >= READ && functions[CHECK].run ? slice(&functions[CHECK], 0, corpus.count) : 0;
+        double own = slice(&functions[k], 0, corpus.count);
+        m->times[k].own[r] = own;
+        m->times[k].by_yardstick[r] = own / base;
+        m->times[k].by_limit[r] = limit > 0 ? own / limit : 0;
+        m->times[k].by_check[r] = check > 0 ? own / check : 0;
+    }
+}
+
+static void print(struct measured *m)
+{
+    turn_to(m);
     size_t count = 0;
     for (size_t i = 0; i < corpus.count; i++) count += prepared[i].count;
     for (int k = 0; k < FUNCTIONS; k++)
         if (functions[k].run)
-            printf("%s\t%s\t%zu\t%zu\t%zu\t%.1f\t%.3f\t%.3f\t%.3f\n", path, functions[k].name, corpus.count, corpus.octets, count,
-                   median(times[k].own, REPETITIONS) / (double)corpus.count, median(times[k].by_yardstick, REPETITIONS),
-                   median(times[k].by_limit, REPETITIONS), median(times[k].by_check, REPETITIONS));
-    fflush(stdout);
+            printf("%s\t%s\t%zu\t%zu\t%zu\t%.1f\t%.3f\t%.3f\t%.3f\n", m->path, functions[k].name, corpus.count, corpus.octets, count,
+                   median(m->times[k].own, REPETITIONS) / (double)corpus.count, median(m->times[k].by_yardstick, REPETITIONS),
+                   median(m->times[k].by_limit, REPETITIONS), median(m->times[k].by_check, REPETITIONS));
+}
+
+// Each repetition goes through all corpora, so that the repetitions of one are spread over the whole time: other work on the machine
+// makes it slower for seconds, and not all functions by as much.
+static void table(size_t count, char **paths)
+{
+    struct measured *all = calloc(count, sizeof *all);
+    if (!all) abort();
+    for (size_t i = 0; i < count; i++) make_ready(&all[i], paths[i]);
+    for (int r = 0; r < REPETITIONS; r++)
+        for (size_t i = 0; i < count; i++) repeat(&all[i], r);
+    for (size_t i = 0; i < count; i++) print(&all[i]);
+    free(all);
 }
 
 // ---- the ladder
@@ -283,6 +317,8 @@ int main(int count, char **words)
     if (!ctext_check || !ctext_read) functions[READ].run = NULL;
     if (!functions[READ].run || !ctext_write) functions[WRITE].run = NULL;
     if (wants_table) x11_open();
-    for (int i = 2; i < count; i++) wants_table ? table(words[i]) : ladder(words[i]);
+    if (wants_table) table((size_t)count - 2, words + 2);
+    else
+        for (int i = 2; i < count; i++) ladder(words[i]);
     return 0;
 }
