@@ -13,7 +13,7 @@ pub mod stepping;
 pub extern "C" fn ctext_check(s: &[u8]) -> Answer
     ensures { λ r. ⌜ r ≡ checkOf (now (s .entry)) ⌝ }
 {
-    reading::check(s)
+    check_string::check(s)
 }
 
 // Where the k-th run of a string lies, and its numbers.

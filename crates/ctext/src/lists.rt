@@ -1,9 +1,9 @@
 // Reading into, and writing of, a list of records that the caller lends, for C.
 ghost use mathlib.Core.Path.{_≡_};
 ghost use lib.ListN.{length};
-ghost use Rattle.listing.specs.Listing.{readAnswer, listAfter};
-ghost use Rattle.writing.specs.Records.{writerAnswer, writerOutput};
-ghost use Rattle.writing.specs.Demand3.{Demand3For};
+ghost use Rattle.read.specs.Listing.{readAnswer, listAfter};
+ghost use Rattle.shortest.specs.Records.{writerAnswer, writerOutput};
+ghost use Rattle.shortest.specs.Demand3.{Demand3For};
 use base::Answer;
 use base::Unit;
 
@@ -13,7 +13,7 @@ pub extern "C" fn ctext_read(s: &[u8], units: &mut [Unit]) -> Answer
     ensures { λ r. ⌜ (r ≡ readAnswer (now (s .entry)) (length (now (units .entry))))
         × (now (units .exit) ≡ listAfter (now (s .entry)) (now (units .entry))) ⌝ }
 {
-    listing::read(s, units)
+    read::read(s, units)
 }
 
 // The units of a list, whose extended segments stand in the octets lent, are written as the shortest string, or the answer says why not.
@@ -30,5 +30,5 @@ pub extern "C" fn ctext_write(
         × (length (now (work .exit)) ≡ length (now (work .entry)))
         × Demand3For (now (units .entry)) (now (segments .entry)) (length (now (work .entry))) (now (out .entry)) r (now (out .exit)) ⌝ }
 {
-    writer::write(units, segments, work, out)
+    write::write(units, segments, work, out)
 }

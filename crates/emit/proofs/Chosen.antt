@@ -6,8 +6,8 @@ use Prim.Native.Nat.{ℕ, _+_, _/_, _%_, _≤_, _<_}
 use lib.ListN.{getD}
 use lib.Dec.{eqb, leb}
 use borrow.Author.Tests.{eq-eqb, ne-eqb, lt-ltb, le-ltb, le-leb, lt-leb}
-use Rattle.writing.proofs.Sets.{implies, implies-elim, upTo, up-to}
-use Rattle.writing.proofs.Needs.{or-true}
+use Rattle.shortest.proofs.Sets.{implies, implies-elim, upTo, up-to}
+use Rattle.shortest.proofs.Needs.{or-true}
 use Rattle.plan.specs.Numbers.{setsInGL, servedInGL, servedInGR, afterFirst, afterSecond, chosenBy}
 use Rattle.plan.specs.Costs.{secondSlot}
 use Rattle.plan.proofs.Numbers.{beq-eq}

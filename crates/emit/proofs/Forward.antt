@@ -13,8 +13,8 @@ use Rattle.charset.specs.declared.Side.{Side}
 use Rattle.state.specs.State.{Standing, fresh}
 use Rattle.state.specs.declared.Sets.{Sets}
 use Rattle.grammar.specs.Units.{TextUnit, octets}
-use Rattle.writing.specs.Writing.{Need, choose, after, met, need, cost, used, designated, writing}
-use Rattle.writing.proofs.Needs.{chosen-met}
+use Rattle.shortest.specs.Writing.{Need, choose, after, met, need, cost, used, designated, writing}
+use Rattle.shortest.proofs.Needs.{chosen-met}
 use Rattle.rows.specs.Rows.{tagAt, startFrom, unitTagged, unitFrom, unitsIn}
 use Rattle.plan.specs.Numbers.{servedInGL, numbered, classOf, needOfClass, afterFirst, afterSecond, chosenBy, afterChoice, change, sideAt}
 use Rattle.plan.specs.Costs.{restFrom, secondSlot}

@@ -16,8 +16,8 @@ use Rattle.charset.specs.Charsets.{rowOf, formOf}
 use Rattle.state.specs.State.{on}
 use Rattle.grammar.specs.Units.{ext, wide, top, octets, designation}
 use Rattle.grammar.proofs.Complete.{and-left, and-right}
-use Rattle.writing.specs.Writing.{designated}
-use Rattle.writing.proofs.Sets.{up-to}
+use Rattle.shortest.specs.Writing.{designated}
+use Rattle.shortest.proofs.Sets.{up-to}
 use Rattle.rows.specs.Rows.{countOf, partOf, unitTagged}
 use Rattle.plan.specs.Numbers.{setsInGL, setsInGR, change}
 use Rattle.rows.proofs.Units.{part-length, unit-segment, unit-spare}

@@ -14,10 +14,10 @@ use Rattle.base.specs.Refusal as refusal
 use Rattle.base.specs.declared.Answer.{Answer}
 use Rattle.state.specs.State.{fresh}
 use Rattle.grammar.specs.Units.{TextUnit}
-use Rattle.writing.specs.Writing.{cost, writing}
-use Rattle.writing.specs.Demand.{writeAnswer, outputAfter}
-use Rattle.writing.specs.Records.{workRoom}
-use Rattle.writing.proofs.Costs.{writing-length}
+use Rattle.shortest.specs.Writing.{cost, writing}
+use Rattle.shortest.specs.Demand.{writeAnswer, outputAfter}
+use Rattle.shortest.specs.Records.{workRoom}
+use Rattle.shortest.proofs.Costs.{writing-length}
 use Rattle.rows.specs.Rows.{tagAt, startFrom, unitTagged, unitFrom, unitsIn}
 use Rattle.plan.specs.Numbers.{numbered, classOf, afterFirst, afterSecond}
 use Rattle.plan.specs.Costs.{rowsOf, TwoStandings, secondSlot, Planned}

@@ -14,8 +14,8 @@ use Rattle.base.specs.declared.Answer.{Answer}
 use Rattle.charset.specs.declared.Side.{Side}
 use Rattle.charset.specs.declared.Side.the-variants.{GL, GR}
 use Rattle.rows.specs.Rows.{tagAt, unitsIn}
-use Rattle.writing.specs.Demand.{writeAnswer, outputAfter}
-use Rattle.writing.specs.Records.{workRoom}
+use Rattle.shortest.specs.Demand.{writeAnswer, outputAfter}
+use Rattle.shortest.specs.Records.{workRoom}
 use Rattle.plan.specs.Numbers.{classOf}
 use Rattle.plan.specs.Costs.{TwoStandings, CostsKept}
 

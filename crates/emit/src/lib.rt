@@ -4,7 +4,7 @@ ghost use Prim.Native.Nat.{_+_, _*_, _/_, _%_, _≤_, _<_};
 ghost use lib.ListN.{length, getD};
 ghost use Rattle.state.specs.State.{fresh};
 ghost use Rattle.grammar.specs.Units.{octets};
-ghost use Rattle.writing.specs.Writing.{writing, designated};
+ghost use Rattle.shortest.specs.Writing.{writing, designated};
 ghost use Rattle.rows.specs.Rows.{unitsIn};
 ghost use Rattle.plan.specs.Numbers.{setsInGL, setsInGR, placesInGL, placesInGR, servedInGL, servedInGR, afterFirst, afterSecond, chosenBy, change};
 ghost use Rattle.plan.specs.Costs.{secondSlot};

@@ -10,8 +10,8 @@ use Rattle.charset.specs.Charsets.{formOf}
 use Rattle.state.specs.State.{Standing, on, put}
 use Rattle.state.specs.declared.Sets.{Sets}
 use Rattle.grammar.specs.Units.{designation}
-use Rattle.writing.specs.Writing.{Need, free, either, stands, met, price, least}
-use Rattle.writing.proofs.Needs.{put-stands, or-true}
+use Rattle.shortest.specs.Writing.{Need, free, either, stands, met, price, least}
+use Rattle.shortest.proofs.Needs.{put-stands, or-true}
 
 -- a need twice is that need once
 pub least-again : (f : Sets → ℕ) (c : ℕ) (n : Need) (s : Sets) → least n (λ t. c + least n f t) s ≡ c + least n f s

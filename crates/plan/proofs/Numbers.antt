@@ -15,9 +15,9 @@ use Rattle.state.specs.State.{Standing, sets, put}
 use Rattle.state.specs.declared.Sets.{Sets}
 use Rattle.grammar.specs.Units.{designation}
 use Rattle.grammar.proofs.Complete.{and-left, and-right}
-use Rattle.writing.specs.Writing.{Need, free, either, stands, met, price, least, choose, after, used}
-use Rattle.writing.proofs.Sets.{implies, implies-elim, upTo, up-to}
-use Rattle.writing.proofs.Needs.{or-none, Steady}
+use Rattle.shortest.specs.Writing.{Need, free, either, stands, met, price, least, choose, after, used}
+use Rattle.shortest.proofs.Sets.{implies, implies-elim, upTo, up-to}
+use Rattle.shortest.proofs.Needs.{or-none, Steady}
 use Rattle.plan.specs.Numbers.{setsInGL, setsInGR, numbered, withGL, withGR, needOfClass, priceOfClass, placesInGL, placesInGR, afterFirst, afterSecond, chosenBy, afterChoice, surcharge, change, sideAt}
 
 -- ---- tests of equality

@@ -17,9 +17,9 @@ use Rattle.state.specs.State.{Standing, on, put, fresh}
 use Rattle.state.specs.declared.Sets.{Sets}
 use Rattle.grammar.specs.Units.{TextUnit, designation}
 use Rattle.grammar.proofs.Sound.{lead-size}
-use Rattle.writing.specs.Writing.{Need, least, choose, after, price, cost}
-use Rattle.writing.proofs.Needs.{spent, least-chosen}
-use Rattle.writing.proofs.Costs.{cost-steady}
+use Rattle.shortest.specs.Writing.{Need, least, choose, after, price, cost}
+use Rattle.shortest.proofs.Needs.{spent, least-chosen}
+use Rattle.shortest.proofs.Costs.{cost-steady}
 use Rattle.rows.specs.Rows.{tagAt, startFrom, countOf, partOf, unitsIn}
 use Rattle.plan.specs.Numbers.{numbered, classOf, needOfClass, afterFirst, afterSecond, afterChoice, surcharge}
 use Rattle.plan.specs.Costs.{sizeOf, sizeAt, restFrom, leastBy, Smooth, changes, Turned, TwoStandings, secondSlot, RowKept, CostsKept, Planned}

@@ -10,7 +10,7 @@ use Rattle.base.specs.Choice.{pick}
 use Rattle.base.specs.Limit as limit
 use Rattle.state.specs.declared.Sets.{Sets}
 use Rattle.rows.specs.Rows.{tagAt, startFrom, countOf, partOf, unitsIn}
-use Rattle.writing.specs.Writing.{cost}
+use Rattle.shortest.specs.Writing.{cost}
 use Rattle.plan.specs.Numbers.{numbered, classOf, placesInGL, placesInGR, servedInGR, afterFirst, afterSecond, afterChoice, surcharge, priceOfClass}
 
 -- ---- the units of the rows

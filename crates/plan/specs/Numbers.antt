@@ -11,7 +11,7 @@ use Rattle.charset.specs.declared.Side.the-variants.{GL, GR}
 use Rattle.charset.specs.Charsets.{allowed}
 use Rattle.state.specs.State.{Standing, on, sets}
 use Rattle.state.specs.declared.Sets.{Sets}
-use Rattle.writing.specs.Writing.{Need, free, either, placesOf}
+use Rattle.shortest.specs.Writing.{Need, free, either, placesOf}
 
 -- the sets that may stand in GL, by place
 abbrev pub setsInGL : List ℕ

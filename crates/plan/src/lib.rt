@@ -5,7 +5,7 @@ ghost use Prim.Native.Nat.{_+_, _*_, _≤_, _<_};
 ghost use lib.ListN.{length, getD};
 ghost use Rattle.state.specs.State.{fresh};
 ghost use Rattle.rows.specs.Rows.{unitsIn};
-ghost use Rattle.writing.specs.Writing.{cost};
+ghost use Rattle.shortest.specs.Writing.{cost};
 ghost use Rattle.plan.specs.Numbers.{classOf, placesInGL, placesInGR};
 ghost use Rattle.plan.specs.Costs.{rowsOf, sizeFrom, Planned};
 use base::limit;

@@ -1,1 +1,9 @@
-pub mod Shortest
+pub mod Writing
+pub mod Demand
+pub mod Records
+pub mod Choice
+pub mod Offence
+pub mod Outcome
+pub mod Demand3
+pub mod Unused
+pub mod CheckedStrings

@@ -8,7 +8,7 @@ fn main() {
     // room for 909 units: 72 × 910 octets
     let mut work = [0u8; 65520];
     let mut out = [0u8; 65535];
-    let a = shortest::shortest(&input[..n], &mut work, &mut out);
+    let a = rewrite::shortest(&input[..n], &mut work, &mut out);
     if a.number == refusal::ACCEPTED {
         write_first(&out, a.count);
         return;

@@ -42,8 +42,8 @@ fn show_unit(u: Unit) {
 // The list of eight records after `read`; of those that it leaves, one is shown.
 fn show_list(s: &[u8]) {
     io::write_all(1, b" list\n");
-    show_answer(listing::answer(s, 8));
-    let list = eight::read_eight(s, MARK);
+    show_answer(read::answer(s, 8));
+    let list = by_value::read_eight(s, MARK);
     for k in 0..8 {
         let u = list[k];
         if u.kind == 255 {
@@ -58,7 +58,7 @@ fn show_list(s: &[u8]) {
 fn show_items(s: &[u8]) {
     io::write_all(1, b" reader\n");
     for k in 0..10 {
-        let i = items::nth(s, k);
+        let i = by_value::nth(s, k);
         match i {
             Item::Given(unit) => show_unit(unit),
             Item::Ended(answer) => {

@@ -1,4 +1,4 @@
--- `ctext::lists::ctext_read` meets its contract, which is that of `listing::read`: its code is followed by hand, for the list lent is of
+-- `ctext::lists::ctext_read` meets its contract, which is that of `read::read`: its code is followed by hand, for the list lent is of
 -- structs. It passes its two slices on, and what `read` leaves is what it leaves.
 -- Assumes nothing.
 use Rattle.walks.proofs.Names.{_≡_, refl, ℕ, _<_, _^_, [], _∷_, List, length, URA, named, Val, SProp, ent, Lft, Share, Memory, Routine, Heap, WpFn, Tables, Atoms, Fun, givenOf, Given, raw, _$_, _∵_, !, qed, move, done, look, init, forget, stop, hop, fld, from, load, addr, and-then, no-more, assigns, land, returns, enter, alloc1, alloc0, params1, pass1, pass0, agg, whole, sub, look-in, FmC, fmOf, u8, RefT, sliceVal, slice-vals, shr-slice-tells, mut-slice-tells, tripleOf, Contract, Triple, cited}
@@ -10,10 +10,10 @@ use Rattle.base.proofs.Answer as N
 use Rattle.base.proofs.Answer.Laws as N′
 use Rattle.walks.proofs.Body.{𝓣of, frees-all}
 use Rattle.walks.proofs.Passing.{calls-whole, written-out, passed-on}
-use Rattle.listing.proofs.read as read
-use Rattle.listing.proofs.read.Symbol as read-def
-use Rattle.listing.proofs.read.Symbol.{name as #read}
-use Rattle.listing.proofs.read.Met as read-thm
+use Rattle.read.proofs.read as read
+use Rattle.read.proofs.read.Symbol as read-def
+use Rattle.read.proofs.read.Symbol.{name as #read}
+use Rattle.read.proofs.read.Met as read-thm
 use Rattle.ctext.proofs.lists.ctext_read.Key.{name as #ctext-read}
 use Rattle.ctext.proofs.lists.ctext_read as ctext-read
 use Rattle.ctext.proofs.lists.ctext_read.Statement as stated
@@ -64,4 +64,4 @@ unfolding code.routine tablesOf
 ctext-read-spec 𝓤 H 𝓜 𝓖 𝓡 =
     passed-on 𝓤 H 𝓜 𝓖 𝓡 code.env #ctext-read code.function (code.unfolded 𝓤 H 𝓜 𝓡) read.signature (read.spec 𝓤 H (𝓖 .A) (𝓜 .mem) (𝓡 .run))
     (reads 𝓤 H (𝓖 .A) (givenOf 𝓤 H 𝓜 𝓖) (𝓜 .mem) (𝓡 .run) (𝓣of 𝓤 H 𝓜 𝓖 𝓡 code.env) (fmOf 𝓤 H (givenOf 𝓤 H 𝓜 𝓖 .laws) (𝓣of 𝓤 H 𝓜 𝓖 𝓡 code.env))
-    (cited 𝓤 H (Reads 𝓤 H (𝓖 .A) (𝓜 .mem) (𝓡 .run)) 𝓜 𝓡 code.env #read read-def.routine code.calls-listing·read (read-thm.met 𝓤 H 𝓜 𝓖 𝓡)))
+    (cited 𝓤 H (Reads 𝓤 H (𝓖 .A) (𝓜 .mem) (𝓡 .run)) 𝓜 𝓡 code.env #read read-def.routine code.calls-read·read (read-thm.met 𝓤 H 𝓜 𝓖 𝓡)))

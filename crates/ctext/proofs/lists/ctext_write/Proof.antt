@@ -1,4 +1,4 @@
--- `ctext::lists::ctext_write` meets its contract, which is that of `writer::write`: its code is followed by hand, for the list lent is of
+-- `ctext::lists::ctext_write` meets its contract, which is that of `write::write`: its code is followed by hand, for the list lent is of
 -- structs. It passes its four slices on, and what `write` leaves is what it leaves.
 -- Assumes nothing.
 use Rattle.walks.proofs.Names.{_≡_, refl, ℕ, _<_, _^_, [], _∷_, List, length, URA, named, Val, SProp, ent, Lft, Share, Memory, Routine, Heap, WpFn, Tables, Atoms, Fun, givenOf, Given, raw, _$_, _∵_, !, qed, move, done, look, init, forget, stop, hop, fld, from, load, addr, and-then, no-more, assigns, land, returns, enter, alloc1, alloc0, params1, pass1, pass0, agg, whole, sub, look-in, FmC, fmOf, u8, RefT, sliceVal, slice-vals, shr-slice-tells, mut-slice-tells, tripleOf, Contract, Triple, cited}
@@ -10,10 +10,10 @@ use Rattle.base.proofs.Answer as N
 use Rattle.base.proofs.Answer.Laws as N′
 use Rattle.walks.proofs.Body.{𝓣of, frees-all}
 use Rattle.walks.proofs.Passing.{calls-whole, written-out, passed-on}
-use Rattle.writer.proofs.write as write
-use Rattle.writer.proofs.write.Symbol as write-def
-use Rattle.writer.proofs.write.Symbol.{name as #write}
-use Rattle.writer.proofs.write.Met as write-thm
+use Rattle.write.proofs.write as write
+use Rattle.write.proofs.write.Symbol as write-def
+use Rattle.write.proofs.write.Symbol.{name as #write}
+use Rattle.write.proofs.write.Met as write-thm
 use Rattle.ctext.proofs.lists.ctext_write.Key.{name as #ctext-write}
 use Rattle.ctext.proofs.lists.ctext_write as ctext-write
 use Rattle.ctext.proofs.lists.ctext_write.Statement as stated
@@ -75,4 +75,4 @@ unfolding code.routine tablesOf
 ctext-write-spec 𝓤 H 𝓜 𝓖 𝓡 =
     passed-on 𝓤 H 𝓜 𝓖 𝓡 code.env #ctext-write code.function (code.unfolded 𝓤 H 𝓜 𝓡) write.signature (write.spec 𝓤 H (𝓖 .A) (𝓜 .mem) (𝓡 .run))
     (writes 𝓤 H (𝓖 .A) (givenOf 𝓤 H 𝓜 𝓖) (𝓜 .mem) (𝓡 .run) (𝓣of 𝓤 H 𝓜 𝓖 𝓡 code.env) (fmOf 𝓤 H (givenOf 𝓤 H 𝓜 𝓖 .laws) (𝓣of 𝓤 H 𝓜 𝓖 𝓡 code.env))
-    (cited 𝓤 H (Writes 𝓤 H (𝓖 .A) (𝓜 .mem) (𝓡 .run)) 𝓜 𝓡 code.env #write write-def.routine code.calls-writer·write (write-thm.met 𝓤 H 𝓜 𝓖 𝓡)))
+    (cited 𝓤 H (Writes 𝓤 H (𝓖 .A) (𝓜 .mem) (𝓡 .run)) 𝓜 𝓡 code.env #write write-def.routine code.calls-write·write (write-thm.met 𝓤 H 𝓜 𝓖 𝓡)))

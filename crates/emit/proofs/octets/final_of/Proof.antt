@@ -6,7 +6,7 @@ use mathlib.Core.List.{List, [], _∷_}
 use Prim.Native.Nat.{ℕ}
 use borrow.Author.Tests.{eqb-true}
 use Rattle.charset.specs.Charsets.{rowOf}
-use Rattle.writing.proofs.Sets.{up-to}
+use Rattle.shortest.proofs.Sets.{up-to}
 use borrow.Author.Needs.{needs}
 use Rattle.emit.proofs.octets.final_of.Statement.{statement}
 use Rattle.emit.proofs.octets.final_of.Tie as tie

@@ -1,0 +1,174 @@
+-- A record that is not refused fits a row, and the row's unit is the record's.
+use Prim.Native.Nat.{ℕ, _+_, _-_, _*_, _/_, _%_, _≤_, _<_}
+use native.Mathlib.Omega.{arith}
+use mathlib.Core.Path.{_≡_, refl, sym, ap, ap₂, _∙_, subst}
+use mathlib.Core.Bool.{Bool, true, false, cond, _&&_, not}
+use mathlib.Core.List.{List}
+use mathlib.Core.Option.{none, some, Option·none-ne-some, Option·some-injective}
+use lib.Dec.{eqb, leb, ltb}
+use lib.ListN.{length, set, take, drop}
+use borrow.Author.Tests.{eqb-true, eqb-false, lt-ltb, ltb-true, ltb-false, leb-true, not-true}
+use Rattle.base.specs.Choice.{pick}
+use Rattle.base.specs.Kind as kind
+use Rattle.base.specs.declared.Unit.{Unit as UnitRecord}
+use Rattle.charset.specs.Charsets.{form-96, form-94x94, formOf}
+use Rattle.text.specs.Text.{graphicOf}
+use Rattle.grammar.specs.Units.{TextUnit, char, space, tab, newline, ltr, rtl, revert, ext, unitOf, codeUsed, segment, good}
+use Rattle.grammar.proofs.Complete.{and-left, and-right}
+use Rattle.grammar.proofs.Sound.{graphic-low}
+use Rattle.grammar.specs.Records.{readable, unitRead}
+use Rattle.shortest.proofs.Sets.{up-to}
+use Rattle.rows.specs.Rows.{countOf, unitTagged, tagOf, numberOf}
+use Rattle.rows.proofs.Units.{unit-segment}
+use Rattle.check_list.specs.Row.{Stowable}
+
+-- ---- codes
+
+narrow-form : (t : ℕ) → t < 12 → eqb (formOf t) form-94x94 ≡ false
+unfolding formOf
+narrow-form t h = not-true (eqb (formOf t) form-94x94) (up-to 12 (λ m. not (eqb (formOf m) form-94x94)) refl t h)
+
+wide-form : (t : ℕ) → 12 ≤ t → t < 15 → eqb (formOf t) form-94x94 ≡ true
+unfolding formOf
+wide-form t h k =
+    let e : 12 + (t - 12) ≡ t = omega arith in
+    subst (λ (m : ℕ). eqb (formOf m) form-94x94 ≡ true) e (up-to 3 (λ m. eqb (formOf (12 + m)) form-94x94) refl (t - 12) (omega arith))
+
+one-code : (f k : ℕ) → eqb f form-94x94 ≡ false → codeUsed f k ≡ true → k ≤ 127
+unfolding codeUsed
+one-code f k n u = go (eqb f form-96) (rw n at u)
+  where
+    go : (b : Bool) → cond b (leb 0x20 k && leb k 0x7F) (graphicOf k) ≡ true → k ≤ 127
+    go true v = leb-true k 0x7F (and-right (leb 0x20 k) (leb k 0x7F) v)
+    go false v = let a = graphic-low k v in omega arith
+
+two-code : (f k : ℕ) → eqb f form-94x94 ≡ true → codeUsed f k ≡ true → (k / 256 ≤ 127) × (k % 256 ≤ 127)
+unfolding codeUsed
+two-code f k n u =
+    let v : (graphicOf (k / 256) && graphicOf (k % 256)) ≡ true = rw n at u in
+    let a = graphic-low (k / 256) (and-left (graphicOf (k / 256)) (graphicOf (k % 256)) v) in
+    let b = graphic-low (k % 256) (and-right (graphicOf (k / 256)) (graphicOf (k % 256)) v) in
+    (omega arith, omega arith)
+
+-- ---- what a good unit's record is
+
+-- the unit by the row's numbers is the record's, and the record is one that fits a row
+pub record Fits (o : List ℕ) (r : UnitRecord) (u : TextUnit) : Type 0 where
+  pub unit : unitTagged o (tagOf r) (numberOf r / 256) (numberOf r % 256) (r .start) ≡ u
+  pub stowable : Stowable r
+
+tagged : (o : List ℕ) (r : UnitRecord) (u : TextUnit) (t n : ℕ) → tagOf r ≡ t → numberOf r ≡ n → unitTagged o t (n / 256) (n % 256) (r .start) ≡ u
+    → unitTagged o (tagOf r) (numberOf r / 256) (numberOf r % 256) (r .start) ≡ u
+tagged o r u t n et en e = ap₂ (λ (x y : ℕ). unitTagged o x (y / 256) (y % 256) (r .start)) et en ∙ e
+
+-- a kind that is no segment's
+no-segment : (r : UnitRecord) (k : ℕ) → r .kind ≡ k → k < kind.segment → Stowable r
+no-segment r k e h = record { one-of-eight = omega arith; low = λ q. absurd (omega arith); high = λ q. absurd (omega arith); few = λ q. absurd (omega arith) }
+
+module _ (o : List ℕ) (r : UnitRecord) (u : TextUnit) (g : good u ≡ true) where
+  fits-character : r .kind ≡ kind.character → char (r .set) (r .code) ≡ u → Fits o r u
+  unfolding tagOf numberOf pick good unitTagged
+  fits-character q s =
+      record {
+        unit = tagged o r u (r .set) (r .code) (rw q) (rw q) (unit (ltb (r .set) 12) refl);
+        stowable = no-segment r 0 q (omega arith);
+      }
+    where
+      g′ : (ltb (r .set) 15 && codeUsed (formOf (r .set)) (r .code)) ≡ true
+      g′ = subst (λ (x : TextUnit). good x ≡ true) (sym s) g
+
+      below : r .set < 15
+      below = ltb-true (r .set) 15 (and-left (ltb (r .set) 15) (codeUsed (formOf (r .set)) (r .code)) g′)
+
+      used : codeUsed (formOf (r .set)) (r .code) ≡ true
+      used = and-right (ltb (r .set) 15) (codeUsed (formOf (r .set)) (r .code)) g′
+
+      unit : (b : Bool) → ltb (r .set) 12 ≡ b → unitTagged o (r .set) (r .code / 256) (r .code % 256) (r .start) ≡ u
+      unit true p =
+          let l = one-code (formOf (r .set)) (r .code) (narrow-form (r .set) (ltb-true (r .set) 12 p)) used in
+          rw p (ap (char (r .set)) (let z : r .code % 256 % 128 ≡ r .code = omega arith in z) ∙ s)
+      unit false p =
+          let l = two-code (formOf (r .set)) (r .code) (wide-form (r .set) (ltb-false (r .set) 12 p) below) used in
+          rw (p, lt-ltb (r .set) 15 below) (ap (char (r .set)) (let z : r .code / 256 % 128 * 256 + r .code % 256 % 128 ≡ r .code = omega (arith, l .0, l .1) in z) ∙ s)
+
+  -- kinds 1 to 6
+  fits-plain : (k : ℕ) (v : TextUnit) → r .kind ≡ k → k < kind.segment → tagOf r ≡ 14 + k → unitTagged o (14 + k) (numberOf r / 256) (numberOf r % 256) (r .start) ≡ v → v ≡ u → Fits o r u
+  fits-plain k v q h t w s = record { unit = tagged o r u (14 + k) (numberOf r) t refl (w ∙ s); stowable = no-segment r k q h }
+
+  fits-segment : r .kind ≡ kind.segment → r .start + r .length ≤ length o → ext (r .code) (take (r .length) (drop (r .start) o)) ≡ u → Fits o r u
+  unfolding tagOf numberOf pick good
+  fits-segment q p s =
+      record {
+        unit = tagged o r u (r .code - 27) (r .length) (rw q) (rw q) unit;
+        stowable = record { one-of-eight = omega arith; low = λ _. lo; high = λ _. hi; few = λ _. few };
+      }
+    where
+      xs : List ℕ
+      xs = take (r .length) (drop (r .start) o)
+
+      g′ : (leb 0x30 (r .code) && leb (r .code) 0x34 && leb (length xs) 16383 && segment (r .code) 0 xs) ≡ true
+      g′ = subst (λ (x : TextUnit). good x ≡ true) (sym s) g
+
+      b₃ : (leb 0x30 (r .code) && leb (r .code) 0x34 && leb (length xs) 16383) ≡ true
+      b₃ = and-left (leb 0x30 (r .code) && leb (r .code) 0x34 && leb (length xs) 16383) (segment (r .code) 0 xs) g′
+
+      b₂ : (leb 0x30 (r .code) && leb (r .code) 0x34) ≡ true
+      b₂ = and-left (leb 0x30 (r .code) && leb (r .code) 0x34) (leb (length xs) 16383) b₃
+
+      lo : 0x30 ≤ r .code
+      lo = leb-true 0x30 (r .code) (and-left (leb 0x30 (r .code)) (leb (r .code) 0x34) b₂)
+
+      hi : r .code ≤ 0x34
+      hi = leb-true (r .code) 0x34 (and-right (leb 0x30 (r .code)) (leb (r .code) 0x34) b₂)
+
+      count : length xs ≡ r .length
+      count = simp (lib.ListN.length-take, lib.ListN.length-drop) (omega arith)
+
+      few : r .length ≤ 16383
+      few = omega (arith, leb-true (length xs) 16383 (and-right (leb 0x30 (r .code) && leb (r .code) 0x34) (leb (length xs) 16383) b₃), count)
+
+      unit : unitTagged o (r .code - 27) (r .length / 256) (r .length % 256) (r .start) ≡ u
+      unit =
+          unit-segment o (r .code - 27) (r .length / 256) (r .length % 256) (r .start) (omega (arith, lo)) (omega (arith, hi))
+          ∙ ap₂ (λ (m n : ℕ). ext m (take n (drop (r .start) o)))
+          (let z : 27 + (r .code - 27) ≡ r .code = omega (arith, lo) in z) (let z : countOf (r .length / 256) (r .length % 256) ≡ r .length = omega (arith, few) in z)
+          ∙ s
+
+  past-six : (r .kind ≡ 0 → ⊥) → (r .kind ≡ 1 → ⊥) → (r .kind ≡ 2 → ⊥) → 3 ≤ r .kind
+  past-six a b c = omega arith
+
+  seven : 3 ≤ r .kind → (r .kind ≡ 3 → ⊥) → (r .kind ≡ 4 → ⊥) → (r .kind ≡ 5 → ⊥) → (r .kind ≡ 6 → ⊥) → 7 ≤ r .kind
+  seven h a b c d = omega arith
+
+  pub fits : unitRead o r ≡ some u → Fits o r u
+  unfolding unitRead readable unitOf tagOf numberOf pick unitTagged
+  fits e = start (readable o r) refl e
+    where
+      xs : List ℕ
+      xs = take (r .length) (drop (r .start) o)
+
+      last : (b : Bool) → eqb (r .kind) 7 ≡ b → 7 ≤ r .kind → cond b (leb (r .start + r .length) (length o)) (ltb (r .kind) 7) ≡ true → ext (r .code) xs ≡ u → Fits o r u
+      last true q n h s = fits-segment (eqb-true (r .kind) 7 q) (leb-true (r .start + r .length) (length o) h) s
+      last false q n h s = absurd (let l = ltb-true (r .kind) 7 h in omega arith)
+
+      go : (b0 b1 b2 b3 b4 b5 b6 : Bool) → eqb (r .kind) 0 ≡ b0 → eqb (r .kind) 1 ≡ b1 → eqb (r .kind) 2 ≡ b2 → eqb (r .kind) 3 ≡ b3 → eqb (r .kind) 4 ≡ b4
+          → eqb (r .kind) 5 ≡ b5 → eqb (r .kind) 6 ≡ b6 → readable o r ≡ true
+          → cond b0 (char (r .set) (r .code)) (cond b1 space (cond b2 tab (cond b3 newline (cond b4 ltr (cond b5 rtl (cond b6 revert (ext (r .code) xs))))))) ≡ u
+          → Fits o r u
+      go true b1 b2 b3 b4 b5 b6 q0 q1 q2 q3 q4 q5 q6 h s = fits-character (eqb-true (r .kind) 0 q0) s
+      go false true b2 b3 b4 b5 b6 q0 q1 q2 q3 q4 q5 q6 h s = let q = eqb-true (r .kind) 1 q1 in fits-plain 1 space q (omega arith) (rw q) refl s
+      go false false true b3 b4 b5 b6 q0 q1 q2 q3 q4 q5 q6 h s = let q = eqb-true (r .kind) 2 q2 in fits-plain 2 tab q (omega arith) (rw q) refl s
+      go false false false true b4 b5 b6 q0 q1 q2 q3 q4 q5 q6 h s = let q = eqb-true (r .kind) 3 q3 in fits-plain 3 newline q (omega arith) (rw q) refl s
+      go false false false false true b5 b6 q0 q1 q2 q3 q4 q5 q6 h s = let q = eqb-true (r .kind) 4 q4 in fits-plain 4 ltr q (omega arith) (rw q) refl s
+      go false false false false false true b6 q0 q1 q2 q3 q4 q5 q6 h s = let q = eqb-true (r .kind) 5 q5 in fits-plain 5 rtl q (omega arith) (rw q) refl s
+      go false false false false false false true q0 q1 q2 q3 q4 q5 q6 h s = let q = eqb-true (r .kind) 6 q6 in fits-plain 6 revert q (omega arith) (rw q) refl s
+      go false false false false false false false q0 q1 q2 q3 q4 q5 q6 h s =
+          last (eqb (r .kind) 7) refl
+          (seven (past-six (eqb-false (r .kind) 0 q0) (eqb-false (r .kind) 1 q1) (eqb-false (r .kind) 2 q2)) (eqb-false (r .kind) 3 q3) (eqb-false (r .kind) 4 q4) (eqb-false (r .kind) 5 q5) (eqb-false (r .kind) 6 q6))
+          h s
+
+      start : (b : Bool) → readable o r ≡ b → cond b (some (unitOf (r .kind) (r .set) (r .code) xs)) none ≡ some u → Fits o r u
+      start false q s = absurd (Option·none-ne-some u s)
+      start true q s =
+          go (eqb (r .kind) 0) (eqb (r .kind) 1) (eqb (r .kind) 2) (eqb (r .kind) 3) (eqb (r .kind) 4) (eqb (r .kind) 5) (eqb (r .kind) 6) refl refl refl refl refl refl refl q
+          (Option·some-injective (unitOf (r .kind) (r .set) (r .code) xs) u s)

@@ -1,0 +1,54 @@
+-- `check_list::own::character` meets its contract.
+use mathlib.Core.Path.{_≡_, sym, ap, _∙_}
+use Rattle.check_list.proofs.Refusals.{set-none, code-unused, code-fits}
+use Prim.Native.Nat.{ℕ}
+use mathlib.Core.Bool.{Bool, true, false}
+use Rattle.base.specs.Kind as kind
+use Rattle.charset.specs.Charsets.{formOf}
+use Rattle.state.specs.Directions.{stepOf}
+use Rattle.grammar.specs.Units.{codeUsed}
+use borrow.Author.Needs.{needs}
+use Rattle.check_list.proofs.own.character.Statement.{statement}
+use Rattle.check_list.proofs.own.character.Tie as tie
+
+form-of-requires : tie.Need-form-of-requires
+form-of-requires c κs = search needs
+
+code-used-requires : tie.Need-code-used-requires
+code-used-requires c κs = search needs
+
+counts-as-text-requires : tie.Need-counts-as-text-requires
+counts-as-text-requires c κs = search needs
+
+step-requires : tie.Need-step-requires
+step-requires c κs = search needs
+
+returns : tie.Need-returns
+returns c =
+    let args = c .before .before .before .before .before .before .args in
+    let form = ap (λ (f : ℕ). codeUsed f (args .code)) (sym (c .before .before .before .before .form-of .ensures)) in
+    let used : codeUsed (formOf (args .set)) (args .code) ≡ true = form ∙ sym (c .before .before .before .code-used .ensures) ∙ c .before .before .if2 .taken in
+    let text = ap (λ (t : Bool). stepOf t kind.character (args .directions)) (c .before .counts-as-text .ensures) in
+    c .step .ensures ∙ text ∙ code-fits (args .set) (args .code) (args .directions) (c .before .before .before .before .before .if1 .taken) used
+
+returns-2 : tie.Need-returns-2
+returns-2 c =
+    let args = c .before .before .before .before .args in
+    let form = ap (λ (f : ℕ). codeUsed f (args .code)) (sym (c .before .before .form-of .ensures)) in
+    let used : codeUsed (formOf (args .set)) (args .code) ≡ false = form ∙ sym (c .before .code-used .ensures) ∙ c .if2 .left in
+    code-unused (args .set) (args .code) (args .directions) (c .before .before .before .if1 .taken) used
+
+returns-3 : tie.Need-returns-3
+returns-3 c = set-none _ _ _ (c .if1 .left)
+
+pub character-spec : {M : Type 1} → statement M
+character-spec =
+    tie.close
+    (tie.spec
+    form-of-requires
+    code-used-requires
+    counts-as-text-requires
+    step-requires
+    returns
+    returns-2
+    returns-3)

@@ -1,0 +1,118 @@
+// The check of a list of unit records, one record at a time: the first that offends is refused, by 11, 7, 8 and 9 in this order, and
+// each before it goes into its row of the work room.
+ghost use mathlib.Core.Path.{_≡_};
+ghost use Prim.Native.Nat.{_<_};
+ghost use lib.ListN.{length};
+ghost use Rattle.base.specs.Choice.{pick};
+ghost use Rattle.grammar.specs.Records.{unitRead};
+ghost use Rattle.shortest.specs.Records.{fault};
+ghost use Rattle.rows.specs.Rows.{withRecord};
+ghost use Rattle.check_list.specs.Plain.{settledOf, plainOf};
+ghost use Rattle.check_list.specs.Turn.{begun, turnOf, roomAfter, lookedAt, quickUntil};
+use base::Unit;
+use base::kind;
+use base::limit;
+use base::refusal;
+use state::directions::Directions;
+use state::directions::Step;
+use state::directions::counts_as_text;
+
+mod own;
+mod plain;
+mod row;
+
+// How far a list is checked: what the directions are after the last record, or the number and the index of the first that offends.
+pub enum Progress {
+    Fine(Directions),
+    Faulty(u8, usize),
+}
+
+// What a record does to the directions, or the number of its refusal; its segment stands in the octets lent.
+pub fn judge(unit: Unit, segments: &[u8], directions: Directions) -> Step
+    ensures { λ r. ⌜ r ≡ fault (unitRead (now (segments .entry)) unit) directions ⌝ }
+{
+    let kind = unit.kind;
+    if kind == kind::CHARACTER {
+        return own::character(unit.set, unit.code, directions);
+    }
+    if kind < kind::SEGMENT {
+        let text = counts_as_text(kind, 0);
+        return directions.step(text, kind);
+    }
+    if kind == kind::SEGMENT {
+        let start = unit.start as usize;
+        let length = unit.length as usize;
+        return own::segment(unit.code, start, length, segments, directions);
+    }
+    Step::Stops(refusal::BAD_UNIT)
+}
+
+// Before the first record.
+pub fn begin() -> Progress
+    ensures { λ r. ⌜ r ≡ begun ⌝ }
+{
+    Progress::Fine(Directions::NONE)
+}
+
+// How many records of a list of n are looked at.
+pub fn looked_at(n: usize) -> usize
+    ensures { λ r. ⌜ r ≡ lookedAt n ⌝ }
+{
+    if n <= limit::UNITS { n } else { 0 }
+}
+
+// Whether text leaves the directions as they are: there was no mark, and there was text.
+fn settled(directions: Directions) -> bool
+    ensures { λ r. ⌜ r ≡ settledOf directions ⌝ }
+{
+    if directions.marked {
+        return false;
+    }
+    directions.texted
+}
+
+// The end of the records from a place on that the quick check may look at: n where the directions are settled, else the place itself.
+pub fn quick_until(progress: Progress, from: usize, n: usize) -> usize
+    ensures { λ r. ⌜ r ≡ quickUntil progress from n ⌝ }
+{
+    match progress {
+        Progress::Fine(directions) => {
+            if settled(directions) {
+                return n;
+            }
+            from
+        }
+        Progress::Faulty(_, _) => from,
+    }
+}
+
+// Record i, where the directions are settled: put into its row if the quick check lets it through, which is the answer.
+pub fn quick_turn(unit: Unit, i: usize, work: &mut [u8]) -> bool
+    ensures { λ r. ⌜ (r ≡ plainOf unit) × (now (work .exit) ≡ pick (plainOf unit) (withRecord (now (work .entry)) i unit) (now (work .entry))) ⌝ }
+{
+    if plain::plain(unit) {
+        row::put(unit, i, work);
+        return true;
+    }
+    false
+}
+
+// Record i: checked, and put into its row where it is not refused and the work room has that row.
+pub fn turn(progress: Progress, unit: Unit, i: usize, segments: &[u8], work: &mut [u8]) -> Progress
+    ensures { λ r. ⌜ (r ≡ turnOf (now (segments .entry)) unit i progress)
+        × (now (work .exit) ≡ roomAfter (turnOf (now (segments .entry)) unit i progress) unit i (now (work .entry))) ⌝ }
+{
+    match progress {
+        Progress::Fine(directions) => {
+            let step = judge(unit, segments, directions);
+            match step {
+                Step::Goes(next) => {
+                    row::put(unit, i, work);
+                    Progress::Fine(next)
+                }
+                Step::Stops(number) => Progress::Faulty(number, i),
+            }
+        }
+        Progress::Faulty(number, place) => Progress::Faulty(number, place),
+    }
+}

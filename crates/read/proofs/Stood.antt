@@ -1,0 +1,354 @@
+-- The units of a span are those that `advance` gives, one after another from the cursor on (`span-turns`). For what the octets are taken for is
+-- what `advance` takes them for, and a tab or a newline is the element that stands there. A span has one unit or more (`span-first`) and
+-- no more than are asked for (`span-most`), and they are in the string (`span-fits`).
+use Prim.Native.Nat.{ℕ, zero, suc, _+_, _-_, _*_, _/_, _%_, _^_, _≤_, _<_}
+use native.Mathlib.Omega.{arith}
+use native.Mathlib.Nat.{mod-eq-of-lt}
+use mathlib.Core.Path.{_≡_, refl, ap, sym, _∙_}
+use mathlib.Core.Bool.{Bool, true, false, false≢true}
+use mathlib.Core.List.{List, [], _∷_}
+use lib.Dec.{eqb, leb, ltb}
+use lib.ListN.{length, getD}
+use borrow.Author.Tests.{eqb-true, eqb-false, ltb-true, ltb-false, leb-true, leb-false, le-ltb, le-leb}
+use Rattle.base.specs.Choice.{pick, from}
+use Rattle.base.specs.Kind as kind
+use Rattle.base.specs.Limit as limit
+use Rattle.base.proofs.Ladder.{on-true, on-false, on-eq, on-ne, on-lt, on-ge, on-le, on-gt, from-octet}
+use Rattle.base.specs.declared.Unit.{Unit as UnitRecord}
+use Rattle.charset.specs.Charsets.{no-set}
+use Rattle.state.specs.Directions.{stepOf}
+use Rattle.state.specs.Elements.{part}
+use Rattle.state.specs.State.{state}
+use Rattle.state.specs.declared.Sets.{Sets}
+use Rattle.state.specs.declared.elements.Element.{Element}
+use Rattle.state.specs.declared.elements.Element.the-variants.{Found}
+use Rattle.element.specs.Element.{shapeOf, steppedOf, directedOf, elementOf}
+use Rattle.grammar.proofs.Places.{at-found}
+use Rattle.units.specs.Next.{outcomeOf, nextOf}
+use Rattle.cursor.specs.Cursor.{cursor, setsIn, turn, free, turnOf, elementTurn, first-double, textOctet, setAt, unlessSpace, kindAt, doubleOf, quickOf, textTurn, advanceAt, advanceOf}
+use Rattle.read.specs.Spans.{any, ones, left-twos, right-twos, singleOf, leftFirst, twoOctets, formAt, lesserOf, anyOf, ofForm, byForm, spanOf, Fits, movedOf, stands, kindOf, ifGraphic, oneOf, twoAt, nthOf}
+use Rattle.cursor.specs.declared.Cursor.{Cursor}
+use Rattle.cursor.specs.declared.Turn.{Turn}
+use Rattle.read.specs.declared.spans.Span.{Span}
+use Rattle.cursor.proofs.Rules.{on-quick, on-double, on-advance}
+
+-- ---- what an octet by itself is taken for
+
+data Single (b : ℕ) (sets : Sets) : Type 0 where
+  tab : b ≡ 0x09 → Single b sets
+  newline : b ≡ 0x0A → Single b sets
+  text : 0x20 ≤ b → textOctet b ≡ true → setAt b sets < first-double → Single b sets
+
+nine-or-ten : (b : ℕ) (sets : Sets) → 0x09 ≤ b → b ≤ 0x0A → Single b sets
+nine-or-ten b sets h k = go (eqb b 0x09) refl
+  where
+    go : (x : Bool) → eqb b 0x09 ≡ x → Single b sets
+    go true e = tab (eqb-true b 0x09 e)
+    go false e = newline (let n = eqb-false b 0x09 e in omega (arith, n, h, k))
+
+left-text : (b : ℕ) → 0x20 ≤ b → b < 0x7F → textOctet b ≡ true
+unfolding textOctet
+left-text b h k = sym (on-ge b 0x20 _ _ _ h (on-lt b 0x7F _ _ _ k refl))
+
+left-set : (b : ℕ) (sets : Sets) → b < 0x7F → sets .gl ≡ setAt b sets
+unfolding setAt
+left-set b sets k = on-lt b 0x80 _ _ _ (omega (arith, k)) refl
+
+right-text : (b : ℕ) → 0xA0 ≤ b → textOctet b ≡ true
+unfolding textOctet
+right-text b h = sym (on-ge b 0x20 _ _ _ (omega (arith, h)) (on-ge b 0x7F _ _ _ (omega (arith, h)) (sym (le-leb 0xA0 b h))))
+
+right-set : (b : ℕ) (sets : Sets) → 0xA0 ≤ b → sets .gr ≡ setAt b sets
+unfolding setAt
+right-set b sets h = on-ge b 0x80 _ _ _ (omega (arith, h)) refl
+
+singled : (b : ℕ) (sets : Sets) → singleOf b sets ≡ true → Single b sets
+unfolding singleOf pick
+singled b sets e = go (ltb b 0x20) (ltb b 0x09) (ltb b 0x7F) (ltb b 0xA0) refl refl refl refl e
+  where
+    go : (p q x y : Bool) → ltb b 0x20 ≡ p → ltb b 0x09 ≡ q → ltb b 0x7F ≡ x → ltb b 0xA0 ≡ y
+        → pick p (pick q false (leb b 0x0A)) (pick x (ltb (sets .gl) first-double) (pick y false (ltb (sets .gr) first-double))) ≡ true → Single b sets
+    go true true x y h k l m e = absurd (false≢true e)
+    go true false x y h k l m e = nine-or-ten b sets (ltb-false b 0x09 k) (leb-true b 0x0A e)
+    go false q true y h k l m e =
+        text (ltb-false b 0x20 h) (left-text b (ltb-false b 0x20 h) (ltb-true b 0x7F l))
+        (rw (← (left-set b sets (ltb-true b 0x7F l))) (ltb-true (sets .gl) first-double e))
+    go false q false true h k l m e = absurd (false≢true e)
+    go false q false false h k l m e =
+        text (ltb-false b 0x20 h) (right-text b (ltb-false b 0xA0 m)) (rw (← (right-set b sets (ltb-false b 0xA0 m))) (ltb-true (sets .gr) first-double e))
+
+-- the first octet of two in GL
+left-range : (b : ℕ) → leftFirst b ≡ true → (0x20 < b) × (b < 0x7F)
+unfolding leftFirst pick
+left-range b e = go (leb b 0x20) refl e
+  where
+    go : (x : Bool) → leb b 0x20 ≡ x → pick x false (ltb b 0x7F) ≡ true → (0x20 < b) × (b < 0x7F)
+    go true h e = absurd (false≢true e)
+    go false h e = (leb-false b 0x20 h, ltb-true b 0x7F e)
+
+two-range : (set : ℕ) → twoOctets set ≡ true → (first-double ≤ set) × (set < no-set)
+unfolding twoOctets pick
+two-range set e = go (ltb set first-double) refl e
+  where
+    go : (x : Bool) → ltb set first-double ≡ x → pick x false (ltb set no-set) ≡ true → (first-double ≤ set) × (set < no-set)
+    go true h e = absurd (false≢true e)
+    go false h e = (ltb-false set first-double h, ltb-true set no-set e)
+
+-- from a space on the fields are those of `advance`
+kind-same : (b : ℕ) → 0x20 ≤ b → kindOf b ≡ kindAt b
+unfolding kindOf kindAt pick
+kind-same b h = go (eqb b 0x20) refl
+  where
+    go : (x : Bool) → eqb b 0x20 ≡ x → kindOf b ≡ pick x kind.space kind.character
+    go true e = rw (eqb-true b 0x20 e)
+    go false e = sym (on-lt 0x20 b _ _ _ (let n = eqb-false b 0x20 e in omega (arith, n, h)) refl)
+
+graphic-same : (b x : ℕ) → 0x20 ≤ b → ifGraphic b x ≡ unlessSpace b x
+unfolding ifGraphic unlessSpace pick
+graphic-same b x h = go (eqb b 0x20) refl
+  where
+    go : (y : Bool) → eqb b 0x20 ≡ y → ifGraphic b x ≡ pick y 0 x
+    go true e = rw (eqb-true b 0x20 e)
+    go false e = sym (on-gt b 0x20 _ _ _ (let n = eqb-false b 0x20 e in omega (arith, n, h)) refl)
+
+module _ (s : List ℕ) where
+  -- an octet that is not an escape: the unit is that of text, or the element's
+  plain-turn : (at : ℕ) (sets : Sets) (r : Turn) → at < length s → (getD s at 0 ≡ 0x1B → ⊥) → r ≡ textTurn s (cursor at sets) → r ≡ advanceOf s (cursor at sets)
+  unfolding advanceAt
+  plain-turn at sets r h n e = on-advance s at (cursor at sets) r h (on-ne (getD s at 0) 0x1B _ _ _ n e)
+
+  -- ---- a character or space of one octet
+  one-text : (at : ℕ) (sets : Sets) → at < length s → 0x20 ≤ getD s at 0 → textOctet (getD s at 0) ≡ true → setAt (getD s at 0) sets < first-double
+      → turn (oneOf at (getD s at 0) sets) (cursor (at + 1) sets) ≡ advanceOf s (cursor at sets)
+  unfolding textTurn quickOf
+  one-text at sets h k t l =
+      plain-turn at sets _ h (λ q. omega (arith, q, k))
+      (on-quick s at sets (elementTurn s (cursor at sets)) _ h
+      (on-true (textOctet (getD s at 0)) _ _ _ t
+      (on-lt (setAt (getD s at 0) sets) first-double _ _ _ l
+      (rw (kind-same (getD s at 0) k, graphic-same (getD s at 0) (setAt (getD s at 0) sets) k, graphic-same (getD s at 0) (getD s at 0 % 128) k)))))
+
+  -- ---- a character of two
+  two-text : (at set : ℕ) (sets : Sets) → at + 1 < length s → 0x20 < getD s at 0 → textOctet (getD s at 0) ≡ true
+      → set ≡ setAt (getD s at 0) sets → first-double ≤ set → set < no-set
+      → turn (twoAt s at set) (cursor (at + 2) sets) ≡ advanceOf s (cursor at sets)
+  unfolding textTurn quickOf doubleOf
+  two-text at set sets h k t e l m =
+      plain-turn at sets _ (omega (arith, h)) (λ q. omega (arith, q, k))
+      (on-quick s at sets (elementTurn s (cursor at sets)) _ (omega (arith, h))
+      (on-true (textOctet (getD s at 0)) _ _ _ t
+      (on-ge (setAt (getD s at 0) sets) first-double _ _ _ (rw e at l)
+      (on-double s at (getD s at 0) sets (elementTurn s (cursor at sets)) _ h
+      (on-ne (getD s at 0) 0x20 _ _ _ (λ q. omega (arith, q, k))
+      (on-lt (setAt (getD s at 0) sets) no-set _ _ _ (rw e at m) (rw e)))))))
+
+  -- ---- a tab or a newline, of kind k
+  module _ (short : length s ≤ limit.octets) where
+    abbrev lone : ℕ → ℕ → UnitRecord
+    lone at k = record { kind = k; set = 0; code = 0; start = at % 2 ^ 32; length = 1 }
+
+    lone-turn : (at k : ℕ) (sets : Sets) → at < length s → elementOf (from at s) (state sets free) ≡ Found (part k 0 0 0 1 false) (state sets free)
+        → turn (lone at k) (cursor (at + 1) sets) ≡ elementTurn s (cursor at sets)
+    unfolding elementTurn nextOf outcomeOf turnOf pick
+    lone-turn at k sets h e =
+        let m : at % 2 ^ 32 ≡ at + 0 = mod-eq-of-lt (omega (arith, h, short)) ∙ (let z : at ≡ at + 0 = omega arith in z) in
+        let n : at + 1 ≡ at + (0 + 1) = omega arith in
+        rw (le-ltb limit.octets (length s) short, at-found s at (state sets free) _ refl e, m, n)
+
+    lone-advance : (at k : ℕ) (sets : Sets) → at < length s → (getD s at 0 ≡ 0x1B → ⊥) → textOctet (getD s at 0) ≡ false
+        → elementOf (from at s) (state sets free) ≡ Found (part k 0 0 0 1 false) (state sets free)
+        → turn (lone at k) (cursor (at + 1) sets) ≡ advanceOf s (cursor at sets)
+    unfolding textTurn quickOf
+    lone-advance at k sets h n t e =
+        plain-turn at sets _ h n (on-quick s at sets (elementTurn s (cursor at sets)) _ h (on-false (textOctet (getD s at 0)) _ _ _ t (lone-turn at k sets h e)))
+
+    tab-advance : (at : ℕ) (sets : Sets) → at < length s → getD s at 0 ≡ 0x09
+        → turn (oneOf at (getD s at 0) sets) (cursor (at + 1) sets) ≡ advanceOf s (cursor at sets)
+    unfolding shapeOf directedOf steppedOf stepOf textOctet kindOf ifGraphic pick
+    tab-advance at sets h e =
+        let t : textOctet (getD s at 0) ≡ false = rw e in
+        let f : elementOf (from at s) (state sets free) ≡ Found (part kind.tab 0 0 0 1 false) (state sets free) = rw (from-octet s at h, e) in
+        let g : turn (oneOf at (getD s at 0) sets) (cursor (at + 1) sets) ≡ turn (lone at kind.tab) (cursor (at + 1) sets) = rw e in
+        g ∙ lone-advance at kind.tab sets h (λ q. omega (arith, q, e)) t f
+
+    newline-advance : (at : ℕ) (sets : Sets) → at < length s → getD s at 0 ≡ 0x0A
+        → turn (oneOf at (getD s at 0) sets) (cursor (at + 1) sets) ≡ advanceOf s (cursor at sets)
+    unfolding shapeOf directedOf steppedOf stepOf textOctet kindOf ifGraphic pick
+    newline-advance at sets h e =
+        let t : textOctet (getD s at 0) ≡ false = rw e in
+        let f : elementOf (from at s) (state sets free) ≡ Found (part kind.newline 0 0 0 1 false) (state sets free) = rw (from-octet s at h, e) in
+        let g : turn (oneOf at (getD s at 0) sets) (cursor (at + 1) sets) ≡ turn (lone at kind.newline) (cursor (at + 1) sets) = rw e in
+        g ∙ lone-advance at kind.newline sets h (λ q. omega (arith, q, e)) t f
+
+    one-advance : (at : ℕ) (sets : Sets) → at < length s → singleOf (getD s at 0) sets ≡ true
+        → turn (oneOf at (getD s at 0) sets) (cursor (at + 1) sets) ≡ advanceOf s (cursor at sets)
+    one-advance at sets h e = by (singled (getD s at 0) sets e)
+      where
+        by : Single (getD s at 0) sets → turn (oneOf at (getD s at 0) sets) (cursor (at + 1) sets) ≡ advanceOf s (cursor at sets)
+        by (tab i) = tab-advance at sets h i
+        by (newline i) = newline-advance at sets h i
+        by (text k t l) = one-text at sets h k t l
+
+-- ---- the spans
+
+-- the form that an octet begins
+data FormIs (b : ℕ) (sets : Sets) : ℕ → Type 0 where
+  is-any : FormIs b sets any
+  is-ones : singleOf b sets ≡ true → FormIs b sets ones
+  is-left : leftFirst b ≡ true → twoOctets (sets .gl) ≡ true → FormIs b sets left-twos
+  is-right : 0xA0 ≤ b → twoOctets (sets .gr) ≡ true → FormIs b sets right-twos
+
+form-pick : {b : ℕ} {sets : Sets} (t : Bool) (x y : ℕ) → (t ≡ true → FormIs b sets x) → (t ≡ false → FormIs b sets y) → FormIs b sets (pick t x y)
+unfolding pick
+form-pick true x y h k = h refl
+form-pick false x y h k = k refl
+
+formed : (b : ℕ) (sets : Sets) → FormIs b sets (formAt b sets)
+unfolding formAt
+formed b sets =
+    form-pick (singleOf b sets) _ _ is-ones
+    (λ _. form-pick (leftFirst b) _ _ (λ l. form-pick (twoOctets (sets .gl)) _ _ (λ t. is-left l t) (λ _. is-any))
+    (λ _. form-pick (ltb b 0xA0) _ _ (λ _. is-any)
+    (λ h. form-pick (twoOctets (sets .gr)) _ _ (λ t. is-right (ltb-false b 0xA0 h) t) (λ _. is-any))))
+
+least : (m n : ℕ) → (lesserOf m n ≤ m) × ((lesserOf m n ≤ n) × (1 ≤ m → 1 ≤ n → 1 ≤ lesserOf m n))
+unfolding lesserOf pick
+least m n = go (ltb m n) refl
+  where
+    go : (x : Bool) → ltb m n ≡ x → (pick x m n ≤ m) × ((pick x m n ≤ n) × (1 ≤ m → 1 ≤ n → 1 ≤ pick x m n))
+    go true e = let h = ltb-true m n e in (omega arith, (omega (arith, h), λ i j. i))
+    go false e = let h = ltb-false m n e in (omega (arith, h), (omega arith, λ i j. j))
+
+module _ (s : List ℕ) (c : Cursor) (n : ℕ) where
+  abbrev b : ℕ
+  b = getD s (c .place) 0
+
+  abbrev octets : ℕ
+  octets = length s - c .place
+
+  -- the span at a cursor, by the octet there
+  data Spans : Span → Type 0 where
+    as-any : Spans (anyOf s c)
+    as-ones : c .place < length s → singleOf b (setsIn c) ≡ true → Spans (ofForm c ones (lesserOf octets n))
+    as-left : 2 ≤ octets → leftFirst b ≡ true → twoOctets (c .gl) ≡ true → Spans (ofForm c left-twos (lesserOf (octets / 2) n))
+    as-right : 2 ≤ octets → 0xA0 ≤ b → twoOctets (c .gr) ≡ true → Spans (ofForm c right-twos (lesserOf (octets / 2) n))
+
+  spans-pick : (t : Bool) (x y : Span) → (t ≡ true → Spans x) → (t ≡ false → Spans y) → Spans (pick t x y)
+  unfolding pick
+  spans-pick true x y h k = h refl
+  spans-pick false x y h k = k refl
+
+  by-form : {form : ℕ} → c .place < length s → FormIs b (setsIn c) form → Spans (byForm s c n form octets)
+  unfolding byForm
+  by-form h is-any = spans-pick (eqb any any) _ _ (λ _. as-any) (λ e. absurd (eqb-false any any e refl))
+  by-form h (is-ones e) =
+      spans-pick (eqb ones any) _ _ (λ _. as-any)
+      (λ _. spans-pick (eqb ones ones) _ _ (λ _. as-ones h e) (λ i. absurd (eqb-false ones ones i refl)))
+  by-form h (is-left l t) =
+      spans-pick (eqb left-twos any) _ _ (λ _. as-any)
+      (λ _. spans-pick (eqb left-twos ones) _ _ (λ i. absurd (let z : _≡_ {A = ℕ} left-twos ones = eqb-true left-twos ones i in omega (arith, z)))
+      (λ _. spans-pick (ltb octets 2) _ _ (λ _. as-any) (λ k. as-left (ltb-false octets 2 k) l t)))
+  by-form h (is-right l t) =
+      spans-pick (eqb right-twos any) _ _ (λ _. as-any)
+      (λ _. spans-pick (eqb right-twos ones) _ _ (λ i. absurd (let z : _≡_ {A = ℕ} right-twos ones = eqb-true right-twos ones i in omega (arith, z)))
+      (λ _. spans-pick (ltb octets 2) _ _ (λ _. as-any) (λ k. as-right (ltb-false octets 2 k) l t)))
+
+  spanned : Spans (spanOf s c n)
+  unfolding spanOf
+  spanned =
+      spans-pick (leb (length s) (c .place)) _ _ (λ _. as-any) (λ h. by-form (leb-false (length s) (c .place) h) (formed b (setsIn c)))
+
+  -- ---- its units are in the string, and there is one
+  fits-by : {r : Span} → Spans r → Fits s r
+  fits-by as-any = record { of-ones = λ e. absurd (let z : _≡_ {A = ℕ} any ones = e in omega (arith, z)); of-twos = λ h. absurd (let z : ones < any = h in omega (arith, z)) }
+  fits-by (as-ones h e) =
+      record { of-ones = λ _. omega (arith, h, least octets n .0); of-twos = λ k. absurd (let z : ones < ones = k in omega (arith, z)) }
+  fits-by (as-left h l t) =
+      record { of-ones = λ e. absurd (let z : _≡_ {A = ℕ} left-twos ones = e in omega (arith, z)); of-twos = λ _. omega (arith, h, least (octets / 2) n .0) }
+  fits-by (as-right h l t) =
+      record { of-ones = λ e. absurd (let z : _≡_ {A = ℕ} right-twos ones = e in omega (arith, z)); of-twos = λ _. omega (arith, h, least (octets / 2) n .0) }
+
+  most-by : {r : Span} → 1 ≤ n → Spans r → (r .most ≤ n) × (1 ≤ r .most)
+  most-by i as-any = (i, omega arith)
+  most-by i (as-ones h e) = (least octets n .1 .0, least octets n .1 .1 (omega (arith, h)) i)
+  most-by i (as-left h l t) = (least (octets / 2) n .1 .0, least (octets / 2) n .1 .1 (omega (arith, h)) i)
+  most-by i (as-right h l t) = (least (octets / 2) n .1 .0, least (octets / 2) n .1 .1 (omega (arith, h)) i)
+
+  at-none : c .place ≡ c .place + 0
+  at-none = omega arith
+
+  at-nothing : c .place ≡ c .place + 2 * 0
+  at-nothing = omega arith
+
+  first-by : {r : Span} → Spans r → stands s r 0 ≡ true
+  unfolding stands pick
+  first-by as-any = refl
+  first-by (as-ones h e) = rw (← at-none) e
+  first-by (as-left h l t) = rw (← at-nothing) l
+  first-by (as-right h l t) = rw (← at-nothing) (le-leb 0xA0 b l)
+
+  pub span-fits : Fits s (spanOf s c n)
+  span-fits = fits-by spanned
+
+  pub span-most : 1 ≤ n → spanOf s c n .most ≤ n
+  span-most i = most-by i spanned .0
+
+  pub span-some : 1 ≤ n → 1 ≤ spanOf s c n .most
+  span-some i = most-by i spanned .1
+
+  pub span-first : stands s (spanOf s c n) 0 ≡ true
+  span-first = first-by spanned
+
+  -- ---- the cursor at which the unit after j units stands, and that unit
+  abbrev pub stood : Span → ℕ → Cursor
+  stood r zero = c
+  stood r (suc j) = movedOf r (suc j)
+
+  module _ (short : length s ≤ limit.octets) where
+    ones-at : (m j : ℕ) → stood (ofForm c ones m) j ≡ cursor (c .place + j) (setsIn c)
+    unfolding movedOf pick
+    ones-at m zero = ap (λ (p : ℕ). cursor p (setsIn c)) at-none
+    ones-at m (suc j) = refl
+
+    left-at : (m j : ℕ) → stood (ofForm c left-twos m) j ≡ cursor (c .place + 2 * j) (setsIn c)
+    unfolding movedOf pick
+    left-at m zero = ap (λ (p : ℕ). cursor p (setsIn c)) at-nothing
+    left-at m (suc j) = refl
+
+    right-at : (m j : ℕ) → stood (ofForm c right-twos m) j ≡ cursor (c .place + 2 * j) (setsIn c)
+    unfolding movedOf pick
+    right-at m zero = ap (λ (p : ℕ). cursor p (setsIn c)) at-nothing
+    right-at m (suc j) = refl
+
+    one-on : (j : ℕ) → c .place + j + 1 ≡ c .place + suc j
+    one-on j = omega arith
+
+    two-on : (j : ℕ) → c .place + 2 * j + 2 ≡ c .place + 2 * suc j
+    two-on j = omega arith
+
+    any-by : (j : ℕ) → j < 1 → turn (nthOf s (anyOf s c) j) (stood (anyOf s c) (suc j)) ≡ advanceOf s (stood (anyOf s c) j)
+    unfolding nthOf movedOf pick
+    any-by zero h = refl
+    any-by (suc j) h = absurd (omega (arith, h))
+
+    turns-by : {r : Span} → Spans r → (j : ℕ) → j < r .most → stands s r j ≡ true → turn (nthOf s r j) (stood r (suc j)) ≡ advanceOf s (stood r j)
+    unfolding stands nthOf pick
+    turns-by as-any j h e = any-by j h
+    turns-by (as-ones k i) j h e =
+        rw (ones-at (lesserOf octets n) j, ones-at (lesserOf octets n) (suc j), ← (one-on j)) (one-advance s short (c .place + j) (setsIn c) (omega (arith, h, k, least octets n .0)) e)
+    turns-by (as-left k l t) j h e =
+        let i = left-range (getD s (c .place + 2 * j) 0) e in
+        let u = two-range (c .gl) t in
+        rw (left-at (lesserOf (octets / 2) n) j, left-at (lesserOf (octets / 2) n) (suc j), ← (two-on j))
+        (two-text s (c .place + 2 * j) (c .gl) (setsIn c) (omega (arith, h, k, least (octets / 2) n .0)) (i .0) (left-text (getD s (c .place + 2 * j) 0) (omega (arith, i .0)) (i .1))
+        (left-set (getD s (c .place + 2 * j) 0) (setsIn c) (i .1)) (u .0) (u .1))
+    turns-by (as-right k l t) j h e =
+        let i = leb-true 0xA0 (getD s (c .place + 2 * j) 0) e in
+        let u = two-range (c .gr) t in
+        rw (right-at (lesserOf (octets / 2) n) j, right-at (lesserOf (octets / 2) n) (suc j), ← (two-on j))
+        (two-text s (c .place + 2 * j) (c .gr) (setsIn c) (omega (arith, h, k, least (octets / 2) n .0)) (omega (arith, i)) (right-text (getD s (c .place + 2 * j) 0) i)
+        (right-set (getD s (c .place + 2 * j) 0) (setsIn c) i) (u .0) (u .1))
+
+    pub span-turns : (j : ℕ) → j < spanOf s c n .most → stands s (spanOf s c n) j ≡ true
+        → turn (nthOf s (spanOf s c n) j) (stood (spanOf s c n) (suc j)) ≡ advanceOf s (stood (spanOf s c n) j)
+    span-turns j h e = turns-by spanned j h e

@@ -1,0 +1,15 @@
+-- The octets of the unit after j units of a span that fits are in the string.
+use Prim.Native.Nat.{ℕ, _+_, _*_, _<_}
+use native.Mathlib.Omega.{arith}
+use mathlib.Core.Path.{_≡_}
+use mathlib.Core.List.{List}
+use lib.ListN.{length}
+use Rattle.read.specs.Spans.{ones, Fits}
+use Rattle.read.specs.declared.spans.Span.{Span}
+
+module _ {s : List ℕ} {r : Span} {j : ℕ} where
+  pub one-within : Fits s r × (j < r .most) → r .form ≡ ones → r .place + j < length s
+  one-within (h, k) e = omega (arith, h .of-ones e)
+
+  pub two-within : Fits s r × (j < r .most) → ones < r .form → r .place + 2 * j + 1 < length s
+  two-within (h, k) e = omega (arith, h .of-twos e)

@@ -1,0 +1,20 @@
+-- `spans::any_unit` meets its contract. Assumes nothing.
+use borrow.Author.Needs.{needs}
+use Rattle.base.proofs.Ladder.{ladder}
+use native.Mathlib.Omega.{arith}
+use Rattle.read.specs.Spans.{anyOf}
+use Rattle.read.proofs.spans.any_unit.Statement.{statement}
+use Rattle.read.proofs.spans.any_unit.Tie as tie
+
+advance-requires : tie.Need-advance-requires
+advance-requires c κs = search needs
+
+returns : tie.Need-returns
+returns c = rw (c .before .before .advance .ensures)
+
+pub any-unit-spec : {M : Type 1} → statement M
+any-unit-spec =
+    tie.close
+    (tie.spec
+    advance-requires
+    returns)

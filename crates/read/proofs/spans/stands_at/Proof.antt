@@ -1,0 +1,81 @@
+-- `spans::stands_at` meets its contract: the unit is in the string (`Within`), and the tests are those of its definition. Assumes nothing.
+use borrow.Author.Needs.{needs}
+use Rattle.base.proofs.Ladder.{ladder}
+use native.Mathlib.Omega.{arith}
+use Rattle.read.proofs.Within.{one-within, two-within}
+use Rattle.read.specs.Spans.{stands}
+use Rattle.read.proofs.spans.stands_at.Statement.{statement}
+use Rattle.read.proofs.spans.stands_at.Tie as tie
+
+add-single-at : tie.Need-add-single-at
+add-single-at c =
+    let h = one-within (c .before .before .before .before .pre) (c .before .if1 .taken) in
+    omega (arith, h)
+
+single-at-requires : tie.Need-single-at-requires
+single-at-requires c κs =
+    let h = one-within (c .before .before .before .before .pre) (c .before .if1 .taken) in
+    omega (arith, h)
+
+returns : tie.Need-returns
+unfolding stands
+returns c = search ladder depth 9
+
+mul-left-at : tie.Need-mul-left-at
+mul-left-at c =
+    let h = two-within (c .before .before .before .before .before .pre) (omega (arith, c .if2 .taken)) in
+    record { fits = omega (arith, h) }
+
+add-left-at : tie.Need-add-left-at
+add-left-at c =
+    let h = two-within (c .before .before .before .before .before .before .pre) (omega (arith, c .before .if2 .taken)) in
+    omega (arith, h)
+
+left-at-requires : tie.Need-left-at-requires
+left-at-requires c κs =
+    let h = two-within (c .before .before .before .before .before .before .pre) (omega (arith, c .before .if2 .taken)) in
+    omega (arith, h)
+
+returns-2 : tie.Need-returns-2
+unfolding stands
+returns-2 c = search ladder depth 9
+
+mul-right-at : tie.Need-mul-right-at
+mul-right-at c =
+    let h = two-within (c .before .before .before .before .before .before .before .pre) (omega (arith, c .if3 .taken)) in
+    record { fits = omega (arith, h) }
+
+add-right-at : tie.Need-add-right-at
+add-right-at c =
+    let h = two-within (c .before .before .before .before .before .before .before .before .pre) (omega (arith, c .before .if3 .taken)) in
+    omega (arith, h)
+
+right-at-requires : tie.Need-right-at-requires
+right-at-requires c κs =
+    let h = two-within (c .before .before .before .before .before .before .before .before .pre) (omega (arith, c .before .if3 .taken)) in
+    omega (arith, h)
+
+returns-3 : tie.Need-returns-3
+unfolding stands
+returns-3 c = search ladder depth 9
+
+returns-4 : tie.Need-returns-4
+unfolding stands
+returns-4 c = search ladder depth 9
+
+pub stands-at-spec : {M : Type 1} → statement M
+stands-at-spec =
+    tie.close
+    (tie.spec
+    add-single-at
+    single-at-requires
+    returns
+    mul-left-at
+    add-left-at
+    left-at-requires
+    returns-2
+    mul-right-at
+    add-right-at
+    right-at-requires
+    returns-3
+    returns-4)

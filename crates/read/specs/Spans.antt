@@ -1,0 +1,133 @@
+-- Units of one form, one after another. Nothing has to be believed of them: that they are the units that `advance` gives one by one is proved
+-- (`span-turns`).
+use Prim.Native.Nat.{ℕ, zero, suc, _+_, _-_, _*_, _/_, _%_, _^_, _≤_, _<_}
+use mathlib.Core.Bool.{Bool, true, false}
+use mathlib.Core.Path.{_≡_}
+use mathlib.Core.List.{List}
+use lib.Dec.{eqb, leb, ltb}
+use lib.ListN.{length, getD, set}
+use Rattle.base.specs.Choice.{pick}
+use Rattle.base.specs.Kind as kind
+use Rattle.base.specs.declared.Unit.{Unit as UnitRecord}
+use Rattle.charset.specs.Charsets.{no-set}
+use Rattle.state.specs.State.{sets}
+use Rattle.state.specs.declared.Sets.{Sets}
+use Rattle.units.specs.Records.{blank}
+use Rattle.cursor.specs.Cursor.{cursor, setsIn, first-double, setAt, advanceOf}
+use Rattle.cursor.specs.declared.Cursor.{Cursor}
+use Rattle.read.specs.declared.spans.Span.{Span}
+
+-- ---- the forms: any one unit, units of one octet, characters of two octets in GL, and in GR
+
+abbrev pub any : ℕ
+any = 0
+
+abbrev pub ones : ℕ
+ones = 1
+
+abbrev pub left-twos : ℕ
+left-twos = 2
+
+abbrev pub right-twos : ℕ
+right-twos = 3
+
+-- ---- what an octet begins
+
+-- a tab, a newline, a space, or a character of one octet
+unfoldable pub singleOf : ℕ → Sets → Bool
+singleOf b s =
+    pick (ltb b 0x20) (pick (ltb b 0x09) false (leb b 0x0A))
+    (pick (ltb b 0x7F) (ltb (s .gl) first-double) (pick (ltb b 0xA0) false (ltb (s .gr) first-double)))
+
+-- the first octet of a character of two in GL
+unfoldable pub leftFirst : ℕ → Bool
+leftFirst b = pick (leb b 0x20) false (ltb b 0x7F)
+
+-- a set of two octets
+unfoldable pub twoOctets : ℕ → Bool
+twoOctets set = pick (ltb set first-double) false (ltb set no-set)
+
+unfoldable pub formAt : ℕ → Sets → ℕ
+formAt b s =
+    pick (singleOf b s) ones
+    (pick (leftFirst b) (pick (twoOctets (s .gl)) left-twos any)
+    (pick (ltb b 0xA0) any (pick (twoOctets (s .gr)) right-twos any)))
+
+-- ---- the span at a cursor
+
+unfoldable pub lesserOf : ℕ → ℕ → ℕ
+lesserOf m n = pick (ltb m n) m n
+
+abbrev pub anyOf : List ℕ → Cursor → Span
+anyOf s c =
+    record { place = advanceOf s c .cursor .place; most = 1; unit = advanceOf s c .unit; form = any; gl = advanceOf s c .cursor .gl; gr = advanceOf s c .cursor .gr }
+
+abbrev pub ofForm : Cursor → ℕ → ℕ → Span
+ofForm c form most = record { place = c .place; most = most; unit = blank; form = form; gl = c .gl; gr = c .gr }
+
+-- by the form of its first unit, where so many octets are left
+unfoldable pub byForm : List ℕ → Cursor → ℕ → ℕ → ℕ → Span
+byForm s c n form octets =
+    pick (eqb form any) (anyOf s c)
+    (pick (eqb form ones) (ofForm c form (lesserOf octets n))
+    (pick (ltb octets 2) (anyOf s c) (ofForm c form (lesserOf (octets / 2) n))))
+
+unfoldable pub spanOf : List ℕ → Cursor → ℕ → Span
+spanOf s c n =
+    pick (leb (length s) (c .place)) (anyOf s c)
+    (byForm s c n (formAt (getD s (c .place) 0) (setsIn c)) (length s - c .place))
+
+-- the octets of its units are in the string
+pub record Fits (s : List ℕ) (r : Span) : Type 0 where
+  pub of-ones : r .form ≡ ones → r .place + r .most ≤ length s
+  pub of-twos : ones < r .form → r .place + 2 * r .most ≤ length s
+
+-- the cursor after j of its units
+unfoldable pub movedOf : Span → ℕ → Cursor
+movedOf r j =
+    pick (eqb (r .form) ones) (cursor (r .place + j) (sets (r .gl) (r .gr)))
+    (pick (ltb ones (r .form)) (cursor (r .place + 2 * j) (sets (r .gl) (r .gr))) (cursor (r .place) (sets (r .gl) (r .gr))))
+
+-- ---- the units of a span
+
+-- whether the unit after j units is of its form
+unfoldable pub stands : List ℕ → Span → ℕ → Bool
+stands s r j =
+    pick (eqb (r .form) ones) (singleOf (getD s (r .place + j) 0) (sets (r .gl) (r .gr)))
+    (pick (eqb (r .form) left-twos) (leftFirst (getD s (r .place + 2 * j) 0))
+    (pick (eqb (r .form) right-twos) (leb 0xA0 (getD s (r .place + 2 * j) 0)) true))
+
+unfoldable pub kindOf : ℕ → ℕ
+kindOf b = pick (ltb 0x20 b) kind.character (b % 8 + 1)
+
+unfoldable pub ifGraphic : ℕ → ℕ → ℕ
+ifGraphic b x = pick (leb b 0x20) 0 x
+
+abbrev pub oneOf : ℕ → ℕ → Sets → UnitRecord
+oneOf at b s =
+    record { kind = kindOf b; set = ifGraphic b (setAt b s); code = ifGraphic b (b % 128); start = at % 2 ^ 32; length = 1 }
+
+abbrev pub twoOf : ℕ → ℕ → ℕ → ℕ → UnitRecord
+twoOf at b d set =
+    record { kind = kind.character; set = set; code = b % 128 * 256 + d % 128; start = at % 2 ^ 32; length = 2 }
+
+-- the two octets at a place, as a character of a set
+abbrev pub twoAt : List ℕ → ℕ → ℕ → UnitRecord
+twoAt s at set = twoOf at (getD s at 0) (getD s (at + 1) 0) set
+
+-- the unit after j units
+unfoldable pub nthOf : List ℕ → Span → ℕ → UnitRecord
+nthOf s r j =
+    pick (eqb (r .form) ones) (oneOf (r .place + j) (getD s (r .place + j) 0) (sets (r .gl) (r .gr)))
+    (pick (eqb (r .form) left-twos) (twoAt s (r .place + 2 * j) (r .gl))
+    (pick (eqb (r .form) right-twos) (twoAt s (r .place + 2 * j) (r .gr)) (r .unit)))
+
+-- of a span, of which j units are passed and m more may follow: how many there are
+unfoldable pub countFrom : List ℕ → Span → ℕ → ℕ → ℕ
+countFrom s r zero j = j
+countFrom s r (suc m) j = pick (stands s r j) (countFrom s r m (suc j)) j
+
+-- and the list, with those that follow stored to it
+unfoldable pub storedFrom : List ℕ → Span → ℕ → ℕ → ℕ → List UnitRecord → List UnitRecord
+storedFrom s r start zero j l = l
+storedFrom s r start (suc m) j l = pick (stands s r j) (storedFrom s r start m (suc j) (set l (start + j) (nthOf s r j))) l

@@ -1,0 +1,299 @@
+// Units of one form, one after another in an accepted string, found by their octets alone.
+ghost use mathlib.Core.Path.{_≡_};
+ghost use Prim.Native.Nat.{_+_, _*_, _<_, _≤_, _^_};
+ghost use lib.Dec.{leb};
+ghost use lib.ListN.{length, getD};
+ghost use Rattle.state.specs.State.{sets};
+ghost use Rattle.read.specs.Spans.{ones, singleOf, leftFirst, twoOctets, formAt, lesserOf, anyOf, ofForm, spanOf, Fits, movedOf, stands, kindOf, ifGraphic, oneOf, twoAt, nthOf};
+use base::Unit;
+use base::kind;
+use charset::NO_SET;
+use cursor::Cursor;
+use cursor::FIRST_DOUBLE;
+use cursor::advance;
+use cursor::set_at;
+
+// The forms: any one unit, units of one octet, characters of two octets in GL, and in GR.
+const ANY: u8 = 0;
+
+const ONES: u8 = 1;
+
+const LEFT_TWOS: u8 = 2;
+
+const RIGHT_TWOS: u8 = 3;
+
+// The units of a form that start at a place, so many at most, under these sets. Of any one unit the unit is given, and the place and the
+// sets are those after it.
+pub struct Span {
+    pub place: usize,
+    pub most: usize,
+    pub unit: Unit,
+    pub form: u8,
+    pub gl: u8,
+    pub gr: u8,
+}
+
+// An octet that is a unit: a tab, a newline, a space or a character.
+fn single(b: u8, gl: u8, gr: u8) -> bool
+    ensures { λ r. ⌜ r ≡ singleOf b (sets gl gr) ⌝ }
+{
+    if b < 0x20 {
+        if b < 0x09 {
+            return false;
+        }
+        return b <= 0x0A;
+    }
+    if b < 0x7F {
+        return gl < FIRST_DOUBLE;
+    }
+    if b < 0xA0 {
+        return false;
+    }
+    gr < FIRST_DOUBLE
+}
+
+// The first octet of a character of two in GL.
+fn left_first(b: u8) -> bool
+    ensures { λ r. ⌜ r ≡ leftFirst b ⌝ }
+{
+    if b <= 0x20 {
+        return false;
+    }
+    b < 0x7F
+}
+
+fn two_octets(set: u8) -> bool
+    ensures { λ r. ⌜ r ≡ twoOctets set ⌝ }
+{
+    if set < FIRST_DOUBLE {
+        return false;
+    }
+    set < NO_SET
+}
+
+// The form of the unit that an octet begins.
+fn form_at(b: u8, gl: u8, gr: u8) -> u8
+    ensures { λ r. ⌜ r ≡ formAt b (sets gl gr) ⌝ }
+{
+    if single(b, gl, gr) {
+        return ONES;
+    }
+    if left_first(b) {
+        if two_octets(gl) {
+            return LEFT_TWOS;
+        }
+        return ANY;
+    }
+    if b < 0xA0 {
+        return ANY;
+    }
+    if two_octets(gr) {
+        return RIGHT_TWOS;
+    }
+    ANY
+}
+
+fn lesser(m: usize, n: usize) -> usize
+    ensures { λ r. ⌜ r ≡ lesserOf m n ⌝ }
+{
+    if m < n {
+        return m;
+    }
+    n
+}
+
+// Any one unit.
+fn any_unit(s: &[u8], c: Cursor) -> Span
+    ensures { λ r. ⌜ r ≡ anyOf (now (s .entry)) c ⌝ }
+{
+    let t = advance(s, c);
+    let next = t.cursor;
+    let unit = t.unit;
+    Span {
+        place: next.place,
+        most: 1,
+        unit: unit,
+        form: ANY,
+        gl: next.gl,
+        gr: next.gr,
+    }
+}
+
+fn of_form(c: Cursor, form: u8, most: usize) -> Span
+    ensures { λ r. ⌜ r ≡ ofForm c form most ⌝ }
+{
+    Span {
+        place: c.place,
+        most: most,
+        unit: Unit {
+            kind: 0,
+            set: 0,
+            code: 0,
+            start: 0,
+            length: 0,
+        },
+        form: form,
+        gl: c.gl,
+        gr: c.gr,
+    }
+}
+
+// The span at a cursor, of n units at most.
+pub fn span_at(s: &[u8], c: Cursor, n: usize) -> Span
+    ensures { λ r. ⌜ r ≡ spanOf (now (s .entry)) c n ⌝ }
+{
+    let at = c.place;
+    if s.len() <= at {
+        return any_unit(s, c);
+    }
+    let form = form_at(s[at], c.gl, c.gr);
+    if form == ANY {
+        return any_unit(s, c);
+    }
+    let octets = s.len() - at;
+    if form == ONES {
+        return of_form(c, form, lesser(octets, n));
+    }
+    if octets < 2 {
+        return any_unit(s, c);
+    }
+    of_form(c, form, lesser(octets / 2, n))
+}
+
+// The cursor after j units of a span.
+pub fn moved(r: Span, j: usize) -> Cursor
+    requires { ⌜ (r .form ≡ ones → r .place + j < 2 ^ 64) × (ones < r .form → r .place + 2 * j < 2 ^ 64) ⌝ }
+    ensures { λ c. ⌜ c ≡ movedOf r j ⌝ }
+{
+    if r.form == ONES {
+        let place = r.place + j;
+        return Cursor {
+            place: place,
+            gl: r.gl,
+            gr: r.gr,
+        };
+    }
+    if ONES < r.form {
+        let place = r.place + 2 * j;
+        return Cursor {
+            place: place,
+            gl: r.gl,
+            gr: r.gr,
+        };
+    }
+    Cursor {
+        place: r.place,
+        gl: r.gl,
+        gr: r.gr,
+    }
+}
+
+// The octet at a place, as `single` and `left_first` take it, and as the first of two in GR. Each reads it by itself, so that the compiler
+// makes a loop of each form.
+fn single_at(s: &[u8], at: usize, gl: u8, gr: u8) -> bool
+    requires { ⌜ at < length (now s) ⌝ }
+    ensures { λ r. ⌜ r ≡ singleOf (getD (now (s .entry)) at 0) (sets gl gr) ⌝ }
+{
+    single(s[at], gl, gr)
+}
+
+fn left_at(s: &[u8], at: usize) -> bool
+    requires { ⌜ at < length (now s) ⌝ }
+    ensures { λ r. ⌜ r ≡ leftFirst (getD (now (s .entry)) at 0) ⌝ }
+{
+    left_first(s[at])
+}
+
+fn right_at(s: &[u8], at: usize) -> bool
+    requires { ⌜ at < length (now s) ⌝ }
+    ensures { λ r. ⌜ r ≡ leb 0xA0 (getD (now (s .entry)) at 0) ⌝ }
+{
+    0xA0 <= s[at]
+}
+
+// Whether the unit after j units of a span is of its form.
+pub fn stands_at(s: &[u8], r: Span, j: usize) -> bool
+    requires { ⌜ Fits (now s) r × (j < r .most) ⌝ }
+    ensures { λ b. ⌜ b ≡ stands (now (s .entry)) r j ⌝ }
+{
+    if r.form == ONES {
+        return single_at(s, r.place + j, r.gl, r.gr);
+    }
+    if r.form == LEFT_TWOS {
+        return left_at(s, r.place + 2 * j);
+    }
+    if r.form == RIGHT_TWOS {
+        return right_at(s, r.place + 2 * j);
+    }
+    true
+}
+
+// The kinds of a space, a tab and a newline are one more than the last three bits of their octets.
+fn kind_of(b: u8) -> u8
+    ensures { λ r. ⌜ r ≡ kindOf b ⌝ }
+{
+    if 0x20 < b {
+        return kind::CHARACTER;
+    }
+    b % 8 + 1
+}
+
+// A space, a tab and a newline have neither set nor code.
+fn if_graphic(b: u8, x: u8) -> u8
+    ensures { λ r. ⌜ r ≡ ifGraphic b x ⌝ }
+{
+    if b <= 0x20 {
+        return 0;
+    }
+    x
+}
+
+fn one(s: &[u8], at: usize, gl: u8, gr: u8) -> Unit
+    requires { ⌜ at < length (now s) ⌝ }
+    ensures { λ r. ⌜ r ≡ oneOf at (getD (now (s .entry)) at 0) (sets gl gr) ⌝ }
+{
+    let b = s[at];
+    let code = if_graphic(b, b % 128) as u16;
+    let start = (at % 0x1_0000_0000) as u32;
+    Unit {
+        kind: kind_of(b),
+        set: if_graphic(b, set_at(b, gl, gr)),
+        code: code,
+        start: start,
+        length: 1,
+    }
+}
+
+fn two(s: &[u8], at: usize, set: u8) -> Unit
+    requires { ⌜ at + 1 < length (now s) ⌝ }
+    ensures { λ r. ⌜ r ≡ twoAt (now (s .entry)) at set ⌝ }
+{
+    let high = (s[at] % 128) as u16;
+    let low = (s[at + 1] % 128) as u16;
+    let code = high * 256 + low;
+    let start = (at % 0x1_0000_0000) as u32;
+    Unit {
+        kind: kind::CHARACTER,
+        set: set,
+        code: code,
+        start: start,
+        length: 2,
+    }
+}
+
+// The unit after j units of a span.
+pub fn nth(s: &[u8], r: Span, j: usize) -> Unit
+    requires { ⌜ Fits (now s) r × (j < r .most) ⌝ }
+    ensures { λ u. ⌜ u ≡ nthOf (now (s .entry)) r j ⌝ }
+{
+    if r.form == ONES {
+        return one(s, r.place + j, r.gl, r.gr);
+    }
+    if r.form == LEFT_TWOS {
+        return two(s, r.place + 2 * j, r.gl);
+    }
+    if r.form == RIGHT_TWOS {
+        return two(s, r.place + 2 * j, r.gr);
+    }
+    r.unit
+}

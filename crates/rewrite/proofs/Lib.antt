@@ -1,0 +1,3 @@
+pub mod Cursor
+pub mod Turns
+pub mod Whole

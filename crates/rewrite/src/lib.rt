@@ -1,0 +1,48 @@
+// The shortest form of a string: what the program writes.
+ghost use mathlib.Core.Path.{_≡_};
+ghost use lib.ListN.{length};
+ghost use Rattle.base.specs.Refusal.{accepted};
+ghost use Rattle.grammar.specs.Reading.{checkOf};
+ghost use Rattle.units.specs.Records.{recordsOf};
+ghost use Rattle.write.specs.Stowed.{reached, Stowed};
+ghost use Rattle.rewrite.specs.Shortest.{shortestAnswer, shortestOutput};
+use base::Answer;
+use base::refusal;
+use cursor::Cursor;
+use check_list::Progress;
+
+// Puts the n units of an accepted string into their rows of the work room.
+fn stow(s: &[u8], n: usize, work: &mut [u8]) -> Progress
+    requires { ⌜ (checkOf (now s) .number ≡ accepted) × (n ≡ length (recordsOf (now s))) ⌝ }
+    ensures { λ r. ⌜ (r ≡ reached (now (s .entry)) (recordsOf (now (s .entry))) n)
+        × Stowed (now (s .entry)) (recordsOf (now (s .entry))) n (now (work .entry)) (now (work .exit)) ⌝ }
+{
+    let mut progress = check_list::begin();
+    let mut c = Cursor::first();
+    let mut i: usize = 0;
+    while i < n {
+        let t = cursor::advance(s, c);
+        let unit = t.unit;
+        progress = check_list::turn(progress, unit, i, s, work);
+        let next = t.cursor;
+        c = next;
+        i += 1;
+    }
+    progress
+}
+
+// Writes the shortest string that reads as s does, or answers why not: the refusal of s, 12 where the work room is too short for its
+// units, or 10. What the work room holds after is left open; it keeps its length.
+pub fn shortest(s: &[u8], work: &mut [u8], out: &mut [u8]) -> Answer
+    ensures { λ r. ⌜ (r ≡ shortestAnswer (now (s .entry)) (length (now (work .entry))) (length (now (out .entry))))
+        × (now (out .exit) ≡ shortestOutput (now (s .entry)) (length (now (work .entry))) (now (out .entry)))
+        × (length (now (work .exit)) ≡ length (now (work .entry))) ⌝ }
+{
+    let a = check_string::check(s);
+    if a.number == refusal::ACCEPTED {
+        let n = a.count;
+        let progress = stow(s, n, work);
+        return write::finish(progress, n, s, work, out);
+    }
+    a
+}

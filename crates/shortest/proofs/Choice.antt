@@ -1,0 +1,318 @@
+-- The string that `writing` computes is the one that document 01 names: it is one of the lazy strings (`writing-lazy`), every lazy
+-- string reads as the units and so is no shorter (`lazy-reads`, `lazy-lower`), and a lazy string as short is the same or comes after it
+-- (`first`); such a string is one (`the-choice`, `one-choice`). What a unit's need says is what the paper's words say (`split`).
+use Prim.Native.Nat.{ℕ, _+_, _≤_, min}
+use native.Mathlib.Omega.{arith}
+use mathlib.Core.Path.{_≡_, refl, sym, ap, ap₂, _∙_, subst, subst₂}
+use mathlib.Core.Bool.{Bool, true, false, cond, _||_, true≢false}
+use mathlib.Core.List.{List, [], _∷_, _++_}
+use mathlib.Core.Option.{Option, none, some}
+use mathlib.Core.Logic.{_⊎_, inl, inr, ⊎-elim}
+use lib.ListN.{length, length-append}
+use lib.Dec.{leb}
+use borrow.Author.Tests.{leb-false, eq-eqb}
+use Rattle.charset.specs.declared.Side.{Side}
+use Rattle.charset.specs.declared.Side.the-variants.{GL, GR}
+use Rattle.charset.specs.Charsets.{allowed, mayUse}
+use Rattle.state.specs.State.{Standing, on, put}
+use Rattle.state.specs.declared.Sets.{Sets}
+use Rattle.grammar.specs.Units.{TextUnit, char, space, tab, newline, ltr, rtl, revert, ext, octets, good}
+use Rattle.grammar.specs.Grammar.{Shows, Reads, done, designate, show}
+use Rattle.grammar.proofs.Sound.{Legal}
+use Rattle.grammar.proofs.Agrees.{put-legal}
+use Rattle.shortest.specs.Writing.{Need, free, either, stands, met, price, least, choose, after, designated, size, need, placesOf, used, cost, writing}
+use Rattle.shortest.specs.Choice.{Serves, MayPrecede, LeftFirst, Lazy, nil, next, Preferred, Before, here, later, Chosen}
+use Rattle.shortest.proofs.Needs.{spent, or-none, chosen-met}
+use Rattle.shortest.proofs.Costs.{spent-length, size-side, writing-length}
+use Rattle.shortest.proofs.Bounds.{Good, good-side, shows-met, met-shows, lower}
+
+-- ---- a unit's need
+
+-- a need is what serves the unit, the preferred one first
+data Split (u : TextUnit) : Need → Type 0 where
+  none-serves : ((p : Standing) → Serves u p → ⊥) → Split u free
+  two-serve : {a b : Standing} → Serves u a → Serves u b → ((p : Standing) → Serves u p → (p ≡ a) ⊎ (p ≡ b)) → (a ≡ b) ⊎ Preferred u a b
+      → Split u (either a b)
+
+same-standing : (p : Standing) (d : Side) (c : ℕ) → p .side ≡ d → p .set ≡ c → p ≡ on d c
+same-standing p d c x y = λ i. record { side = x i; set = y i }
+
+split : (u : TextUnit) → good u ≡ true → Split u (need u)
+unfolding need
+split (char c k) g = go (allowed GL c) (allowed GR c) refl refl (good-side c k g)
+  where
+    only : (d e : Side) → allowed e c ≡ false → ((x : Side) → (x ≡ d) ⊎ (x ≡ e)) → (p : Standing) → Serves (char c k) p → p ≡ on d c
+    only d e f sides p h =
+        ⊎-elim (λ x. same-standing p d c x (h .0))
+        (λ x. absurd (true≢false (sym (h .1) ∙ ap₂ (λ s n. allowed s n) x (h .0) ∙ f))) (sides (p .side))
+
+    left-or-right : (x : Side) → (x ≡ GL) ⊎ (x ≡ GR)
+    left-or-right GL = inl refl
+    left-or-right GR = inr refl
+
+    right-or-left : (x : Side) → (x ≡ GR) ⊎ (x ≡ GL)
+    right-or-left GL = inr refl
+    right-or-left GR = inl refl
+
+    go : (x y : Bool) → allowed GL c ≡ x → allowed GR c ≡ y → (x || y) ≡ true → Split (char c k) (placesOf x y c)
+    go true true p q l =
+        two-serve (refl, p) (refl, q) (λ r h. ⊎-elim (λ x. inl (same-standing r GL c x (h .0))) (λ x. inr (same-standing r GR c x (h .0))) (left-or-right (r .side)))
+        (inr (refl, refl))
+    go true false p q l = two-serve (refl, p) (refl, p) (λ r h. inl (only GL GR q left-or-right r h)) (inl refl)
+    go false y p q l = two-serve (refl, q ∙ l) (refl, q ∙ l) (λ r h. inl (only GR GL p right-or-left r h)) (inl refl)
+split space g =
+    two-serve (refl, inl refl) (refl, inr refl) (λ p h. ⊎-elim (λ e. inl (same-standing p GL 0 (h .0) e)) (λ e. inr (same-standing p GL 2 (h .0) e)) (h .1))
+    (inr (refl, refl))
+split tab g = none-serves (λ p h. h)
+split newline g = none-serves (λ p h. h)
+split ltr g = none-serves (λ p h. h)
+split rtl g = none-serves (λ p h. h)
+split revert g = none-serves (λ p h. h)
+split (ext e xs) g = none-serves (λ p h. h)
+
+-- ---- lazy strings read as the units
+
+serves-allowed : (u : TextUnit) (p : Standing) → Serves u p → allowed (p .side) (p .set) ≡ true
+unfolding allowed mayUse
+serves-allowed (char c k) p h = h .1
+serves-allowed space p h =
+    ⊎-elim (λ e. ap₂ (λ d c. allowed d c) (h .0) e) (λ e. ap₂ (λ d c. allowed d c) (h .0) e) (h .1)
+serves-allowed tab p h = absurd h
+serves-allowed newline p h = absurd h
+serves-allowed ltr p h = absurd h
+serves-allowed rtl p h = absurd h
+serves-allowed revert p h = absurd h
+serves-allowed (ext e xs) p h = absurd h
+
+after-legal : (u : TextUnit) (s : Sets) (o : Option Standing) → MayPrecede u s o → Legal s → Legal (after o s)
+after-legal u s none m l = l
+after-legal u s (some p) m l = put-legal p s (serves-allowed u p (m .0)) l
+
+pub lazy-reads : {s : Sets} {us : List TextUnit} {os : List (Option Standing)} {t : List ℕ} → Lazy s us os t → Reads s t us
+lazy-reads nil = done
+lazy-reads (next u none d g m h f r) = show u d g h (lazy-reads r)
+lazy-reads (next u (some p) d g m h f r) = designate p (serves-allowed u p (m .0)) (show u d g h (lazy-reads r))
+
+-- no lazy string is shorter than the cost
+pub lazy-lower : {s : Sets} {us : List TextUnit} {os : List (Option Standing)} {t : List ℕ} → Legal s → Lazy s us os t → cost us s ≤ length t
+lazy-lower l r = lower l (lazy-reads r)
+
+-- ---- what may precede a unit is what its need permits
+
+-- what may be designated for a need: nothing where it is met, else one of its places
+abbrev Permitted : Need → Sets → Option Standing → Type 0
+Permitted n s none = met n s ≡ true
+Permitted free s (some p) = ⊥
+Permitted (either a b) s (some p) = (met (either a b) s ≡ false) × ((p ≡ a) ⊎ (p ≡ b))
+
+permitted : (u : TextUnit) (s : Sets) (o : Option Standing) (d : Side) → Legal s → good u ≡ true → MayPrecede u s o → Shows u d (after o s)
+    → Permitted (need u) s o
+unfolding met
+permitted u s none d l g m h = shows-met u d s l h
+permitted u s (some p) d l g m h = go (need u) (split u g)
+  where
+    go : (n : Need) → Split u n → Permitted n s (some p)
+    go free (none-serves k) = k p (m .0)
+    go (either a b) (two-serve x y k z) = (ap₂ _||_ (m .1 a x) (m .1 b y), k p (m .0))
+
+precedes : (u : TextUnit) (s : Sets) (o : Option Standing) → good u ≡ true → Permitted (need u) s o → MayPrecede u s o
+unfolding met
+precedes u s none g m = tt
+precedes u s (some p) g m = go (need u) (split u g) m
+  where
+    go : (n : Need) → Split u n → Permitted n s (some p) → MayPrecede u s (some p)
+    go free (none-serves k) m = absurd m
+    go (either a b) (two-serve x y k z) m =
+        let off = or-none (stands a s) (stands b s) (m .0) in (
+          ⊎-elim (λ e. subst (Serves u) (sym e) x) (λ e. subst (Serves u) (sym e) y) (m .1),
+          λ q h. ⊎-elim (λ e. subst (λ (r : Standing). stands r s ≡ false) (sym e) (off .0)) (λ e. subst (λ (r : Standing). stands r s ≡ false) (sym e) (off .1)) (k q h),
+        )
+
+-- ---- among the shortest the writer's is first
+
+-- a permitted choice costs at least the least
+least-permitted : (n : Need) (f : Sets → ℕ) (s : Sets) (o : Option Standing) → Permitted n s o → least n f s ≤ spent o + f (after o s)
+unfolding least
+least-permitted free f s none p = omega arith
+least-permitted free f s (some q) p = absurd p
+least-permitted (either a b) f s none p = rw p (omega arith)
+least-permitted (either a b) f s (some q) p =
+    rw (p .0)
+    (⊎-elim
+    (λ e. let h = ap (λ (r : Standing). price r + f (put r s)) e in omega arith)
+    (λ e. let h = ap (λ (r : Standing). price r + f (put r s)) e in omega arith) (p .1))
+
+one-length : (t : List ℕ) (u : TextUnit) (d : Side) (o : Option Standing) → length (designated o ++ (octets d u ++ t)) ≡ spent o + (size u + length t)
+one-length t u d o = omega (arith, length-append (designated o) (octets d u ++ t), length-append (octets d u) t, spent-length o, size-side d u)
+
+-- a best choice is the writer's, or the writer's is preferred
+abbrev Best : TextUnit → Option Standing → Option Standing → Type 0
+Best u chosen o = (o ≡ chosen) ⊎ ((a : Standing) × (b : Standing) × Preferred u a b × (chosen ≡ some a) × (o ≡ some b))
+
+best : (u : TextUnit) (n : Need) (f : Sets → ℕ) (s : Sets) (o : Option Standing) → Split u n → Permitted n s o → least n f s ≡ spent o + f (after o s)
+    → Best u (choose n f s) o
+unfolding choose least
+best u free f s none z p e = inl refl
+best u free f s (some q) z p e = absurd p
+best u (either a b) f s none z p e = inl (rw p)
+best u (either a b) f s (some q) (two-serve sa sb k z) p e = go (leb (price a + f (put a s)) (price b + f (put b s))) refl (p .1) z
+  where
+    e′ : min (price a + f (put a s)) (price b + f (put b s)) ≡ price q + f (put q s)
+    e′ = rw (p .0) at e
+
+    chosen : (t : Bool) → leb (price a + f (put a s)) (price b + f (put b s)) ≡ t → choose (either a b) f s ≡ cond t (some a) (some b)
+    chosen t x = rw (p .0, x)
+
+    go : (t : Bool) → leb (price a + f (put a s)) (price b + f (put b s)) ≡ t → (q ≡ a) ⊎ (q ≡ b) → (a ≡ b) ⊎ Preferred u a b → Best u (choose (either a b) f s) (some q)
+    go true x (inl y) z = inl (ap some y ∙ sym (chosen true x))
+    go true x (inr y) (inl z) = inl (ap some (y ∙ sym z) ∙ sym (chosen true x))
+    go true x (inr y) (inr z) = inr (a, b, z, chosen true x, ap some y)
+    go false x (inr y) z = inl (ap some y ∙ sym (chosen false x))
+    go false x (inl y) z =
+        let l = leb-false (price a + f (put a s)) (price b + f (put b s)) x in
+        let h = ap (λ (r : Standing). price r + f (put r s)) y in
+        absurd (omega (arith, e′))
+
+-- what the writer designates before each unit
+unfoldable pub choices : List TextUnit → Sets → List (Option Standing)
+choices [] s = []
+choices (u ∷ us) s = choose (need u) (cost us) s ∷ choices us (after (choose (need u) (cost us) s) s)
+
+pub first : {s : Sets} {us : List TextUnit} {os : List (Option Standing)} {t : List ℕ} → Legal s → Lazy s us os t → length t ≡ cost us s
+    → (os ≡ choices us s) ⊎ Before us (choices us s) os
+unfolding cost choices
+first l nil e = inl refl
+first {s} l (next {us = us} {os = os} {t = t} u o d g m h f r) e =
+    ⊎-elim
+    (λ q. ⊎-elim
+    (λ h. inl (ap₂ _∷_ q (h ∙ ap (λ (x : Option Standing). choices us (after x s)) q)))
+    (λ h. inr (subst (λ (x : Option Standing). Before (u ∷ us) (x ∷ choices us (after x s)) (o ∷ os)) q (later u o h))) (first l′ r tail))
+    (λ w. inr (subst₂ (λ (x y : Option Standing). Before (u ∷ us) (x ∷ choices us (after (choose (need u) (cost us) s) s)) (y ∷ os)) (sym (w .3)) (sym (w .4)) (here u (w .0) (w .1) (w .2))))
+    (best u (need u) (cost us) s o (split u g) p (omega (arith, lazy-lower l′ r, least-permitted (need u) (cost us) s o p, one-length t u d o)))
+  where
+    p : Permitted (need u) s o
+    p = permitted u s o d l g m h
+
+    l′ : Legal (after o s)
+    l′ = after-legal u s o m l
+
+    tail : length t ≡ cost us (after o s)
+    tail = omega (arith, lazy-lower l′ r, least-permitted (need u) (cost us) s o p, one-length t u d o)
+
+-- ---- the writer's string is a lazy string
+
+choose-permitted : (n : Need) (f : Sets → ℕ) (s : Sets) → Permitted n s (choose n f s)
+unfolding choose met
+choose-permitted free f s = refl
+choose-permitted (either a b) f s = go (met (either a b) s) refl (leb (price a + f (put a s)) (price b + f (put b s)))
+  where
+    go : (x : Bool) → met (either a b) s ≡ x → (y : Bool) → Permitted (either a b) s (cond x none (cond y (some a) (some b)))
+    go true e y = e
+    go false e true = (e, inl refl)
+    go false e false = (e, inr refl)
+
+-- a unit is written in GL where its set stands there
+used-left : (u : TextUnit) (s : Sets) → met (need u) s ≡ true → Legal s → LeftFirst u (used (need u) s) s
+unfolding need used stands
+used-left (char c k) s m l = λ e. go e (allowed GL c) (allowed GR c) refl
+  where
+    go : s .gl ≡ c → (x y : Bool) → allowed GL c ≡ x → used (placesOf x y c) s ≡ GL
+    go e true true q = ap (λ (t : Bool). cond t GL GR) (eq-eqb (s .gl) c e)
+    go e true false q = ap (λ (t : Bool). cond t GL GL) (eq-eqb (s .gl) c e)
+    go e false y q = absurd (true≢false (sym (subst (λ (n : ℕ). allowed GL n ≡ true) e (l .left)) ∙ q))
+used-left space s m l = tt
+used-left tab s m l = tt
+used-left newline s m l = tt
+used-left ltr s m l = tt
+used-left rtl s m l = tt
+used-left revert s m l = tt
+used-left (ext e xs) s m l = tt
+
+pub writing-lazy : (us : List TextUnit) (s : Sets) → Legal s → Good us → Lazy s us (choices us s) (writing us s)
+unfolding choices writing
+writing-lazy [] s l g = nil
+writing-lazy (u ∷ us) s l g =
+    next u o (used (need u) (after o s)) (g .0) m (met-shows u (after o s) (chosen-met (need u) (cost us) s)) (used-left u (after o s) (chosen-met (need u) (cost us) s) l′)
+    (writing-lazy us (after o s) l′ (g .1))
+  where
+    o : Option Standing
+    o = choose (need u) (cost us) s
+
+    m : MayPrecede u s o
+    m = precedes u s o (g .0) (choose-permitted (need u) (cost us) s)
+
+    l′ : Legal (after o s)
+    l′ = after-legal u s o m l
+
+-- ---- that string exists and is one
+
+pub the-choice : (us : List TextUnit) (s : Sets) → Legal s → Good us → Chosen us s (choices us s) (writing us s)
+the-choice us s l g =
+    record {
+      lazy = writing-lazy us s l g;
+      shortest = λ ps w r. omega (arith, writing-length us s, lazy-lower l r);
+      first = λ ps w r e. first l r (e ∙ writing-length us s);
+    }
+
+-- what is designated decides the string
+same-octets : (u : TextUnit) (d e : Side) (s : Sets) → Shows u d s → Shows u e s → LeftFirst u d s → LeftFirst u e s → octets d u ≡ octets e u
+unfolding octets
+same-octets u GL GL s x y f g = refl
+same-octets u GR GR s x y f g = refl
+same-octets (char c k) GL GR s x y f g = ap (λ (d : Side). octets d (char c k)) (sym (g x))
+same-octets (char c k) GR GL s x y f g = ap (λ (d : Side). octets d (char c k)) (f y)
+same-octets space GL GR s x y f g = refl
+same-octets space GR GL s x y f g = refl
+same-octets tab GL GR s x y f g = refl
+same-octets tab GR GL s x y f g = refl
+same-octets newline GL GR s x y f g = refl
+same-octets newline GR GL s x y f g = refl
+same-octets ltr GL GR s x y f g = refl
+same-octets ltr GR GL s x y f g = refl
+same-octets rtl GL GR s x y f g = refl
+same-octets rtl GR GL s x y f g = refl
+same-octets revert GL GR s x y f g = refl
+same-octets revert GR GL s x y f g = refl
+same-octets (ext n xs) GL GR s x y f g = refl
+same-octets (ext n xs) GR GL s x y f g = refl
+
+lazy-one : {s : Sets} {us : List TextUnit} {os : List (Option Standing)} {t w : List ℕ} → Lazy s us os t → Lazy s us os w → t ≡ w
+lazy-one nil nil = refl
+lazy-one {s} (next u o d g m h f r) (next _ _ e g′ m′ h′ f′ r′) =
+    ap₂ (λ x y. designated o ++ (x ++ y)) (same-octets u d e (after o s) h h′ f f′) (lazy-one r r′)
+
+not-both : (u : TextUnit) (a b : Standing) → Preferred u a b → Preferred u b a → ⊥
+not-both (char c k) a b p q =
+    let z : _≡_ {A = ℕ} 0 1 = cc (p .0, q .1) in
+    omega arith
+not-both space a b p q = omega (arith, p .0, q .1)
+not-both tab a b p q = p
+not-both newline a b p q = p
+not-both ltr a b p q = p
+not-both rtl a b p q = p
+not-both revert a b p q = p
+not-both (ext n xs) a b p q = p
+
+one-way : {us : List TextUnit} {os ps : List (Option Standing)} → Before us os ps → Before us ps os → ⊥
+one-way (here u a b p) (here _ _ _ q) = not-both u a b p q
+one-way (here u a b p) (later _ o q) = not-both u a a p p
+one-way (later u o p) (here _ a b q) = not-both u a a q q
+one-way (later u o p) (later _ _ q) = one-way p q
+
+pub one-choice : (us : List TextUnit) (s : Sets) (os : List (Option Standing)) (t : List ℕ) → Legal s → Good us → Chosen us s os t
+    → t ≡ writing us s
+one-choice us s os t l g c = go (first l (c .lazy) (same ∙ writing-length us s)) (c .first (choices us s) (writing us s) w (sym same))
+  where
+    w : Lazy s us (choices us s) (writing us s)
+    w = writing-lazy us s l g
+
+    same : length t ≡ length (writing us s)
+    same = omega (arith, lazy-lower l (c .lazy), writing-length us s, c .shortest (choices us s) (writing us s) w)
+
+    equal : os ≡ choices us s → t ≡ writing us s
+    equal e = lazy-one (subst (λ (ps : List (Option Standing)). Lazy s us ps t) e (c .lazy)) w
+
+    go : (os ≡ choices us s) ⊎ Before us (choices us s) os → (choices us s ≡ os) ⊎ Before us os (choices us s) → t ≡ writing us s
+    go (inl e) y = equal e
+    go (inr x) (inl e) = equal (sym e)
+    go (inr x) (inr y) = absurd (one-way x y)

@@ -1,0 +1,211 @@
+-- The writer's answer is that of document 01's order, exactly (`outcome`): each test of `writerAnswer` is one case. From it: what each
+-- number means (`accepted-where`, `work-room-where`, `too-long-where`, `no-room-where`), the counts and places (`accepted-answer`,
+-- `refused-count`, `refused-place`), and what the output holds (`refused-output`, `accepted-output`).
+use Prim.Native.Nat.{ℕ, _≤_, _<_}
+use native.Mathlib.Omega.{arith}
+use mathlib.Core.Path.{_≡_, refl, sym, ap, _∙_, subst}
+use mathlib.Core.Bool.{Bool, true, false, cond}
+use mathlib.Core.List.{List}
+use mathlib.Core.Option.{Option, none, some, Option·none-ne-some}
+use mathlib.Core.Logic.{_↔_, _⊎_, inl, inr, ⊎-elim}
+use lib.ListN.{length, getD, take}
+use lib.Dec.{ltb}
+use borrow.Author.Tests.{ltb-true, ltb-false, le-ltb, lt-ltb}
+use Rattle.base.specs.Answers.{answer, refusedAt}
+use Rattle.base.specs.Limit as limit
+use Rattle.base.specs.Refusal as refusal
+use Rattle.base.specs.declared.Answer.{Answer}
+use Rattle.base.specs.declared.Unit.{Unit as UnitRecord}
+use Rattle.state.specs.State.{fresh}
+use Rattle.state.specs.Directions.{undirected}
+use Rattle.grammar.specs.Units.{TextUnit}
+use Rattle.shortest.specs.Writing.{cost}
+use Rattle.shortest.specs.Demand.{writeAnswer}
+use Rattle.grammar.specs.Records.{unitRead, listReading}
+use Rattle.shortest.specs.Records.{Checked, fine, faulty, checkRecords, afterCheck, ofReading, workRoom, writerAnswer}
+use Rattle.shortest.specs.Offence.{directionsAfter, noRecord, faultAt, FirstOffends, NoneOffends}
+use Rattle.shortest.specs.Outcome.{Served, Outcome, long-list, offending, short-work, long-writing, short-output, written}
+use Rattle.shortest.proofs.Offence.{offence, no-offence, Number, numbers}
+use Rattle.shortest.proofs.Records.{fine-units, reading-length}
+
+-- number, place and count of an answer
+abbrev Of : (ℕ → ℕ → ℕ → Type 0) → Answer → Type 0
+Of P a = P (a .number) (a .place) (a .count)
+
+module _ (rs : List UnitRecord) (o : List ℕ) (work m : ℕ) where
+  -- the answer is an outcome
+  writing-outcome : (us : List TextUnit) → Served rs o work us → Of (Outcome rs o work m) (writeAnswer us m)
+  unfolding writeAnswer
+  writing-outcome us v = go (ltb limit.octets n) (ltb m n) refl refl
+    where
+      n : ℕ
+      n = cost us (fresh .sets)
+
+      go : (x y : Bool) → ltb limit.octets n ≡ x → ltb m n ≡ y
+          → Of (Outcome rs o work m) (cond x (refusedAt refusal.too-long 0) (cond y (answer refusal.no-room 0 n) (answer refusal.accepted (length us) n)))
+      go true y p q = long-writing us v (ltb-true limit.octets n p)
+      go false true p q = short-output us v (ltb-false limit.octets n p) (ltb-true m n q)
+      go false false p q =
+          subst (λ (k : ℕ). Outcome rs o work m refusal.accepted k n) (sym (reading-length o rs us (v .reading)))
+          (written us v (ltb-false limit.octets n p) (ltb-false m n q))
+
+  is-outcome : Of (Outcome rs o work m) (writerAnswer rs o work m)
+  unfolding writerAnswer
+  is-outcome = list (ltb limit.units (length rs)) refl
+    where
+      reading : length rs ≤ limit.units → checkRecords o rs 0 undirected ≡ fine → workRoom (length rs) ≤ work → (x : Option (List TextUnit)) → listReading o rs ≡ x
+          → Of (Outcome rs o work m) (ofReading x m)
+      reading l c w none e = let f = fine-units o rs 0 undirected c in absurd (Option·none-ne-some (f .units) (sym e ∙ f .reading))
+      reading l c w (some us) e = writing-outcome us (record { list = l; none = no-offence o rs .0 c; room = w; reading = e })
+
+      room : length rs ≤ limit.units → checkRecords o rs 0 undirected ≡ fine → (b : Bool) → ltb work (workRoom (length rs)) ≡ b
+          → Of (Outcome rs o work m) (cond b (refusedAt refusal.no-work-room 0) (ofReading (listReading o rs) m))
+      room l c true e = short-work l (no-offence o rs .0 c) (ltb-true work (workRoom (length rs)) e)
+      room l c false e = reading l c (ltb-false work (workRoom (length rs)) e) (listReading o rs) refl
+
+      check : length rs ≤ limit.units → (c : Checked) → checkRecords o rs 0 undirected ≡ c
+          → Of (Outcome rs o work m) (afterCheck c (cond (ltb work (workRoom (length rs))) (refusedAt refusal.no-work-room 0) (ofReading (listReading o rs) m)))
+      check l fine e = room l e (ltb work (workRoom (length rs))) refl
+      check l (faulty n i) e = offending l (offence o rs n i .0 e)
+
+      list : (b : Bool) → ltb limit.units (length rs) ≡ b
+          → Of (Outcome rs o work m) (cond b (refusedAt refusal.too-long 0)
+          (afterCheck (checkRecords o rs 0 undirected) (cond (ltb work (workRoom (length rs))) (refusedAt refusal.no-work-room 0) (ofReading (listReading o rs) m))))
+      list true e = long-list (ltb-true limit.units (length rs) e)
+      list false e = check (ltb-false limit.units (length rs) e) (checkRecords o rs 0 undirected) refl
+
+  -- an outcome is the answer
+  pub served : (us : List TextUnit) → Served rs o work us → writerAnswer rs o work m ≡ writeAnswer us m
+  unfolding writerAnswer
+  served us v = rw (le-ltb limit.units (length rs) (v .list), no-offence o rs .1 (v .none), le-ltb work (workRoom (length rs)) (v .room), v .reading)
+
+  pub outcome-is : {n p c : ℕ} → Outcome rs o work m n p c → writerAnswer rs o work m ≡ answer n p c
+  unfolding writerAnswer writeAnswer
+  outcome-is (long-list h) = rw (lt-ltb limit.units (length rs) h)
+  outcome-is (offending {n} {i} h f) = rw (le-ltb limit.units (length rs) h, offence o rs n i .1 f)
+  outcome-is (short-work h f w) = rw (le-ltb limit.units (length rs) h, no-offence o rs .1 f, lt-ltb work (workRoom (length rs)) w)
+  outcome-is (long-writing us v h) = served us v ∙ rw (lt-ltb limit.octets (cost us (fresh .sets)) h)
+  outcome-is (short-output us v h k) = served us v ∙ rw (le-ltb limit.octets (cost us (fresh .sets)) h, lt-ltb m (cost us (fresh .sets)) k)
+  outcome-is (written us v h k) =
+      served us v ∙ rw (le-ltb limit.octets (cost us (fresh .sets)) h, le-ltb m (cost us (fresh .sets)) k, reading-length o rs us (v .reading))
+
+  -- the order of the writer's refusals, whole
+  pub outcome : (n p c : ℕ) → (writerAnswer rs o work m ≡ answer n p c) ↔ Outcome rs o work m n p c
+  outcome n p c = (λ e. subst (Of (Outcome rs o work m)) e is-outcome, outcome-is)
+
+-- ---- what each number means
+
+pub offence-number : (o : List ℕ) (rs : List UnitRecord) (n i : ℕ) → FirstOffends o rs n i → Number n
+unfolding faultAt
+offence-number o rs n i f = numbers (unitRead o (getD rs i noRecord)) (directionsAfter o (take i rs) undirected) n (f .offends)
+
+-- none of the other numbers
+apart : (n : ℕ) → Number n → (2 ≤ n) × (n < refusal.no-work-room) × (n ≡ refusal.no-room → ⊥)
+apart n (inl e) = (omega arith, omega arith, λ q. omega arith)
+apart n (inr (inl e)) = (omega arith, omega arith, λ q. omega arith)
+apart n (inr (inr (inl e))) = (omega arith, omega arith, λ q. omega arith)
+apart n (inr (inr (inr e))) = (omega arith, omega arith, λ q. omega arith)
+
+module _ (rs : List UnitRecord) (o : List ℕ) (work m : ℕ) where
+  abbrev number : ℕ
+  number = writerAnswer rs o work m .number
+
+  off : {n i : ℕ} → FirstOffends o rs n i → (2 ≤ n) × (n < refusal.no-work-room) × (n ≡ refusal.no-room → ⊥)
+  off {n} {i} f = apart n (offence-number o rs n i f)
+
+  -- the outcome of a known number, and the number of a known outcome
+  known : {n : ℕ} → number ≡ n → Outcome rs o work m n (writerAnswer rs o work m .place) (writerAnswer rs o work m .count)
+  known e = subst (λ (n : ℕ). Outcome rs o work m n (writerAnswer rs o work m .place) (writerAnswer rs o work m .count)) e (is-outcome rs o work m)
+
+  numbered : {n p c : ℕ} → Outcome rs o work m n p c → number ≡ n
+  numbered x = ap (λ (a : Answer). a .number) (outcome-is rs o work m x)
+
+  -- 0: some reading, every condition met, and the count fits
+  abbrev pub Accepts : Type 0
+  Accepts = (us : List TextUnit) × Served rs o work us × (cost us (fresh .sets) ≤ limit.octets) × (cost us (fresh .sets) ≤ m)
+
+  pub accepted-where : (number ≡ refusal.accepted) ↔ Accepts
+  accepted-where = (λ e. go (known e), λ w. numbered (written (w .0) (w .1) (w .2) (w .3)))
+    where
+      go : {p c : ℕ} → Outcome rs o work m refusal.accepted p c → Accepts
+      go (offending h f) = absurd (omega (arith, off f))
+      go (written us v h k) = (us, v, h, k)
+
+  -- 12: "work room under 72 × (units + 1) octets", and no earlier refusal
+  abbrev pub LacksWorkRoom : Type 0
+  LacksWorkRoom = (length rs ≤ limit.units) × NoneOffends o rs × (work < workRoom (length rs))
+
+  pub work-room-where : (number ≡ refusal.no-work-room) ↔ LacksWorkRoom
+  work-room-where = (λ e. go (known e), λ w. numbered (short-work (w .0) (w .1) (w .2)))
+    where
+      go : {p c : ℕ} → Outcome rs o work m refusal.no-work-room p c → LacksWorkRoom
+      go (offending h f) = absurd (omega (arith, off f))
+      go (short-work h f w) = (h, f, w)
+
+  -- 1: "string or list over 65,535, or shortest writing over it"
+  abbrev pub TooLong : Type 0
+  TooLong = (limit.units < length rs) ⊎ ((us : List TextUnit) × Served rs o work us × (limit.octets < cost us (fresh .sets)))
+
+  pub too-long-where : (number ≡ refusal.too-long) ↔ TooLong
+  too-long-where = (λ e. go (known e), ⊎-elim (λ h. numbered (long-list h)) (λ w. numbered (long-writing (w .0) (w .1) (w .2))))
+    where
+      go : {p c : ℕ} → Outcome rs o work m refusal.too-long p c → TooLong
+      go (long-list h) = inl h
+      go (offending h f) = absurd (omega (arith, off f))
+      go (long-writing us v h) = inr (us, v, h)
+
+  -- 10: the output has fewer octets
+  abbrev pub LacksRoom : Type 0
+  LacksRoom = (us : List TextUnit) × Served rs o work us × (cost us (fresh .sets) ≤ limit.octets) × (m < cost us (fresh .sets))
+
+  pub no-room-where : (number ≡ refusal.no-room) ↔ LacksRoom
+  no-room-where = (λ e. go (known e), λ w. numbered (short-output (w .0) (w .1) (w .2) (w .3)))
+    where
+      go : {p c : ℕ} → Outcome rs o work m refusal.no-room p c → LacksRoom
+      go (offending h f) = absurd (off f .2 refl)
+      go (short-output us v h k) = (us, v, h, k)
+
+  -- 11, 7, 8, 9: the first offending record has that number and stands there
+  pub offends-where : (n i : ℕ) → Number n → (writerAnswer rs o work m ≡ refusedAt n i) ↔ ((length rs ≤ limit.units) × FirstOffends o rs n i)
+  offends-where n i k = (λ e. go k (outcome rs o work m n i 0 .0 e), λ w. outcome-is rs o work m (offending (w .0) (w .1)))
+    where
+      go : {n i c : ℕ} → Number n → Outcome rs o work m n i c → (length rs ≤ limit.units) × FirstOffends o rs n i
+      go k (long-list h) = absurd (omega (arith, apart _ k))
+      go k (offending h f) = (h, f)
+      go k (short-work h f w) = absurd (omega (arith, apart _ k))
+      go k (long-writing us v h) = absurd (omega (arith, apart _ k))
+      go k (short-output us v h l) = absurd (apart _ k .2 refl)
+      go k (written us v h l) = absurd (omega (arith, apart _ k))
+
+  -- ---- counts and places
+
+  -- "A refusal has count 0, but 10 has the count needed."
+  pub refused-count : (number ≡ refusal.accepted → ⊥) → (number ≡ refusal.no-room → ⊥) → writerAnswer rs o work m .count ≡ 0
+  refused-count a b = go (is-outcome rs o work m) a b
+    where
+      go : {n p c : ℕ} → Outcome rs o work m n p c → (n ≡ refusal.accepted → ⊥) → (n ≡ refusal.no-room → ⊥) → c ≡ 0
+      go (long-list h) a b = refl
+      go (offending h f) a b = refl
+      go (short-work h f w) a b = refl
+      go (long-writing us v h) a b = refl
+      go (short-output us v h k) a b = absurd (b refl)
+      go (written us v h k) a b = absurd (a refl)
+
+  -- "Place: .. the unit's index; 0 for 1, 10, 12."
+  pub refused-place : (number ≡ refusal.accepted → ⊥) → (Number number → ⊥) → writerAnswer rs o work m .place ≡ 0
+  refused-place a b = go (is-outcome rs o work m) a b
+    where
+      go : {n p c : ℕ} → Outcome rs o work m n p c → (n ≡ refusal.accepted → ⊥) → (Number n → ⊥) → p ≡ 0
+      go (long-list h) a b = refl
+      go (offending {n} {i} h f) a b = absurd (b (offence-number o rs n i f))
+      go (short-work h f w) a b = refl
+      go (long-writing us v h) a b = refl
+      go (short-output us v h k) a b = refl
+      go (written us v h k) a b = absurd (a refl)
+
+  -- "Accepted is 0, the input's length, and the .. octets written."
+  pub accepted-answer : number ≡ refusal.accepted
+      → (us : List TextUnit) × (listReading o rs ≡ some us) × (writerAnswer rs o work m ≡ answer refusal.accepted (length rs) (cost us (fresh .sets)))
+  accepted-answer e =
+      let w = accepted-where .0 e in
+      (w .0, w .1 .reading, outcome-is rs o work m (written (w .0) (w .1) (w .2) (w .3)))

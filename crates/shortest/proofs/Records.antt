@@ -1,0 +1,197 @@
+-- A list of records has no offending record exactly where some string, its length aside, reads as it (`no-offence-read`): the units of
+-- such a list are good and keep the direction rule (`fine-units`, `units-fine`), so that their writing is such a string. Where its
+-- cost is within the limit it is accepted (`list-written`), and a list that some accepted string reads as is such a list (`read-list`).
+use Prim.Native.Nat.{ℕ, zero, suc, _≤_}
+use native.Mathlib.Omega.{arith}
+use mathlib.Core.Path.{_≡_, refl, sym, ap, _∙_, subst}
+use mathlib.Core.Bool.{Bool, true, false, cond, false≢true}
+use mathlib.Core.List.{List, [], _∷_}
+use mathlib.Core.Option.{Option, none, some, Option·none-ne-some, Option·some-injective}
+use mathlib.Core.Logic.{_↔_}
+use lib.ListN.{length, take, drop}
+use lib.Dec.{eqb}
+use Rattle.base.specs.Kind as kind
+use Rattle.base.specs.Limit as limit
+use Rattle.base.specs.declared.Unit.{Unit as UnitRecord}
+use Rattle.state.specs.State.{fresh}
+use Rattle.state.specs.Directions.{undirected}
+use Rattle.state.specs.declared.directions.Directions.{Directions}
+use Rattle.state.specs.declared.directions.Step.{Step}
+use Rattle.state.specs.declared.directions.Step.the-variants.{Goes, Stops}
+use Rattle.grammar.specs.Units.{TextUnit, char, space, tab, newline, ltr, rtl, revert, ext, unitOf, good}
+use Rattle.grammar.specs.Reading.{direct, Octets, ReadAs}
+use Rattle.grammar.proofs.Rule.{directed, passes, direction-rule}
+use Rattle.shortest.specs.Writing.{cost, writing}
+use Rattle.grammar.specs.Records.{readable, unitRead, prepend, listReading}
+use Rattle.shortest.specs.Records.{fault, own, fine, faulty, onStep, checkRecords}
+use Rattle.shortest.specs.Offence.{NoneOffends, Grammatical}
+use Rattle.shortest.proofs.Costs.{writing-length}
+use Rattle.shortest.proofs.Bounds.{Every, Good}
+use Rattle.shortest.proofs.Written.{Contents}
+use Rattle.shortest.proofs.Shortest.{good-all, accepted, writing-grammatical, within-limit, no-shorter, units-within}
+use Rattle.shortest.proofs.Offence.{no-offence}
+
+-- a reading has a unit for each record
+pub reading-length : (o : List ℕ) (rs : List UnitRecord) (us : List TextUnit) → listReading o rs ≡ some us → length us ≡ length rs
+unfolding listReading
+reading-length o [] us e = ap length (sym (Option·some-injective [] us e))
+reading-length o (r ∷ rs) us e = go (unitRead o r) (listReading o rs) refl e (λ vs q. reading-length o rs vs q)
+  where
+    go : (x : Option TextUnit) (y : Option (List TextUnit)) → listReading o rs ≡ y → prepend x y ≡ some us
+        → ((vs : List TextUnit) → listReading o rs ≡ some vs → length vs ≡ length rs) → length us ≡ suc (length rs)
+    go none y q e k = absurd (Option·none-ne-some us e)
+    go (some u) none q e k = absurd (Option·none-ne-some us e)
+    go (some u) (some vs) q e k = ap length (sym (Option·some-injective (u ∷ vs) us e)) ∙ ap suc (k vs q)
+
+-- ---- good units that keep the direction rule, and lists with no offending record
+
+pub units-fine : (o : List ℕ) (rs : List UnitRecord) (us : List TextUnit) (i : ℕ) (d : Directions) → listReading o rs ≡ some us → Good us
+    → directed us d ≡ true → checkRecords o rs i d ≡ fine
+unfolding checkRecords listReading directed
+units-fine o [] us i d e g h = refl
+units-fine o (r ∷ rs) us i d e g h = go (unitRead o r) (listReading o rs) refl e (λ vs next q gs f. units-fine o rs vs (suc i) next q gs f)
+  where
+    turn : (vs : List TextUnit) (x : Step) → passes x (λ next. directed vs next) ≡ true
+        → ((next : Directions) → directed vs next ≡ true → checkRecords o rs (suc i) next ≡ fine) → onStep x i (λ next. checkRecords o rs (suc i) next) ≡ fine
+    turn vs (Stops n) h k = absurd (false≢true h)
+    turn vs (Goes next) h k = k next h
+
+    go : (x : Option TextUnit) (y : Option (List TextUnit)) → listReading o rs ≡ y → prepend x y ≡ some us
+        → ((vs : List TextUnit) (next : Directions) → listReading o rs ≡ some vs → Good vs → directed vs next ≡ true → checkRecords o rs (suc i) next ≡ fine)
+        → onStep (fault x d) i (λ next. checkRecords o rs (suc i) next) ≡ fine
+    go none y q e k = absurd (Option·none-ne-some us e)
+    go (some u) none q e k = absurd (Option·none-ne-some us e)
+    go (some u) (some vs) q e k =
+        let s = Option·some-injective (u ∷ vs) us e in
+        let g′ : Good (u ∷ vs) = subst Good (sym s) g in
+        let h′ : passes (direct d u) (λ next. directed vs next) ≡ true = subst (λ (w : List TextUnit). directed w d ≡ true) (sym s) h in
+        rw (g′ .0) (turn vs (direct d u) h′ (λ next f. k vs next q (g′ .1) f))
+
+-- the units of a list with no offending record
+pub record Fine (o : List ℕ) (rs : List UnitRecord) (d : Directions) : Type 0 where
+  pub units : List TextUnit
+  pub reading : listReading o rs ≡ some units
+  pub good-ones : Good units
+  pub rule : directed units d ≡ true
+
+pub fine-units : (o : List ℕ) (rs : List UnitRecord) (i : ℕ) (d : Directions) → checkRecords o rs i d ≡ fine → Fine o rs d
+unfolding checkRecords listReading directed
+fine-units o [] i d e = record { units = []; reading = refl; good-ones = tt; rule = refl }
+fine-units o (r ∷ rs) i d e = go (unitRead o r) refl e (λ next q. fine-units o rs (suc i) next q)
+  where
+    never : (n j : ℕ) → faulty n j ≡ fine → ⊥
+    never n j q =
+        let z : _≡_ {A = ℕ} 0 1 = cc in
+        omega arith
+
+    step : (u : TextUnit) → unitRead o r ≡ some u → good u ≡ true → (x : Step) → direct d u ≡ x → onStep x i (λ next. checkRecords o rs (suc i) next) ≡ fine
+        → ((next : Directions) → checkRecords o rs (suc i) next ≡ fine → Fine o rs next) → Fine o (r ∷ rs) d
+    step u p g (Stops n) q e k = absurd (never n i e)
+    step u p g (Goes next) q e k =
+        let f = k next e in
+        record {
+          units = u ∷ f .units;
+          reading = rw (p, f .reading);
+          good-ones = (g, f .good-ones);
+          rule = rw q (f .rule);
+        }
+
+    test : (u : TextUnit) → unitRead o r ≡ some u → (b : Bool) → good u ≡ b → onStep (cond b (direct d u) (Stops (own u))) i (λ next. checkRecords o rs (suc i) next) ≡ fine
+        → ((next : Directions) → checkRecords o rs (suc i) next ≡ fine → Fine o rs next) → Fine o (r ∷ rs) d
+    test u p true g e k = step u p g (direct d u) refl e k
+    test u p false g e k = absurd (never (own u) i e)
+
+    go : (x : Option TextUnit) → unitRead o r ≡ x → onStep (fault x d) i (λ next. checkRecords o rs (suc i) next) ≡ fine
+        → ((next : Directions) → checkRecords o rs (suc i) next ≡ fine → Fine o rs next) → Fine o (r ∷ rs) d
+    go none p e k = absurd (never 11 i e)
+    go (some u) p e k = test u p (good u) refl e k
+
+-- ---- the octets of extended segments
+
+drop-octets : (n : ℕ) (xs : List ℕ) → Octets xs → Octets (drop n xs)
+drop-octets zero xs o = o
+drop-octets (suc n) [] o = o
+drop-octets (suc n) (x ∷ xs) o = drop-octets n xs (λ i. o (suc i))
+
+take-octets : (n : ℕ) (xs : List ℕ) → Octets xs → Octets (take n xs)
+take-octets zero xs o i = omega arith
+take-octets (suc n) [] o i = o i
+take-octets (suc n) (x ∷ xs) o zero = o 0
+take-octets (suc n) (x ∷ xs) o (suc i) = take-octets n xs (λ j. o (suc j)) i
+
+unit-contents : (k c code : ℕ) (xs : List ℕ) → Octets xs → Contents (unitOf k c code xs)
+unfolding unitOf
+unit-contents k c code xs o =
+    go (eqb k kind.character) (char c code) _ tt
+    (go (eqb k kind.space) space _ tt
+    (go (eqb k kind.tab) tab _ tt
+    (go (eqb k kind.newline) newline _ tt
+    (go (eqb k kind.left-to-right) ltr _ tt
+    (go (eqb k kind.right-to-left) rtl _ tt (go (eqb k kind.revert) revert (ext code xs) tt o))))))
+  where
+    go : (b : Bool) (u v : TextUnit) → Contents u → Contents v → Contents (cond b u v)
+    go true u v x y = x
+    go false u v x y = y
+
+pub list-contents : (o : List ℕ) (rs : List UnitRecord) (us : List TextUnit) → Octets o → listReading o rs ≡ some us → Every Contents us
+unfolding listReading unitRead
+list-contents o [] us h e = subst (Every Contents) (Option·some-injective [] us e) tt
+list-contents o (r ∷ rs) us h e = go (readable o r) (listReading o rs) refl e (λ vs q. list-contents o rs vs h q)
+  where
+    u : TextUnit
+    u = unitOf (r .kind) (r .set) (r .code) (take (r .length) (drop (r .start) o))
+
+    go : (b : Bool) (y : Option (List TextUnit)) → listReading o rs ≡ y → prepend (cond b (some u) none) y ≡ some us
+        → ((vs : List TextUnit) → listReading o rs ≡ some vs → Every Contents vs) → Every Contents us
+    go false y q e k = absurd (Option·none-ne-some us e)
+    go true none q e k = absurd (Option·none-ne-some us e)
+    go true (some vs) q e k =
+        subst (Every Contents) (Option·some-injective (u ∷ vs) us e) (
+          unit-contents (r .kind) (r .set) (r .code) (take (r .length) (drop (r .start) o)) (take-octets (r .length) (drop (r .start) o) (drop-octets (r .start) o h)),
+          k vs q,
+        )
+
+-- ---- the theorems
+
+-- the writing of a list with no offending record reads as the list
+pub list-grammatical : (o : List ℕ) (rs : List UnitRecord) (us : List TextUnit) → Octets o → checkRecords o rs 0 undirected ≡ fine → listReading o rs ≡ some us
+    → Grammatical (writing us (fresh .sets)) us
+list-grammatical o rs us h c e =
+    let f = fine-units o rs 0 undirected c in
+    let s : f .units ≡ us = Option·some-injective (f .units) us (sym (f .reading) ∙ e) in
+    writing-grammatical us (subst Good s (f .good-ones)) (list-contents o rs us h e)
+    (direction-rule us .0 (subst (λ (w : List TextUnit). directed w undirected ≡ true) s (f .rule)))
+
+-- and is accepted, where it is not over the limit
+pub list-written : (o : List ℕ) (rs : List UnitRecord) (us : List TextUnit) → Octets o → checkRecords o rs 0 undirected ≡ fine → listReading o rs ≡ some us
+    → cost us (fresh .sets) ≤ limit.octets → ReadAs (writing us (fresh .sets)) us
+list-written o rs us h c e l = within-limit (list-grammatical o rs us h c e) (omega (arith, writing-length us (fresh .sets)))
+
+abbrev pub SomeString : List ℕ → List UnitRecord → Type 0
+SomeString o rs = (us : List TextUnit) × (t : List ℕ) × (listReading o rs ≡ some us) × Grammatical t us
+
+fine-read : (o : List ℕ) (rs : List UnitRecord) → Octets o → (checkRecords o rs 0 undirected ≡ fine) ↔ SomeString o rs
+fine-read o rs h = (
+  λ c. let f = fine-units o rs 0 undirected c in
+      (f .units, writing (f .units) (fresh .sets), f .reading, list-grammatical o rs (f .units) h c (f .reading)),
+  λ w. units-fine o rs (w .0) 0 undirected (w .2) (good-all (w .3 .reads)) (direction-rule (w .0) .1 (w .3 .rule)),
+)
+
+-- no record offends exactly where some string, its length aside, reads as the list
+pub no-offence-read : (o : List ℕ) (rs : List UnitRecord) → Octets o → NoneOffends o rs ↔ SomeString o rs
+no-offence-read o rs h = (λ n. fine-read o rs h .0 (no-offence o rs .1 n), λ w. no-offence o rs .0 (fine-read o rs h .1 w))
+
+-- a list that some accepted string reads as is not too long, and has no offending record and no writing over the limit
+pub record ReadList (o : List ℕ) (rs : List UnitRecord) (us : List TextUnit) : Type 0 where
+  pub short : length rs ≤ limit.units
+  pub none : NoneOffends o rs
+  pub within : cost us (fresh .sets) ≤ limit.octets
+
+pub read-list : (o : List ℕ) (rs : List UnitRecord) (us : List TextUnit) (t : List ℕ) → listReading o rs ≡ some us → ReadAs t us → ReadList o rs us
+read-list o rs us t e r =
+    let a = accepted r in
+    record {
+      short = omega (arith, units-within r, reading-length o rs us e);
+      none = no-offence o rs .0 (units-fine o rs us 0 undirected e (good-all (a .reads)) (direction-rule us .1 (a .rule)));
+      within = omega (arith, no-shorter r, a .short);
+    }

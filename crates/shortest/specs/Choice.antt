@@ -1,0 +1,76 @@
+-- Document 01, "The writer's choice", in its own words: the strings among which the writer chooses, and the one that it gives. That it
+-- is the string that `writing` computes is proved in proofs/Choice.antt.
+use Prim.Native.Nat.{ℕ, _≤_}
+use mathlib.Core.Path.{_≡_}
+use mathlib.Core.Bool.{true, false}
+use mathlib.Core.List.{List, [], _∷_, _++_}
+use mathlib.Core.Option.{Option, none, some}
+use mathlib.Core.Logic.{_⊎_}
+use lib.ListN.{length}
+use Rattle.charset.specs.declared.Side.{Side}
+use Rattle.charset.specs.declared.Side.the-variants.{GL, GR}
+use Rattle.charset.specs.Charsets.{allowed}
+use Rattle.state.specs.State.{Standing, get}
+use Rattle.state.specs.declared.Sets.{Sets}
+use Rattle.grammar.specs.Units.{TextUnit, char, space, tab, newline, ltr, rtl, revert, ext, octets, good}
+use Rattle.grammar.specs.Grammar.{Shows}
+use Rattle.shortest.specs.Writing.{stands, after, designated}
+
+-- a set on a side that has what a unit needs: a character's set on a side "it may use", and "a space needs set 0 or 2 in GL"
+abbrev pub Serves : TextUnit → Standing → Type 0
+Serves (char c k) p = (p .set ≡ c) × (allowed (p .side) (p .set) ≡ true)
+Serves space p = (p .side ≡ GL) × ((p .set ≡ 0) ⊎ (p .set ≡ 2))
+Serves tab p = ⊥
+Serves newline p = ⊥
+Serves ltr p = ⊥
+Serves rtl p = ⊥
+Serves revert p = ⊥
+Serves (ext e xs) p = ⊥
+
+-- what may stand directly before a unit: "A designation stands only directly before a character or space whose set stands on no side it
+-- may use"
+abbrev pub MayPrecede : TextUnit → Sets → Option Standing → Type 0
+MayPrecede u s none = Unit {0}
+MayPrecede u s (some p) = Serves u p × ((q : Standing) → Serves u q → stands q s ≡ false)
+
+-- "A set on both sides is used in GL."
+abbrev pub LeftFirst : TextUnit → Side → Sets → Type 0
+LeftFirst (char c k) d s = get GL s ≡ c → d ≡ GL
+LeftFirst space d s = Unit {0}
+LeftFirst tab d s = Unit {0}
+LeftFirst newline d s = Unit {0}
+LeftFirst ltr d s = Unit {0}
+LeftFirst rtl d s = Unit {0}
+LeftFirst revert d s = Unit {0}
+LeftFirst (ext e xs) d s = Unit {0}
+
+-- such a string of units from sets in force, with what it designates before each unit
+pub data Lazy : Sets → List TextUnit → List (Option Standing) → List ℕ → Type 0 where
+  nil : {s : Sets} → Lazy s [] [] []
+  next : {s : Sets} {us : List TextUnit} {os : List (Option Standing)} {t : List ℕ} (u : TextUnit) (o : Option Standing) (d : Side)
+      → good u ≡ true → MayPrecede u s o → Shows u d (after o s) → LeftFirst u d (after o s) → Lazy (after o s) us os t
+      → Lazy s (u ∷ us) (o ∷ os) (designated o ++ (octets d u ++ t))
+
+-- "GL goes before GR, and for a space set 0 before set 2"
+abbrev pub Preferred : TextUnit → Standing → Standing → Type 0
+Preferred (char c k) a b = (a .side ≡ GL) × (b .side ≡ GR)
+Preferred space a b = (a .set ≡ 0) × (b .set ≡ 2)
+Preferred tab a b = ⊥
+Preferred newline a b = ⊥
+Preferred ltr a b = ⊥
+Preferred rtl a b = ⊥
+Preferred revert a b = ⊥
+Preferred (ext e xs) a b = ⊥
+
+-- "at the first difference": what the first designates there is preferred to what the second does
+pub data Before : List TextUnit → List (Option Standing) → List (Option Standing) → Type 0 where
+  here : {us : List TextUnit} {os ps : List (Option Standing)} (u : TextUnit) (a b : Standing) → Preferred u a b
+      → Before (u ∷ us) (some a ∷ os) (some b ∷ ps)
+  later : {us : List TextUnit} {os ps : List (Option Standing)} (u : TextUnit) (o : Option Standing) → Before us os ps
+      → Before (u ∷ us) (o ∷ os) (o ∷ ps)
+
+-- "Among the shortest such strings, at the first difference .."
+pub record Chosen (us : List TextUnit) (s : Sets) (os : List (Option Standing)) (t : List ℕ) : Type 0 where
+  pub lazy : Lazy s us os t
+  pub shortest : (ps : List (Option Standing)) (w : List ℕ) → Lazy s us ps w → length t ≤ length w
+  pub first : (ps : List (Option Standing)) (w : List ℕ) → Lazy s us ps w → length w ≡ length t → (ps ≡ os) ⊎ Before us os ps

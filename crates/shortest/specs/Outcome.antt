@@ -1,0 +1,34 @@
+-- What the writer answers, case by case: "Writer order: 1 for the list, the first offending unit (11, 7, 8, 9), 12, 1 for the writing,
+-- 10." That `writerAnswer` gives exactly this is proved in proofs/Outcome.antt.
+use Prim.Native.Nat.{ℕ, _≤_, _<_}
+use mathlib.Core.Path.{_≡_}
+use mathlib.Core.List.{List}
+use mathlib.Core.Option.{some}
+use lib.ListN.{length}
+use Rattle.base.specs.Limit as limit
+use Rattle.base.specs.Refusal as refusal
+use Rattle.base.specs.declared.Unit.{Unit as UnitRecord}
+use Rattle.state.specs.State.{fresh}
+use Rattle.grammar.specs.Units.{TextUnit}
+use Rattle.shortest.specs.Writing.{cost}
+use Rattle.grammar.specs.Records.{listReading}
+use Rattle.shortest.specs.Records.{workRoom}
+use Rattle.shortest.specs.Offence.{FirstOffends, NoneOffends}
+
+-- a list that is not too long, with no offending unit, of a reading, and with the work room that it needs
+pub record Served (rs : List UnitRecord) (o : List ℕ) (work : ℕ) (us : List TextUnit) : Type 0 where
+  pub list : length rs ≤ limit.units
+  pub none : NoneOffends o rs
+  pub room : workRoom (length rs) ≤ work
+  pub reading : listReading o rs ≡ some us
+
+-- number, place and count of the answer, for an output of m octets
+pub data Outcome (rs : List UnitRecord) (o : List ℕ) (work m : ℕ) : ℕ → ℕ → ℕ → Type 0 where
+  long-list : limit.units < length rs → Outcome rs o work m refusal.too-long 0 0
+  offending : {n i : ℕ} → length rs ≤ limit.units → FirstOffends o rs n i → Outcome rs o work m n i 0
+  short-work : length rs ≤ limit.units → NoneOffends o rs → work < workRoom (length rs) → Outcome rs o work m refusal.no-work-room 0 0
+  long-writing : (us : List TextUnit) → Served rs o work us → limit.octets < cost us (fresh .sets) → Outcome rs o work m refusal.too-long 0 0
+  short-output : (us : List TextUnit) → Served rs o work us → cost us (fresh .sets) ≤ limit.octets → m < cost us (fresh .sets)
+      → Outcome rs o work m refusal.no-room 0 (cost us (fresh .sets))
+  written : (us : List TextUnit) → Served rs o work us → cost us (fresh .sets) ≤ limit.octets → cost us (fresh .sets) ≤ m
+      → Outcome rs o work m refusal.accepted (length rs) (cost us (fresh .sets))

@@ -1,0 +1,81 @@
+-- The writer over unit records: their reading, the refusals in their order, the answer and the output.
+use Prim.Native.Nat.{ℕ, suc, _+_, _*_}
+use mathlib.Core.Bool.{Bool, cond, _&&_}
+use mathlib.Core.List.{List, [], _∷_}
+use mathlib.Core.Option.{Option, none, some}
+use lib.ListN.{length, take, drop}
+use lib.Dec.{eqb, leb, ltb}
+use Rattle.base.specs.Answers.{refusedAt}
+use Rattle.base.specs.Kind as kind
+use Rattle.base.specs.Limit as limit
+use Rattle.base.specs.Refusal as refusal
+use Rattle.base.specs.declared.Answer.{Answer}
+use Rattle.base.specs.declared.Unit.{Unit as UnitRecord}
+use Rattle.state.specs.Directions.{undirected}
+use Rattle.state.specs.declared.directions.Directions.{Directions}
+use Rattle.state.specs.declared.directions.Step.{Step}
+use Rattle.state.specs.declared.directions.Step.the-variants.{Goes, Stops}
+use Rattle.grammar.specs.Units.{TextUnit, char, space, tab, newline, ltr, rtl, revert, ext, unitOf, good}
+use Rattle.grammar.specs.Reading.{direct}
+use Rattle.grammar.specs.Records.{readable, unitRead, prepend, listReading}
+use Rattle.shortest.specs.Demand.{writeAnswer, outputAfter}
+
+-- the refusal of a unit by itself: 11 for "kind, set, code not used in its set, d outside 30-34, or a part outside its octets", 7 for a
+-- "bad extended segment; in a unit also n over 16,383"
+abbrev pub own : TextUnit → ℕ
+own (char c k) = refusal.bad-unit
+own space = refusal.bad-unit
+own tab = refusal.bad-unit
+own newline = refusal.bad-unit
+own ltr = refusal.bad-unit
+own rtl = refusal.bad-unit
+own revert = refusal.bad-unit
+own (ext e xs) = cond (leb 0x30 e && leb e 0x34) refusal.bad-segment refusal.bad-unit
+
+-- "the first offending unit (11, 7, 8, 9)": its own refusal before the direction rule's
+abbrev pub fault : Option TextUnit → Directions → Step
+fault none d = Stops refusal.bad-unit
+fault (some u) d = cond (good u) (direct d u) (Stops (own u))
+
+-- the first offending record: its number and index
+pub data Checked : Type 0 where
+  fine : Checked
+  faulty : ℕ → ℕ → Checked
+
+abbrev pub onStep : Step → ℕ → (Directions → Checked) → Checked
+onStep (Goes d) i f = f d
+onStep (Stops n) i f = faulty n i
+
+-- of records that are counted from i
+unfoldable pub checkRecords : List ℕ → List UnitRecord → ℕ → Directions → Checked
+checkRecords o [] i d = fine
+checkRecords o (r ∷ rs) i d = onStep (fault (unitRead o r) d) i (λ next. checkRecords o rs (suc i) next)
+
+abbrev pub afterCheck : Checked → Answer → Answer
+afterCheck fine a = a
+afterCheck (faulty n i) a = refusedAt n i
+
+abbrev pub ofReading : Option (List TextUnit) → ℕ → Answer
+ofReading none m = refusedAt refusal.bad-unit 0
+ofReading (some us) m = writeAnswer us m
+
+-- "work room under 72 × (units + 1) octets"
+abbrev pub workRoom : ℕ → ℕ
+workRoom n = 72 * (n + 1)
+
+-- "Writer order: 1 for the list, the first offending unit (11, 7, 8, 9), 12, 1 for the writing, 10."; work and out are the octets of the
+-- work room and of the output
+unfoldable pub writerAnswer : List UnitRecord → List ℕ → ℕ → ℕ → Answer
+writerAnswer rs o work out =
+    cond (ltb limit.units (length rs)) (refusedAt refusal.too-long 0)
+    (afterCheck (checkRecords o rs 0 undirected)
+    (cond (ltb work (workRoom (length rs))) (refusedAt refusal.no-work-room 0) (ofReading (listReading o rs) out)))
+
+abbrev pub outputOf : Option (List TextUnit) → List ℕ → List ℕ
+outputOf none out = out
+outputOf (some us) out = outputAfter us out
+
+-- the output after the call: "Refusals leave answer lists and output untouched"
+unfoldable pub writerOutput : List UnitRecord → List ℕ → ℕ → List ℕ → List ℕ
+writerOutput rs o work out =
+    cond (eqb (writerAnswer rs o work (length out) .number) refusal.accepted) (outputOf (listReading o rs) out) out

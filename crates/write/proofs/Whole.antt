@@ -1,0 +1,117 @@
+-- The answer and the output after the list is checked and its records stand in their rows are those of the writer.
+use Prim.Native.Nat.{ℕ, _+_, _≤_, _<_}
+use native.Mathlib.Omega.{arith}
+use mathlib.Core.Path.{_≡_, refl, sym, ap, _∙_, subst}
+use mathlib.Core.Bool.{Bool, true, false, cond}
+use mathlib.Core.List.{List}
+use mathlib.Core.Logic.{_⊎_, inl, inr}
+use mathlib.Core.Option.{some}
+use lib.Dec.{ltb, eqb}
+use lib.ListN.{length, getD}
+use borrow.Author.Tests.{ltb-true, ltb-false, lt-ltb, le-ltb, le-leb, ne-eqb}
+use Rattle.base.specs.Choice.{pick}
+use Rattle.base.specs.Limit as limit
+use Rattle.base.specs.Refusal as refusal
+use Rattle.base.specs.declared.Answer.{Answer}
+use Rattle.base.specs.declared.Unit.{Unit as UnitRecord}
+use Rattle.state.specs.Directions.{undirected}
+use Rattle.state.specs.declared.directions.Directions.{Directions}
+use Rattle.grammar.specs.Units.{TextUnit}
+use Rattle.shortest.specs.Demand.{writeAnswer, outputAfter}
+use Rattle.grammar.specs.Records.{listReading}
+use Rattle.shortest.specs.Records.{checkRecords, fine, faulty, workRoom, writerAnswer, writerOutput}
+use Rattle.shortest.specs.Offence.{noRecord}
+use Rattle.shortest.specs.Demand3.{Demand3For}
+use Rattle.shortest.proofs.Demand3.{writer-demand3}
+use Rattle.shortest.proofs.Records.{fine-units}
+use Rattle.shortest.proofs.Offence.{offence}
+use Rattle.shortest.proofs.Outcome.{offence-number}
+use Rattle.rows.specs.Rows.{unitsIn}
+use Rattle.check_list.specs.Turn.{lookedAt}
+use Rattle.check_list.specs.declared.Progress.{Progress}
+use Rattle.check_list.specs.declared.Progress.the-variants.{Fine, Faulty}
+use Rattle.emit.specs.Emit.{rowsAnswer, rowsOutput}
+use Rattle.write.specs.Stowed.{reached, HoldsRecord, Stowed, finishAnswer, finishOutput}
+use Rattle.write.proofs.Lists.{checkedOf, reached-checked, rows-units}
+
+-- what the writer's definitions say of the answer and the output
+pub record Finished (rs : List UnitRecord) (o : List ℕ) (work : ℕ) (out : List ℕ) (a : Answer) (after : List ℕ) : Type 0 where
+  pub answers : a ≡ writerAnswer rs o work (length out)
+  pub output : after ≡ writerOutput rs o work out
+
+module _ (rs : List UnitRecord) (o before after out : List ℕ) where
+  -- a list that is too long
+  long : limit.units < length rs → (p : Progress) → Finished rs o (length before) out (finishAnswer p (length rs) o after (length out)) (finishOutput p (length rs) o after out)
+  unfolding finishAnswer finishOutput writerAnswer writerOutput pick
+  long h p = let l = lt-ltb limit.units (length rs) h in record { answers = rw l; output = rw l }
+
+  module _ (h : length rs ≤ limit.units) where
+    offends : (n i : ℕ) → checkRecords o rs 0 undirected ≡ faulty n i
+        → Finished rs o (length before) out (finishAnswer (Faulty n i) (length rs) o after (length out)) (finishOutput (Faulty n i) (length rs) o after out)
+    unfolding finishAnswer finishOutput writerAnswer writerOutput pick
+    offends n i e =
+        let l = le-ltb limit.units (length rs) h in
+        let z = ne-eqb n 0 (number (offence-number o rs n i (offence o rs n i .0 e))) in
+        record { answers = rw (l, e); output = rw (l, e, z) }
+      where
+        number : (n ≡ refusal.bad-unit) ⊎ (n ≡ refusal.bad-segment) ⊎ (n ≡ refusal.direction) ⊎ (n ≡ refusal.too-deep) → n ≡ 0 → ⊥
+        number (inl q) k = omega arith
+        number (inr (inl q)) k = omega arith
+        number (inr (inr (inl q))) k = omega arith
+        number (inr (inr (inr q))) k = omega arith
+
+    module _ (d : Directions) (e : checkRecords o rs 0 undirected ≡ fine) (us : List TextUnit) (er : listReading o rs ≡ some us) where
+      short : length before ≡ length after → length after < workRoom (length rs)
+          → Finished rs o (length before) out (finishAnswer (Fine d) (length rs) o after (length out)) (finishOutput (Fine d) (length rs) o after out)
+      unfolding finishAnswer finishOutput rowsAnswer rowsOutput writerAnswer writerOutput pick
+      short s w =
+          let l = le-ltb limit.units (length rs) h in
+          let m = lt-ltb (length after) (workRoom (length rs)) w in
+          record { answers = rw (l, e, s, m); output = rw (l, e, s, m) }
+
+      written : length before ≡ length after → workRoom (length rs) ≤ length after → unitsIn o after 0 (length rs) ≡ us
+          → Finished rs o (length before) out (finishAnswer (Fine d) (length rs) o after (length out)) (finishOutput (Fine d) (length rs) o after out)
+      unfolding finishAnswer finishOutput rowsAnswer rowsOutput writerAnswer writerOutput pick
+      written s w u =
+          let l = le-ltb limit.units (length rs) h in
+          let m = le-ltb (length after) (workRoom (length rs)) w in
+          record { answers = rw (l, e, s, m, er, u); output = rw (l, e, s, m, er, u) (same (eqb (writeAnswer us (length out) .number) refusal.accepted)) }
+        where
+          same : (b : Bool) → pick b (outputAfter us out) out ≡ cond b (outputAfter us out) out
+          same true = refl
+          same false = refl
+
+  pub finished : Stowed o rs (lookedAt (length rs)) before after
+      → Finished rs o (length before) out (finishAnswer (reached o rs (lookedAt (length rs))) (length rs) o after (length out)) (finishOutput (reached o rs (lookedAt (length rs))) (length rs) o after out)
+  unfolding lookedAt pick
+  finished s = go (ltb limit.units (length rs)) refl
+    where
+      fits : (h : length rs ≤ limit.units) → Stowed o rs (length rs) before after → (p : Progress) → reached o rs (length rs) ≡ p
+          → Finished rs o (length before) out (finishAnswer p (length rs) o after (length out)) (finishOutput p (length rs) o after out)
+      fits h s (Faulty n i) e = offends h n i (reached-checked o rs ∙ ap checkedOf e)
+      fits h s (Fine d) e =
+          let c : checkRecords o rs 0 undirected ≡ fine = reached-checked o rs ∙ ap checkedOf e in
+          let f = fine-units o rs 0 undirected c in
+          room (ltb (length after) (workRoom (length rs))) refl c (f .units) (f .reading)
+          (λ w. rows-units o after rs 0 (f .units) (λ j k. subst (λ (m : ℕ). HoldsRecord after m (getD rs j noRecord)) (let z : j ≡ 0 + j = omega arith in z) (s .rows d e j k (omega (arith, s .same)))) (f .reading) (f .good-ones))
+        where
+          room : (b : Bool) → ltb (length after) (workRoom (length rs)) ≡ b → checkRecords o rs 0 undirected ≡ fine → (us : List TextUnit) → listReading o rs ≡ some us
+              → (workRoom (length rs) ≤ length after → unitsIn o after 0 (length rs) ≡ us)
+              → Finished rs o (length before) out (finishAnswer (Fine d) (length rs) o after (length out)) (finishOutput (Fine d) (length rs) o after out)
+          room true q c us r u = short h d c us r (sym (s .same)) (ltb-true (length after) (workRoom (length rs)) q)
+          room false q c us r u = let l = ltb-false (length after) (workRoom (length rs)) q in written h d c us r (sym (s .same)) l (u l)
+
+      go : (b : Bool) → ltb limit.units (length rs) ≡ b
+          → Finished rs o (length before) out (finishAnswer (reached o rs (lookedAt (length rs))) (length rs) o after (length out)) (finishOutput (reached o rs (lookedAt (length rs))) (length rs) o after out)
+      go true q = long (ltb-true limit.units (length rs) q) (reached o rs (lookedAt (length rs)))
+      go false q =
+          let h = ltb-false limit.units (length rs) q in
+          let z : lookedAt (length rs) ≡ length rs = rw (le-leb (length rs) limit.units h) in
+          subst (λ (k : ℕ). Finished rs o (length before) out (finishAnswer (reached o rs k) (length rs) o after (length out)) (finishOutput (reached o rs k) (length rs) o after out)) (sym z)
+          (fits h (subst (λ (k : ℕ). Stowed o rs k before after) z s) (reached o rs (length rs)) refl)
+
+-- and so they are what demand 3 asks
+pub demanded : (rs : List UnitRecord) (o : List ℕ) (work : ℕ) (out after : List ℕ) → after ≡ writerOutput rs o work out
+    → Demand3For rs o work out (writerAnswer rs o work (length out)) after
+demanded rs o work out after e =
+    subst (λ (l : List ℕ). Demand3For rs o work out (writerAnswer rs o work (length out)) l) (sym e) (writer-demand3 rs o work out)

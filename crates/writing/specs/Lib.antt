@@ -1,9 +1,0 @@
-pub mod Writing
-pub mod Demand
-pub mod Records
-pub mod Choice
-pub mod Offence
-pub mod Outcome
-pub mod Demand3
-pub mod Unused
-pub mod CheckedStrings

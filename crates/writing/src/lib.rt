@@ -1,1 +1,0 @@
-// No code: what the writer is to give is in specs/, and that nothing shorter is accepted in proofs/.
