@@ -8,8 +8,8 @@ ghost use Rattle.write.specs.Stowed.{reached, Stowed};
 ghost use Rattle.rewrite.specs.Shortest.{shortestAnswer, shortestOutput};
 use base::Answer;
 use base::refusal;
-use cursor::Cursor;
 use check_list::Progress;
+use cursor::Cursor;
 
 // Puts the n units of an accepted string into their rows of the work room.
 fn stow(s: &[u8], n: usize, work: &mut [u8]) -> Progress
