@@ -48,3 +48,14 @@ pub struct Unit {
     pub start: u32,
     pub length: u32,
 }
+
+impl Unit {
+    // A record with nothing in it.
+    pub const BLANK: Unit = Unit {
+        kind: 0,
+        set: 0,
+        code: 0,
+        start: 0,
+        length: 0,
+    };
+}

@@ -1,19 +1,19 @@
--- A turn of the loop of `check`, on plain values: what is left answers what the whole string does, before the turn and after it.
+-- A turn of the loop of `whole`, on plain values: what is left answers what the whole string does, before the turn and after it.
 use Prim.Native.Nat.{ℕ, _+_, _-_, _≤_, _<_}
 use native.Mathlib.Omega.{arith}
 use mathlib.Core.Path.{_≡_, refl, ap, sym, _∙_}
-use mathlib.Core.List.{List, [], _∷_}
+use mathlib.Core.List.{List}
 use lib.ListN.{length}
 use Rattle.base.specs.Answers.{answer, refusedAt}
 use Rattle.base.specs.Choice.{from}
-use Rattle.base.specs.Refusal as refusal
 use Rattle.base.specs.declared.Answer.{Answer}
-use Rattle.base.proofs.Ladder.{from-end, from-from, from-length}
+use Rattle.base.proofs.Ladder.{from-end}
 use Rattle.charset.specs.Charsets.{no-set}
-use Rattle.element.specs.Element.{shapeOf, directedOf, elementOf}
-use Rattle.element.proofs.Sizes.{Sized, element-size, of-refused, of-silent, of-found}
-use Rattle.grammar.specs.Reading.{size, elements, answerOf}
-use Rattle.grammar.proofs.Elements.{elements-end, elements-refused, elements-silent, elements-found}
+use Rattle.element.specs.Element.{elementOf}
+use Rattle.element.proofs.Sizes.{silent, found}
+use Rattle.grammar.specs.Reading.{size, elementsOf, answerOf}
+use Rattle.grammar.proofs.Elements.{at-nothing}
+use Rattle.grammar.proofs.Places.{ahead, at-end, at-refused, at-passed, refused-within, step-passed}
 use Rattle.state.specs.State.{fresh, designatedOf}
 use Rattle.state.specs.declared.State.{State}
 use Rattle.state.specs.declared.elements.Part.{Part}
@@ -24,16 +24,17 @@ use Rattle.stretch.specs.Designation.{designationAt}
 use Rattle.stretch.specs.declared.characters.Stretch.{Stretch}
 use Rattle.stretch.specs.declared.designation.Designation.{Designation}
 use Rattle.stretch.proofs.Designations.{designation-silent}
+use Rattle.stretch.proofs.Law.{units-answer}
 use Rattle.stretch.proofs.Stretches.{stretch-ahead}
 
 abbrev pub whole : List ℕ → Answer
-whole s = answerOf 0 0 (elements s 0 fresh)
+whole s = answerOf 0 (elementsOf s)
 
 -- the loop's invariant: what is left answers what the whole does
 pub record Head (s : List ℕ) (at count : ℕ) (st : State) : Type 0 where
   pub within : at ≤ length s
   pub few : count ≤ at
-  pub same : answerOf at count (elements (from at s) 0 st) ≡ whole s
+  pub same : answerOf count (ahead s at st) ≡ whole s
 
 pub head-first : (s : List ℕ) → Head s 0 0 fresh
 unfolding from
@@ -45,57 +46,39 @@ pub record Next (s : List ℕ) (at k m : ℕ) (next : State) : Type 0 where
   pub fits : at + k ≤ length s
   pub head : Head s (at + k) m next
 
--- all octets are read
-ended : (st : State) → End ≡ elementOf [] st
-unfolding shapeOf directedOf
-ended st = refl
-
 module _ (s : List ℕ) (at count : ℕ) (st : State) (e : Element) (is : e ≡ elementOf (from at s) st) (h : Head s at count st) where
-  sized : Sized (length s - at) st e
-  sized = rw (is, ← (from-length s at)) (element-size (from at s) st)
-
   pub turn-end : e ≡ End → answer 0 at count ≡ whole s
   unfolding answerOf
-  turn-end k = sym (ap (answerOf at count) (elements-end (from at s) st (sym is ∙ k))) ∙ h .same
+  turn-end k = sym (ap (answerOf count) (at-end s at st e is k)) ∙ h .same
 
-  pub turn-short : {n o : ℕ} → e ≡ Refused n o → o ≤ length s - at
-  turn-short k = of-refused (rw k at sized)
+  pub turn-short : {n o : ℕ} → e ≡ Refused n o → at + o ≤ length s
+  turn-short k = refused-within s at st e is k
 
   pub turn-refused : {n o : ℕ} → e ≡ Refused n o → refusedAt n (at + o) ≡ whole s
   unfolding answerOf
-  turn-refused k = sym (ap (answerOf at count) (elements-refused (from at s) st (sym is ∙ k))) ∙ h .same
+  turn-refused k = sym (ap (answerOf count) (at-refused s at st e is k)) ∙ h .same
+
+  -- the place after an element, where the count is at most one more
+  on : {k m : ℕ} {next : State} → 1 ≤ k → at + k ≤ length s → m ≤ count + 1 → answerOf m (ahead s (at + k) next) ≡ answerOf count (ahead s at st)
+      → Next s at k m next
+  on some fits few same =
+      record { some = some; fits = fits; head = record { within = fits; few = omega (arith, h .few, some, few); same = same ∙ h .same } }
 
   pub turn-silent : {k : ℕ} {next : State} → e ≡ Silent k next → Next s at k count next
   unfolding answerOf
-  turn-silent {k} {next} i =
-      let z = of-silent (rw i at sized) in
-      record {
-        some = z .0;
-        fits = omega (arith, h .within);
-        head = record {
-          within = omega (arith, h .within);
-          few = omega (arith, h .few);
-          same = rw (← (from-from s at k)) (sym (ap (answerOf at count) (elements-silent (from at s) st (z .0) (sym is ∙ i))) ∙ h .same);
-        };
-      }
+  turn-silent i =
+      let t = step-passed s at st e is silent i in
+      on (t .some) (t .fits) (omega arith) (sym (ap (answerOf count) (at-passed s at st e is silent i)))
 
   pub turn-found : {p : Part} {next : State} → e ≡ Found p next → Next s at (size p) (count + 1) next
   unfolding answerOf
-  turn-found {p} {next} i =
-      let z = of-found (rw i at sized) in
-      record {
-        some = z .0;
-        fits = omega (arith, h .within);
-        head = record {
-          within = omega (arith, h .within);
-          few = omega (arith, h .few);
-          same = rw (← (from-from s at (size p))) (sym (ap (answerOf at count) (elements-found (from at s) st (z .0) (sym is ∙ i))) ∙ h .same);
-        };
-      }
+  turn-found i =
+      let t = step-passed s at st e is found i in
+      on (t .some) (t .fits) (omega arith) (sym (ap (answerOf count) (at-passed s at st e is found i)))
 
 module _ (s : List ℕ) (at count : ℕ) (st : State) (h : Head s at count st) where
   pub turn-done : length s ≤ at → answer 0 at count ≡ whole s
-  turn-done k = turn-end s at count st End (rw (from-end s at k) (ended st)) h refl
+  turn-done k = turn-end s at count st End (rw (from-end s at k) (sym (at-nothing st))) h refl
 
   -- a designation that is found by its octets
   pub turn-designation : (d : Designation) → d ≡ designationAt (from at s) → d .set < no-set → Next s at (d .octets) count (designatedOf (d .side) (d .set) st)
@@ -108,5 +91,5 @@ module _ (s : List ℕ) (at count : ℕ) (st : State) (h : Head s at count st) w
       record {
         some = omega arith;
         fits = a .fits;
-        head = record { within = a .fits; few = omega (arith, h .few, a .few); same = sym (a .same count) ∙ h .same };
+        head = record { within = a .fits; few = omega (arith, h .few, a .few); same = sym (units-answer (a .units) count) ∙ h .same };
       }

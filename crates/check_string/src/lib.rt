@@ -1,6 +1,7 @@
-// The reading of a whole string.
+// The check of a whole string.
 ghost use mathlib.Core.Path.{_≡_};
 ghost use Rattle.grammar.specs.Reading.{checkOf};
+ghost use Rattle.check_string.specs.Checked.{checkedOf};
 use base::Answer;
 use base::limit;
 use base::refusal;
@@ -10,9 +11,14 @@ use state::elements::Element;
 use stretch::characters::stretch_at;
 use stretch::designation::designation_at;
 
-// Whether a string is accepted, and what of it is refused, with no list lent. Designations and stretches of characters are passed at
-// once, and any other element by itself.
-pub fn check(s: &[u8]) -> Answer
+// What is said of a string with no list lent.
+pub struct Checked {
+    pub answer: Answer,
+}
+
+// Whether a string is accepted, and what of it is refused. Designations and stretches of characters are passed at once, and any other
+// element by itself.
+fn whole(s: &[u8]) -> Answer
     ensures { λ r. ⌜ r ≡ checkOf (now (s .entry)) ⌝ }
 {
     if limit::OCTETS < s.len() {
@@ -61,4 +67,19 @@ pub fn check(s: &[u8]) -> Answer
         }
     }
     Answer::accepted(at, count)
+}
+
+// The check of a string.
+pub fn check(s: &[u8]) -> Checked
+    ensures { λ r. ⌜ r ≡ checkedOf (now (s .entry)) ⌝ }
+{
+    Checked { answer: whole(s) }
+}
+
+// Its answer alone, for callers that ask no more.
+pub fn answer(s: &[u8]) -> Answer
+    ensures { λ r. ⌜ r ≡ checkOf (now (s .entry)) ⌝ }
+{
+    let checked = check(s);
+    checked.answer
 }

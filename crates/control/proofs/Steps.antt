@@ -6,10 +6,10 @@ use lib.ListN.{length, getD}
 use Rattle.base.specs.Choice.{from}
 use Rattle.base.proofs.Ladder.{octet, ended}
 use Rattle.state.proofs.Steps.{steps}
-use Rattle.state.specs.declared.elements.Element.{Element}
+use Rattle.state.specs.declared.elements.Shape.{Shape}
 use Rattle.control.specs.Escape.{intermediatesOf}
 
-module _ (s : List ℕ) (at : ℕ) (r : Element) where
+module _ (s : List ℕ) (at : ℕ) (r : Shape) where
   pub on-intermediate : at < length s → r ≡ intermediatesOf (getD s at 0 ∷ from (at + 1) s) → r ≡ intermediatesOf (from at s)
   on-intermediate h e = octet intermediatesOf s at r h e
 

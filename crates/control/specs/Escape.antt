@@ -1,4 +1,4 @@
--- Escape sequences: designations, and what else may follow 1B; functions of the octets that are left and of the state.
+-- Escape sequences: designations, and what else may follow 1B; functions of the octets that are left.
 use Prim.Native.Nat.{ℕ}
 use mathlib.Core.List.{List, [], _∷_}
 use lib.Dec.{eqb, ltb}
@@ -9,13 +9,11 @@ use Rattle.charset.specs.declared.Side.{Side}
 use Rattle.charset.specs.declared.Side.the-variants.{GL, GR}
 use Rattle.segment.specs.Segment.{extendedOf}
 use Rattle.state.specs.Elements.{refused, next}
-use Rattle.state.specs.State.{designatedOf}
-use Rattle.state.specs.declared.State.{State}
-use Rattle.state.specs.declared.elements.Element.{Element}
-use Rattle.state.specs.declared.elements.Element.the-variants.{Silent}
+use Rattle.state.specs.declared.elements.Shape.{Shape}
+use Rattle.state.specs.declared.elements.Shape.the-variants.{Designates}
 
 -- after the first intermediate: further ones 20-2F, "then a final 40-7E; any other octet: 4. A final .. that follows intermediates: 5."
-unfoldable pub intermediatesOf : List ℕ → Element
+unfoldable pub intermediatesOf : List ℕ → Shape
 intermediatesOf [] = refused refusal.cut
 intermediatesOf (b ∷ t) =
     pick (ltb b 0x20) (refused refusal.unknown)
@@ -23,41 +21,41 @@ intermediatesOf (b ∷ t) =
     (pick (ltb b 0x40) (refused refusal.unknown) (pick (ltb b 0x7F) (refused refusal.not-approved) (refused refusal.unknown))))
 
 -- a designation of a set, whose octets are four for 94 by 94 and else three: "A final that is no row of the table for that form .. : 5."
-unfoldable pub designatesOf : ℕ → Side → ℕ → State → Element
-designatesOf form side set st =
+unfoldable pub designatesOf : ℕ → Side → ℕ → Shape
+designatesOf form side set =
     pick (ltb set no-set)
-    (pick (eqb form form-94x94) (Silent 4 (designatedOf side set st)) (Silent 3 (designatedOf side set st)))
+    (pick (eqb form form-94x94) (Designates 4 side set) (Designates 3 side set))
     (refused refusal.not-approved)
 
 -- a final octet
-abbrev pub finalOf : ℕ → Side → ℕ → State → Element
-finalOf form side last st = designatesOf form side (setOf form side last) st
+abbrev pub finalOf : ℕ → Side → ℕ → Shape
+finalOf form side last = designatesOf form side (setOf form side last)
 
 -- after 1B 28, 1B 29, 1B 2D, 1B 24 28, 1B 24 29: "zero or more intermediates 20-2F, the first of them 21-23 (else 4), then a final 40-7E"
-unfoldable pub designationOf : ℕ → Side → List ℕ → State → Element
-designationOf form side t st =
+unfoldable pub designationOf : ℕ → Side → List ℕ → Shape
+designationOf form side t =
     next t
     (λ b u.
     pick (ltb b 0x21) (refused refusal.unknown)
     (pick (ltb b 0x24) (intermediatesOf u)
     (pick (ltb b 0x40) (refused refusal.unknown)
-    (pick (ltb b 0x7F) (finalOf form side b st) (refused refusal.unknown)))))
+    (pick (ltb b 0x7F) (finalOf form side b) (refused refusal.unknown)))))
 
 -- after 1B 24
-unfoldable pub multiOctetOf : List ℕ → State → Element
-multiOctetOf t st =
+unfoldable pub multiOctetOf : List ℕ → Shape
+multiOctetOf t =
     next t
     (λ b u.
-    pick (eqb b 0x28) (designationOf form-94x94 GL u st)
-    (pick (eqb b 0x29) (designationOf form-94x94 GR u st) (refused refusal.unknown)))
+    pick (eqb b 0x28) (designationOf form-94x94 GL u)
+    (pick (eqb b 0x29) (designationOf form-94x94 GR u) (refused refusal.unknown)))
 
 -- after 1B: "`1B 23`, whatever follows: 6"; "Any other octet in an escape or CSI sequence: 4."
-unfoldable pub escapeOf : List ℕ → State → Element
-escapeOf t st =
+unfoldable pub escapeOf : List ℕ → Shape
+escapeOf t =
     next t
     (λ b u.
-    pick (eqb b 0x28) (designationOf form-94 GL u st)
-    (pick (eqb b 0x29) (designationOf form-94 GR u st)
-    (pick (eqb b 0x2D) (designationOf form-96 GR u st)
-    (pick (eqb b 0x24) (multiOctetOf u st)
-    (pick (eqb b 0x25) (extendedOf u st) (pick (eqb b 0x23) (refused refusal.version) (refused refusal.unknown)))))))
+    pick (eqb b 0x28) (designationOf form-94 GL u)
+    (pick (eqb b 0x29) (designationOf form-94 GR u)
+    (pick (eqb b 0x2D) (designationOf form-96 GR u)
+    (pick (eqb b 0x24) (multiOctetOf u)
+    (pick (eqb b 0x25) (extendedOf u) (pick (eqb b 0x23) (refused refusal.version) (refused refusal.unknown)))))))

@@ -6,12 +6,13 @@ use lib.ListN.{length}
 use Rattle.base.specs.Choice.{from}
 use Rattle.charset.specs.Charsets.{no-set}
 use Rattle.element.specs.Element.{elementOf}
+use Rattle.element.proofs.Sizes.{silent}
 use Rattle.state.specs.State.{fresh}
-use Rattle.grammar.proofs.Places.{step-silent}
+use Rattle.grammar.proofs.Places.{step-passed}
 use Rattle.stretch.specs.Designation.{designationAt}
 use Rattle.stretch.specs.declared.designation.Designation.{Designation}
 use Rattle.stretch.proofs.Designations.{designation-silent}
 
 pub placed-fits : (s : List ℕ) (at : ℕ) (d : Designation) → d ≡ designationAt (from at s) → d .set < no-set → at + d .octets ≤ length s
 placed-fits s at d e h =
-    step-silent s at fresh (elementOf (from at s) fresh) refl (sym (designation-silent (from at s) fresh d e h)) .fits
+    step-passed s at fresh (elementOf (from at s) fresh) refl silent (sym (designation-silent (from at s) fresh d e h)) .fits

@@ -1,10 +1,10 @@
--- The unit at a cursor of a string, if one is ahead, is that of the elements from there on (`advance-ahead`). An element that is not refused is
--- the same under directions that refuse nothing (`by-element`); what is taken for text is the element or is left to it (`text-turns`); and a
--- designation that is passed is the element (`passed-on`).
+-- The unit at a cursor of a string, if one is ahead, is that of the elements from there on (`advance-ahead`), where the cursor's state is like
+-- theirs. An element that is not refused is the same under such a state (`by-element`); what is taken for text is the element or is left to
+-- it (`text-turns`); and a designation that is passed is the element (`passed-on`).
 use Prim.Native.Nat.{ℕ, _+_, _%_, _^_, _≤_, _<_}
 use native.Mathlib.Omega.{arith}
 use native.Mathlib.Nat.{mod-eq-of-lt}
-use mathlib.Core.Path.{_≡_, refl, ap, ap₂, sym, _∙_, subst}
+use mathlib.Core.Path.{_≡_, refl, ap, sym, _∙_, subst}
 use mathlib.Core.Bool.{Bool, true, false}
 use mathlib.Core.List.{List, [], _∷_}
 use lib.Dec.{eqb, ltb}
@@ -14,17 +14,15 @@ use Rattle.base.specs.Choice.{pick, from}
 use Rattle.base.specs.Limit as limit
 use Rattle.base.specs.declared.Unit.{Unit as UnitRecord}
 use Rattle.charset.specs.Charsets.{no-set}
-use Rattle.state.specs.State.{state, on, put, designatedOf}
-use Rattle.state.specs.declared.Sets.{Sets}
+use Rattle.state.specs.State.{designatedOf}
 use Rattle.state.specs.declared.State.{State}
-use Rattle.state.specs.declared.directions.Directions.{Directions}
 use Rattle.state.specs.declared.elements.Part.{Part}
 use Rattle.state.specs.declared.elements.Element.{Element}
 use Rattle.state.specs.declared.elements.Element.the-variants.{End, Refused, Silent, Found}
 use Rattle.element.specs.Element.{elementOf}
-use Rattle.element.proofs.Alike.{free, Freed, freed-silent, freed-found, free-element}
-use Rattle.grammar.specs.Reading.{size}
-use Rattle.grammar.proofs.Places.{ahead, at-silent, at-found, Ahead, ends, stops, passes, reads}
+use Rattle.element.proofs.Sizes.{silent as is-silent, found as is-found}
+use Rattle.grammar.specs.Reading.{Elements, size}
+use Rattle.grammar.proofs.Places.{ahead, at-passed, Ahead, ends, stops, passes, reads}
 use Rattle.stretch.specs.Designation.{designationAt}
 use Rattle.stretch.specs.declared.designation.Designation.{Designation}
 use Rattle.stretch.proofs.Designations.{designation-silent}
@@ -35,80 +33,83 @@ use Rattle.units.specs.declared.Outcome.the-variants.{Gives}
 use Rattle.cursor.specs.Cursor.{cursor, turn, turnOf, elementTurn, placedOf, passedOf, textTurn, advanceAt, advanceOf}
 use Rattle.cursor.specs.declared.Cursor.{Cursor}
 use Rattle.cursor.specs.declared.Turn.{Turn}
+use Rattle.cursor.proofs.Lenient.{Like, like, texted, like-texted, same-sets, Same, silent as same-silent, found as same-found, same-element}
 use Rattle.cursor.proofs.Quick.{Only, refused, found, textPart, textAt, Quick, as-text, as-other, quick-turn}
 
 -- a turn is that of a unit which is given
 pub data Turns : Turn → Outcome → Type 0 where
-  turns : {u : UnitRecord} {place : ℕ} {st : State} → Turns (turn u (cursor place (st .sets))) (Gives u place st)
+  turns : {u : UnitRecord} {place : ℕ} {st to : State} → Like st to → Turns (turn u (cursor place to)) (Gives u place st)
 
 -- ---- any element
 
-silent-is : {k : ℕ} {next : State} {e : Element} → Freed (Silent k next) e → e ≡ Silent k (state (next .sets) free)
-silent-is freed-silent = refl
+silent-is : {k : ℕ} {next : State} {e : Element} → Same (Silent k next) e → (to : State) × ((e ≡ Silent k to) × Like next to)
+silent-is (same-silent {to = to} l) = (to, (refl, l))
 
-found-is : {p : Part} {next : State} {e : Element} → Freed (Found p next) e → (d : Directions) × (e ≡ Found p (state (next .sets) d))
-found-is (freed-found {d = d}) = (d, refl)
+found-is : {p : Part} {next : State} {e : Element} → Same (Found p next) e → (to : State) × ((e ≡ Found p to) × Like next to)
+found-is (same-found {to = to} l) = (to, (refl, l))
 
 module _ (s : List ℕ) where
-  freed : {at : ℕ} {st : State} {es : List Element} → Ahead s at st es → 1 ≤ length (recordsFrom at es) → (c : Cursor)
-      → Turns (turnOf c (outcomeOf at (ahead s at (state (st .sets) free)))) (outcomeOf at es)
+  alike : {at : ℕ} {st to : State} {es : Elements} → Ahead s at st es → Like st to → 1 ≤ length (recordsFrom es) → (c : Cursor)
+      → Turns (turnOf c (outcomeOf (ahead s at to))) (outcomeOf es)
   unfolding recordsFrom outcomeOf turnOf
-  freed (ends e) h c = absurd (omega arith)
-  freed (stops f e) h c = absurd (omega arith)
-  freed {at} {st} (passes t e a) h c =
-      let i = silent-is (rw (t .is) at (free-element (from at s) st)) in
-      rw (at-silent s at (state (st .sets) free) _ refl i) (freed a h c)
-  freed {at} {st} (reads t m e a) h c =
-      let i = found-is (rw (t .is) at (free-element (from at s) st)) in
-      rw (at-found s at (state (st .sets) free) _ refl (i .1)) turns
+  alike (ends e) l h c = absurd (omega arith)
+  alike (stops f e) l h c = absurd (omega arith)
+  alike {at} {to = to} (passes t e a) l h c =
+      let i = silent-is (rw (t .is) at (same-element (from at s) l)) in
+      rw (at-passed s at to _ refl is-silent (i .1 .0)) (alike a (i .1 .1) h c)
+  alike {at} {to = to} (reads t m e a) l h c =
+      let i = found-is (rw (t .is) at (same-element (from at s) l)) in
+      rw (at-passed s at to _ refl is-found (i .1 .0)) (turns (i .1 .1))
 
 module _ (s : List ℕ) (short : length s ≤ limit.octets) where
-  by-element : {at : ℕ} {st : State} {es : List Element} → Ahead s at st es → 1 ≤ length (recordsFrom at es)
-      → Turns (elementTurn s (cursor at (st .sets))) (outcomeOf at es)
+  by-element : {at : ℕ} {st to : State} {es : Elements} → Ahead s at st es → Like st to → 1 ≤ length (recordsFrom es)
+      → Turns (elementTurn s (cursor at to)) (outcomeOf es)
   unfolding elementTurn nextOf pick
-  by-element {at} {st} a h = rw (le-ltb limit.octets (length s) short) (freed s a h (cursor at (st .sets)))
+  by-element {at} {to = to} a l h = rw (le-ltb limit.octets (length s) short) (alike s a l h (cursor at to))
 
   -- ---- text
 
-  same : {p q : Part} {sets : Sets} {next : State} → Only q sets (Found p next) → (q ≡ p) × (sets ≡ next .sets)
-  same found = (refl, refl)
+  same-part : {p q : Part} {st next : State} → Only q st (Found p next) → (q ≡ p) × (texted st ≡ next)
+  same-part found = (refl, refl)
 
-  not-silent : {q : Part} {sets : Sets} {next : State} {e : Element} {k : ℕ} → Only q sets e → e ≡ Silent k next → ⊥
+  not-silent : {q : Part} {st next : State} {e : Element} {k : ℕ} → Only q st e → e ≡ Silent k next → ⊥
   not-silent {next = next} {k = k} (refused {n} {o}) i =
       let h : Refused n o ≡ Silent k next = i in
       let z : _≡_ {A = ℕ} 0 1 = cc in
       omega arith
-  not-silent {q} {sets} {next} {k = k} (found {d}) i =
-      let h : Found q (state sets d) ≡ Silent k next = i in
+  not-silent {q} {st} {next} {k = k} found i =
+      let h : Found q (texted st) ≡ Silent k next = i in
       let z : _≡_ {A = ℕ} 0 1 = cc in
       omega arith
 
-  found-by : {at : ℕ} {sets : Sets} {d : Directions} {p : Part} {next : State} {r other : Turn} → at < 2 ^ 32 → Quick at sets d other (Found p next) r
-      → Turns other (Gives (recordOf p at) (at + size p) next) → Turns r (Gives (recordOf p at) (at + size p) next)
-  found-by h as-other e = e
-  found-by {at} {sets} {d} {p} {next} h (as-text k set code octets o) e =
+  found-by : {at : ℕ} {st to : State} {same : st .sets ≡ to .sets} {p : Part} {next : State} {r other : Turn} → at < 2 ^ 32 → Like st to
+      → Quick at st to same other (Found p next) r → Turns other (Gives (recordOf p at) (at + size p) next)
+      → Turns r (Gives (recordOf p at) (at + size p) next)
+  found-by h l as-other e = e
+  found-by {at} {st} {to} {p = p} {next} h l (as-text k set code octets o) e =
       let m : at % 2 ^ 32 ≡ at + 0 = mod-eq-of-lt h ∙ (let z : at ≡ at + 0 = omega arith in z) in
       let n : at + octets ≡ at + (0 + octets) = omega arith in
-      let a : textAt at sets k set code octets ≡ turn (recordOf (textPart k set code octets) at) (cursor (at + size (textPart k set code octets)) sets) = rw (m, n) in
-      let b = a ∙ ap₂ (λ (q : Part) (to : Sets). turn (recordOf q at) (cursor (at + size q) to)) (same o .0) (same o .1) in
-      subst (λ (x : Turn). Turns x (Gives (recordOf p at) (at + size p) next)) (sym b) turns
+      let a : textAt at to k set code octets ≡ turn (recordOf (textPart k set code octets) at) (cursor (at + size (textPart k set code octets)) to) = rw (m, n) in
+      let b = a ∙ ap (λ (q : Part). turn (recordOf q at) (cursor (at + size q) to)) (same-part o .0) in
+      let g : Like next to = subst (λ (x : State). Like x to) (same-part o .1) (like-texted l) in
+      subst (λ (x : Turn). Turns x (Gives (recordOf p at) (at + size p) next)) (sym b) (turns g)
 
-  silent-by : {at : ℕ} {sets : Sets} {d : Directions} {e : Element} {k : ℕ} {next : State} {r other : Turn} → e ≡ Silent k next → Quick at sets d other e r → r ≡ other
+  silent-by : {at : ℕ} {st to : State} {same : st .sets ≡ to .sets} {e : Element} {k : ℕ} {next : State} {r other : Turn} → e ≡ Silent k next
+      → Quick at st to same other e r → r ≡ other
   silent-by i as-other = refl
   silent-by i (as-text k set code octets o) = absurd (not-silent o i)
 
-  quick : (at : ℕ) (st : State) → Quick at (st .sets) (st .directions) (elementTurn s (cursor at (st .sets))) (elementOf (from at s) st) (textTurn s (cursor at (st .sets)))
+  quick : (at : ℕ) {st to : State} (l : Like st to) → Quick at st to (same-sets l) (elementTurn s (cursor at to)) (elementOf (from at s) st) (textTurn s (cursor at to))
   unfolding textTurn
-  quick at st = quick-turn at (st .sets) (st .directions) (elementTurn s (cursor at (st .sets))) (from at s)
+  quick at {st} {to} l = quick-turn at st to (same-sets l) (elementTurn s (cursor at to)) (from at s)
 
-  text-turns : {at : ℕ} {st : State} {es : List Element} → Ahead s at st es → 1 ≤ length (recordsFrom at es)
-      → Turns (textTurn s (cursor at (st .sets))) (outcomeOf at es)
+  text-turns : {at : ℕ} {st to : State} {es : Elements} → Ahead s at st es → Like st to → 1 ≤ length (recordsFrom es)
+      → Turns (textTurn s (cursor at to)) (outcomeOf es)
   unfolding recordsFrom outcomeOf
-  text-turns (ends e) h = absurd (omega arith)
-  text-turns (stops f e) h = absurd (omega arith)
-  text-turns {at} {st} (passes t e a) h = rw (silent-by (t .is) (quick at st)) (by-element (passes t e a) h)
-  text-turns {at} {st} (reads t m e a) h =
-      found-by (omega (arith, t .fits, short)) (rw (t .is) at (quick at st)) (by-element (reads t m e a) h)
+  text-turns (ends e) l h = absurd (omega arith)
+  text-turns (stops f e) l h = absurd (omega arith)
+  text-turns {at} (passes t e a) l h = rw (silent-by (t .is) (quick at l)) (by-element (passes t e a) l h)
+  text-turns {at} (reads t m e a) l h = found-by (omega (arith, t .fits, short)) l (rw (t .is) at (quick at l)) (by-element (reads t m e a) l h)
 
   -- ---- designations
 
@@ -119,54 +120,62 @@ module _ (s : List ℕ) (short : length s ≤ limit.octets) where
   octetsIn (Silent k st) = k
   octetsIn (Found p st) = 0
 
-  setsIn : Sets → Element → Sets
-  setsIn z End = z
-  setsIn z (Refused n o) = z
-  setsIn z (Silent k st) = st .sets
-  setsIn z (Found p st) = z
+  stateIn : State → Element → State
+  stateIn z End = z
+  stateIn z (Refused n o) = z
+  stateIn z (Silent k st) = st
+  stateIn z (Found p st) = z
+
+  like-designated : {st to : State} (d : Designation) → Like st to → Like (designatedOf (d .side) (d .set) st) (designatedOf (d .side) (d .set) to)
+  like-designated d (like l) = like l
 
   -- a cursor that stands where other elements do, which give the same unit next
   record Onward (c : Cursor) (o : Outcome) : Type 0 where
     at : ℕ
     st : State
-    es : List Element
+    to : State
+    es : Elements
     from-there : Ahead s at st es
-    is : c ≡ cursor at (st .sets)
-    some : 1 ≤ length (recordsFrom at es)
-    gives : outcomeOf at es ≡ o
+    same : Like st to
+    is : c ≡ cursor at to
+    some : 1 ≤ length (recordsFrom es)
+    gives : outcomeOf es ≡ o
 
-  here : {at : ℕ} {st : State} {es : List Element} → Ahead s at st es → 1 ≤ length (recordsFrom at es) → Onward (cursor at (st .sets)) (outcomeOf at es)
-  here {at} {st} {es} a h = record { at = at; st = st; es = es; from-there = a; is = refl; some = h; gives = refl }
+  here : {at : ℕ} {st to : State} {es : Elements} → Ahead s at st es → Like st to → 1 ≤ length (recordsFrom es) → Onward (cursor at to) (outcomeOf es)
+  here {at} {st} {to} {es} a l h =
+      record { at = at; st = st; to = to; es = es; from-there = a; same = l; is = refl; some = h; gives = refl }
 
-  placed-on : {at : ℕ} {st : State} {es : List Element} → Ahead s at st es → 1 ≤ length (recordsFrom at es) → (d : Designation)
+  placed-on : {at : ℕ} {st to : State} {es : Elements} → Ahead s at st es → Like st to → 1 ≤ length (recordsFrom es) → (d : Designation)
       → Silent (d .octets) (designatedOf (d .side) (d .set) st) ≡ elementOf (from at s) st
-      → Onward (cursor (at + d .octets) (put (on (d .side) (d .set)) (st .sets))) (outcomeOf at es)
-  unfolding recordsFrom outcomeOf octetsIn setsIn
-  placed-on (ends e) h d i = absurd (omega arith)
-  placed-on (stops f e) h d i = absurd (omega arith)
-  placed-on {at} {st} (passes {k = k} {next = next} t e a) h d i =
+      → Onward (cursor (at + d .octets) (designatedOf (d .side) (d .set) to)) (outcomeOf es)
+  unfolding recordsFrom outcomeOf octetsIn stateIn
+  placed-on (ends e) l h d i = absurd (omega arith)
+  placed-on (stops f e) l h d i = absurd (omega arith)
+  placed-on {at} {st} {to} (passes {k = k} {next = next} t e a) l h d i =
       let j : Silent (d .octets) (designatedOf (d .side) (d .set) st) ≡ Silent k next = i ∙ t .is in
-      rw (ap octetsIn j, ap (setsIn (st .sets)) j) (here a h)
-  placed-on {at} {st} (reads {p = p} {next = next} t m e a) h d i =
+      let g : Like next (designatedOf (d .side) (d .set) to) = subst (λ (x : State). Like x (designatedOf (d .side) (d .set) to)) (ap (stateIn st) j) (like-designated d l) in
+      rw (ap octetsIn j) (here a g h)
+  placed-on {at} {st} (reads {p = p} {next = next} t m e a) l h d i =
       let j : Silent (d .octets) (designatedOf (d .side) (d .set) st) ≡ Found p next = i ∙ t .is in
       let z : _≡_ {A = ℕ} 0 1 = cc in
       absurd (omega arith)
 
-  placed-by : {at : ℕ} {st : State} {es : List Element} → Ahead s at st es → 1 ≤ length (recordsFrom at es) → (d : Designation) → d ≡ designationAt (from at s)
-      → (b : Bool) → ltb (d .set) no-set ≡ b → Onward (pick b (cursor (at + d .octets) (put (on (d .side) (d .set)) (st .sets))) (cursor at (st .sets))) (outcomeOf at es)
+  placed-by : {at : ℕ} {st to : State} {es : Elements} → Ahead s at st es → Like st to → 1 ≤ length (recordsFrom es)
+      → (d : Designation) → d ≡ designationAt (from at s) → (b : Bool) → ltb (d .set) no-set ≡ b
+      → Onward (pick b (cursor (at + d .octets) (designatedOf (d .side) (d .set) to)) (cursor at to)) (outcomeOf es)
   unfolding pick
-  placed-by {at} {st} a h d e true k = placed-on a h d (designation-silent (from at s) st d e (ltb-true (d .set) no-set k))
-  placed-by a h d e false k = here a h
+  placed-by {at} {st} a l h d e true k = placed-on a l h d (designation-silent (from at s) st d e (ltb-true (d .set) no-set k))
+  placed-by a l h d e false k = here a l h
 
-  passed-on : {at : ℕ} {st : State} {es : List Element} → Ahead s at st es → 1 ≤ length (recordsFrom at es) → Onward (passedOf s (cursor at (st .sets))) (outcomeOf at es)
+  passed-on : {at : ℕ} {st to : State} {es : Elements} → Ahead s at st es → Like st to → 1 ≤ length (recordsFrom es) → Onward (passedOf s (cursor at to)) (outcomeOf es)
   unfolding passedOf placedOf
-  passed-on {at} a h = placed-by a h (designationAt (from at s)) refl (ltb (designationAt (from at s) .set) no-set) refl
+  passed-on {at} a l h = placed-by a l h (designationAt (from at s)) refl (ltb (designationAt (from at s) .set) no-set) refl
 
   twice : {c : Cursor} {o : Outcome} → Onward c o → Onward (passedOf s c) o
-  twice {c} {o} n = rw (n .is, ← (n .gives)) (passed-on (n .from-there) (n .some))
+  twice {c} {o} n = rw (n .is, ← (n .gives)) (passed-on (n .from-there) (n .same) (n .some))
 
   turns-on : {c : Cursor} {o : Outcome} → Onward c o → Turns (textTurn s c) o
-  turns-on n = rw (n .is, ← (n .gives)) (text-turns (n .from-there) (n .some))
+  turns-on n = rw (n .is, ← (n .gives)) (text-turns (n .from-there) (n .same) (n .some))
 
   -- ---- the unit at a cursor
 
@@ -180,6 +189,6 @@ module _ (s : List ℕ) (short : length s ≤ limit.octets) where
   advance-by [] n = turns-on n
   advance-by (b ∷ t) n = either (eqb b 0x1B) (turns-on (twice (twice n))) (turns-on n)
 
-  pub advance-ahead : {at : ℕ} {st : State} {es : List Element} → Ahead s at st es → 1 ≤ length (recordsFrom at es)
-      → Turns (advanceOf s (cursor at (st .sets))) (outcomeOf at es)
-  advance-ahead {at} a h = advance-by (from at s) (here a h)
+  pub advance-ahead : {at : ℕ} {st to : State} {es : Elements} → Ahead s at st es → Like st to → 1 ≤ length (recordsFrom es)
+      → Turns (advanceOf s (cursor at to)) (outcomeOf es)
+  advance-ahead {at} a l h = advance-by (from at s) (here a l h)

@@ -7,10 +7,9 @@ use lib.Dec.{eqb, leb, ltb}
 use Rattle.base.specs.Choice.{pick, from}
 use Rattle.base.specs.Kind as kind
 use Rattle.base.specs.declared.Unit.{Unit as UnitRecord}
-use Rattle.state.specs.Directions.{directions}
-use Rattle.state.specs.State.{sets, state, fresh, on, put}
+use Rattle.state.specs.State.{fresh, designatedOf}
 use Rattle.state.specs.declared.Sets.{Sets}
-use Rattle.state.specs.declared.directions.Directions.{Directions}
+use Rattle.state.specs.declared.State.{State}
 use Rattle.stretch.specs.Designation.{designationAt}
 use Rattle.stretch.specs.declared.designation.Designation.{Designation}
 use Rattle.charset.specs.Charsets.{no-set}
@@ -21,38 +20,31 @@ use Rattle.units.specs.declared.Outcome.the-variants.{Gives, Stops}
 use Rattle.cursor.specs.declared.Cursor.{Cursor}
 use Rattle.cursor.specs.declared.Turn.{Turn}
 
-abbrev pub cursor : ℕ → Sets → Cursor
-cursor place s = record { place = place; gl = s .gl; gr = s .gr }
-
-abbrev pub setsIn : Cursor → Sets
-setsIn c = sets (c .gl) (c .gr)
+abbrev pub cursor : ℕ → State → Cursor
+cursor place st = record { place = place; state = st }
 
 -- the start of a string
 abbrev pub first : Cursor
-first = cursor 0 (fresh .sets)
+first = cursor 0 fresh
 
 abbrev pub turn : UnitRecord → Cursor → Turn
 turn u c = record { unit = u; cursor = c }
 
 -- ---- any element
 
--- directions that refuse nothing: one is open, and more may be opened
-abbrev pub free : Directions
-free = directions 1 0 true true
-
 -- the next unit and the cursor after it; where there is none, nothing and the same cursor
 unfoldable pub turnOf : Cursor → Outcome → Turn
-turnOf c (Gives u place st) = turn u (cursor place (st .sets))
+turnOf c (Gives u place st) = turn u (cursor place st)
 turnOf c (Stops n place) = turn blank c
 
 unfoldable pub elementTurn : List ℕ → Cursor → Turn
-elementTurn s c = turnOf c (nextOf s (c .place) (state (setsIn c) free))
+elementTurn s c = turnOf c (nextOf s (c .place) (c .state))
 
 -- ---- designations
 
 -- the cursor after a designation, where one is found
 unfoldable pub placedOf : Cursor → Designation → Cursor
-placedOf c d = pick (ltb (d .set) no-set) (cursor (c .place + d .octets) (put (on (d .side) (d .set)) (setsIn c))) c
+placedOf c d = pick (ltb (d .set) no-set) (cursor (c .place + d .octets) (designatedOf (d .side) (d .set) (c .state))) c
 
 unfoldable pub passedOf : List ℕ → Cursor → Cursor
 passedOf s c = placedOf c (designationAt (from (c .place) s))
@@ -67,43 +59,49 @@ textOctet b = pick (ltb b 0x20) false (pick (ltb b 0x7F) true (leb 0xA0 b))
 unfoldable pub setAt : ℕ → Sets → ℕ
 setAt b s = pick (ltb b 0x80) (s .gl) (s .gr)
 
--- x, and 0 for a space
-unfoldable pub unlessSpace : ℕ → ℕ → ℕ
-unlessSpace b x = pick (eqb b 0x20) 0 x
-
+-- the kinds of a space, a tab and a newline are one more than the last three bits of their octets
 unfoldable pub kindAt : ℕ → ℕ
-kindAt b = pick (eqb b 0x20) kind.space kind.character
+kindAt b = pick (ltb 0x20 b) kind.character (b % 8 + 1)
 
--- a character or space of one octet
-abbrev pub single : ℕ → ℕ → Sets → Turn
-single at b s =
-    turn (record { kind = kindAt b; set = unlessSpace b (setAt b s); code = unlessSpace b (b % 128); start = at % 2 ^ 32; length = 1 })
-    (cursor (at + 1) s)
+-- x, and 0 for a space, a tab and a newline
+unfoldable pub ifGraphic : ℕ → ℕ → ℕ
+ifGraphic b x = pick (leb b 0x20) 0 x
 
--- a character of two octets
-abbrev pub double : ℕ → ℕ → ℕ → Sets → Turn
-double at b d s =
-    turn (record { kind = kind.character; set = setAt b s; code = b % 128 * 256 + d % 128; start = at % 2 ^ 32; length = 2 })
-    (cursor (at + 2) s)
+-- the record of a unit of one octet, and that of a character of two
+abbrev pub oneOf : ℕ → ℕ → ℕ → UnitRecord
+oneOf at b set =
+    record { kind = kindAt b; set = ifGraphic b set; code = ifGraphic b (b % 128); start = at % 2 ^ 32; length = 1 }
+
+abbrev pub twoOf : ℕ → ℕ → ℕ → ℕ → UnitRecord
+twoOf at b d set =
+    record { kind = kind.character; set = set; code = b % 128 * 256 + d % 128; start = at % 2 ^ 32; length = 2 }
+
+abbrev pub single : ℕ → ℕ → ℕ → State → Turn
+single at b set st = turn (oneOf at b set) (cursor (at + 1) st)
+
+abbrev pub double : ℕ → ℕ → ℕ → ℕ → State → Turn
+double at b d set st = turn (twoOf at b d set) (cursor (at + 2) st)
 
 -- the first of the two-octet sets
 abbrev pub first-double : ℕ
 first-double = 12
 
 -- the octets t after b, where the set on its side has two octets
-unfoldable pub doubleOf : ℕ → ℕ → List ℕ → Sets → Turn → Turn
-doubleOf at b [] s other = other
-doubleOf at b (d ∷ t) s other =
-    pick (eqb b 0x20) other (pick (ltb (setAt b s) no-set) (double at b d s) other)
+unfoldable pub doubleOf : ℕ → ℕ → List ℕ → ℕ → State → Turn → Turn
+doubleOf at b [] set st other = other
+doubleOf at b (d ∷ t) set st other = pick (eqb b 0x20) other (pick (ltb set no-set) (double at b d set st) other)
+
+-- an octet of the set on its side, and the octets t after it
+unfoldable pub octetOf : ℕ → ℕ → List ℕ → ℕ → State → Turn → Turn
+octetOf at b t set st other = pick (ltb set first-double) (single at b set st) (doubleOf at b t set st other)
 
 -- the octets at a place
-unfoldable pub quickOf : ℕ → List ℕ → Sets → Turn → Turn
-quickOf at [] s other = other
-quickOf at (b ∷ t) s other =
-    pick (textOctet b) (pick (ltb (setAt b s) first-double) (single at b s) (doubleOf at b t s other)) other
+unfoldable pub quickOf : ℕ → List ℕ → State → Turn → Turn
+quickOf at [] st other = other
+quickOf at (b ∷ t) st other = pick (textOctet b) (octetOf at b t (setAt b (st .sets)) st other) other
 
 unfoldable pub textTurn : List ℕ → Cursor → Turn
-textTurn s c = quickOf (c .place) (from (c .place) s) (setsIn c) (elementTurn s c)
+textTurn s c = quickOf (c .place) (from (c .place) s) (c .state) (elementTurn s c)
 
 -- ---- the unit at a cursor: up to two designations are passed where there is an escape sequence
 

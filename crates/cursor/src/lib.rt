@@ -1,38 +1,30 @@
-// The unit at a cursor of an accepted string. Since nothing of it can be refused, text is read by its octets alone, and no directions are
-// kept.
+// The unit at a cursor of an accepted string. Since nothing of it can be refused, text is read by its octets alone.
 ghost use mathlib.Core.Path.{_≡_};
 ghost use Prim.Native.Nat.{_+_, _<_, _^_};
 ghost use lib.ListN.{length};
 ghost use Rattle.base.specs.Choice.{from};
-ghost use Rattle.cursor.specs.Cursor.{first, elementTurn, textOctet, setAt, unlessSpace, kindAt, single, double, doubleOf, textTurn, placedOf, passedOf, advanceOf};
+ghost use Rattle.cursor.specs.Cursor.{first, elementTurn, textOctet, setAt, single, double, doubleOf, textTurn, placedOf, passedOf, advanceOf};
 ghost use Rattle.state.specs.State.{sets};
 ghost use Rattle.stretch.specs.Designation.{designationAt};
+use crate::octets::one_octet;
+use crate::octets::two_octets;
 use base::Unit;
-use base::kind;
 use charset::NO_SET;
-use state::Sets;
 use state::State;
-use state::directions::Directions;
 use stretch::designation::Designation;
 use stretch::designation::designation_at;
 use units::Outcome;
 
+pub mod octets;
+
 // The first of the sets of two octets.
 pub const FIRST_DOUBLE: u8 = 12;
 
-// Directions under which nothing is refused: one is open, and more may be opened.
-const FREE: Directions = Directions {
-    levels: 0,
-    depth: 1,
-    marked: true,
-    texted: true,
-};
-
-// Where the next unit is looked for: a place of the string, and the sets in force there.
+// Where the next unit is looked for: a place of the string, and the state there. Whether text was read is not kept up to date by text
+// that is read by its octets alone: an accepted string's marks do not ask.
 pub struct Cursor {
     pub place: usize,
-    pub gl: u8,
-    pub gr: u8,
+    pub state: State,
 }
 
 // A unit, and the cursor after it.
@@ -48,8 +40,7 @@ impl Cursor {
     {
         Cursor {
             place: 0,
-            gl: 0,
-            gr: 3,
+            state: State::FRESH,
         }
     }
 }
@@ -58,32 +49,19 @@ impl Cursor {
 fn by_element(s: &[u8], c: Cursor) -> Turn
     ensures { λ r. ⌜ r ≡ elementTurn (now (s .entry)) c ⌝ }
 {
-    let state = State {
-        directions: FREE,
-        sets: Sets { gl: c.gl, gr: c.gr },
-    };
+    let state = c.state;
     let o = units::next_unit(s, c.place, state);
     match o {
-        Outcome::Gives(unit, place, next) => {
-            let after = next.sets;
-            Turn {
-                cursor: Cursor {
-                    place: place,
-                    gl: after.gl,
-                    gr: after.gr,
-                },
-                unit: unit,
-            }
-        }
+        Outcome::Gives(unit, place, next) => Turn {
+            cursor: Cursor {
+                place: place,
+                state: next,
+            },
+            unit: unit,
+        },
         Outcome::Stops(number, place) => Turn {
             cursor: c,
-            unit: Unit {
-                kind: 0,
-                set: 0,
-                code: 0,
-                start: 0,
-                length: 0,
-            },
+            unit: Unit::BLANK,
         },
     }
 }
@@ -111,83 +89,42 @@ pub fn set_at(b: u8, gl: u8, gr: u8) -> u8
     gr
 }
 
-// A space has neither set nor code.
-fn unless_space(b: u8, x: u8) -> u8
-    ensures { λ r. ⌜ r ≡ unlessSpace b x ⌝ }
-{
-    if b == 0x20 {
-        return 0;
-    }
-    x
-}
-
-fn kind_at(b: u8) -> u8
-    ensures { λ r. ⌜ r ≡ kindAt b ⌝ }
-{
-    if b == 0x20 {
-        return kind::SPACE;
-    }
-    kind::CHARACTER
-}
-
-// A character or space of one octet.
-fn one_octet(at: usize, b: u8, gl: u8, gr: u8) -> Turn
+// A character or space of one octet, of this set.
+fn single_turn(at: usize, b: u8, set: u8, state: State) -> Turn
     requires { ⌜ at + 1 < 2 ^ 64 ⌝ }
-    ensures { λ r. ⌜ r ≡ single at b (sets gl gr) ⌝ }
+    ensures { λ r. ⌜ r ≡ single at b set state ⌝ }
 {
     let place = at + 1;
-    let code = unless_space(b, b % 128) as u16;
-    let start = (at % 0x1_0000_0000) as u32;
     Turn {
         cursor: Cursor {
             place: place,
-            gl: gl,
-            gr: gr,
+            state: state,
         },
-        unit: Unit {
-            kind: kind_at(b),
-            set: unless_space(b, set_at(b, gl, gr)),
-            code: code,
-            start: start,
-            length: 1,
-        },
+        unit: one_octet(at, b, set),
     }
 }
 
-// A character of two octets.
-fn two_octets(at: usize, b: u8, d: u8, gl: u8, gr: u8) -> Turn
+// A character of two octets, of this set.
+fn double_turn(at: usize, b: u8, d: u8, set: u8, state: State) -> Turn
     requires { ⌜ at + 2 < 2 ^ 64 ⌝ }
-    ensures { λ r. ⌜ r ≡ double at b d (sets gl gr) ⌝ }
+    ensures { λ r. ⌜ r ≡ double at b d set state ⌝ }
 {
     let place = at + 2;
-    let high = (b % 128) as u16;
-    let low = (d % 128) as u16;
-    let code = high * 256 + low;
-    let start = (at % 0x1_0000_0000) as u32;
     Turn {
         cursor: Cursor {
             place: place,
-            gl: gl,
-            gr: gr,
+            state: state,
         },
-        unit: Unit {
-            kind: kind::CHARACTER,
-            set: set_at(b, gl, gr),
-            code: code,
-            start: start,
-            length: 2,
-        },
+        unit: two_octets(at, b, d, set),
     }
 }
 
 // A character of two octets that begins with b, where its set has two.
-fn or_two(s: &[u8], c: Cursor, b: u8) -> Turn
+fn or_two(s: &[u8], c: Cursor, b: u8, set: u8) -> Turn
     requires { ⌜ c .place < length (now s) ⌝ }
-    ensures { λ r. ⌜ r ≡ doubleOf (c .place) b (from (c .place + 1) (now (s .entry))) (sets (c .gl) (c .gr)) (elementTurn (now (s .entry)) c) ⌝ }
+    ensures { λ r. ⌜ r ≡ doubleOf (c .place) b (from (c .place + 1) (now (s .entry))) set (c .state) (elementTurn (now (s .entry)) c) ⌝ }
 {
     let at = c.place;
-    let gl = c.gl;
-    let gr = c.gr;
     if s.len() <= at + 1 {
         return by_element(s, c);
     }
@@ -195,8 +132,9 @@ fn or_two(s: &[u8], c: Cursor, b: u8) -> Turn
     if b == 0x20 {
         return by_element(s, c);
     }
-    if set_at(b, gl, gr) < NO_SET {
-        return two_octets(at, b, d, gl, gr);
+    if set < NO_SET {
+        let state = c.state;
+        return double_turn(at, b, d, set, state);
     }
     by_element(s, c)
 }
@@ -206,17 +144,18 @@ fn text_or_element(s: &[u8], c: Cursor) -> Turn
     ensures { λ r. ⌜ r ≡ textTurn (now (s .entry)) c ⌝ }
 {
     let at = c.place;
-    let gl = c.gl;
-    let gr = c.gr;
     if s.len() <= at {
         return by_element(s, c);
     }
     let b = s[at];
     if text_octet(b) {
-        if set_at(b, gl, gr) < FIRST_DOUBLE {
-            return one_octet(at, b, gl, gr);
+        let state = c.state;
+        let sets = state.sets;
+        let set = set_at(b, sets.gl, sets.gr);
+        if set < FIRST_DOUBLE {
+            return single_turn(at, b, set, state);
         }
-        return or_two(s, c, b);
+        return or_two(s, c, b, set);
     }
     by_element(s, c)
 }
@@ -229,17 +168,12 @@ fn placed(s: &[u8], c: Cursor, d: Designation) -> Cursor
     let set = d.set;
     if set < NO_SET {
         let side = d.side;
-        let state = State {
-            directions: FREE,
-            sets: Sets { gl: c.gl, gr: c.gr },
-        };
+        let state = c.state;
         let next = state.designated(side, set);
-        let sets = next.sets;
         let place = c.place + d.octets;
         return Cursor {
             place: place,
-            gl: sets.gl,
-            gr: sets.gr,
+            state: next,
         };
     }
     c

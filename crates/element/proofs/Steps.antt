@@ -6,15 +6,15 @@ use lib.ListN.{length, getD}
 use Rattle.base.specs.Choice.{from}
 use Rattle.base.proofs.Ladder.{octet, ended}
 use Rattle.state.proofs.Steps.{steps}
-use Rattle.state.specs.declared.State.{State}
-use Rattle.state.specs.declared.elements.Element.{Element}
+use Rattle.state.specs.declared.Sets.{Sets}
+use Rattle.state.specs.declared.elements.Shape.{Shape}
 use Rattle.element.specs.Element.{shapeOf}
 
-module _ (s : List ℕ) (at : ℕ) (st : State) (r : Element) where
-  pub on-shape : at < length s → r ≡ shapeOf (getD s at 0 ∷ from (at + 1) s) st → r ≡ shapeOf (from at s) st
-  on-shape h e = octet (λ (t : List ℕ). shapeOf t st) s at r h e
+module _ (s : List ℕ) (at : ℕ) (sets : Sets) (r : Shape) where
+  pub on-shape : at < length s → r ≡ shapeOf (getD s at 0 ∷ from (at + 1) s) sets → r ≡ shapeOf (from at s) sets
+  on-shape h e = octet (λ (t : List ℕ). shapeOf t sets) s at r h e
 
-  pub on-shape-end : length s ≤ at → r ≡ shapeOf [] st → r ≡ shapeOf (from at s) st
-  on-shape-end h e = ended (λ (t : List ℕ). shapeOf t st) s at r h e
+  pub on-shape-end : length s ≤ at → r ≡ shapeOf [] sets → r ≡ shapeOf (from at s) sets
+  on-shape-end h e = ended (λ (t : List ℕ). shapeOf t sets) s at r h e
 
 pub ruleset shaping = (on-shape, on-shape-end, steps)

@@ -1,4 +1,5 @@
--- One element, as document 01's "Elements, read from left to right" has it: a function of the octets that are left and of the state.
+-- One element, as document 01's "Elements, read from left to right" has it: its shape is a function of the octets that are left and of
+-- the sets in force, and the element of its shape and of the state.
 use Prim.Native.Nat.{ℕ}
 use mathlib.Core.List.{List, [], _∷_}
 use lib.Dec.{eqb, ltb}
@@ -9,39 +10,42 @@ use Rattle.control.specs.Escape.{escapeOf}
 use Rattle.control.specs.Mark.{csiOf}
 use Rattle.state.specs.Directions.{stepOf}
 use Rattle.state.specs.Elements.{unit, refused}
-use Rattle.state.specs.State.{state}
+use Rattle.state.specs.State.{designatedOf, directedTo}
 use Rattle.state.specs.declared.Sets.{Sets}
 use Rattle.state.specs.declared.State.{State}
 use Rattle.state.specs.declared.directions.Step.{Step}
 use Rattle.state.specs.declared.directions.Step.the-variants.{Goes, Stops}
 use Rattle.state.specs.declared.elements.Part.{Part}
+use Rattle.state.specs.declared.elements.Shape.{Shape}
+use Rattle.state.specs.declared.elements.Shape.the-variants.{Ends, Refuses, Designates, Gives}
 use Rattle.state.specs.declared.elements.Element.{Element}
 use Rattle.state.specs.declared.elements.Element.the-variants.{End, Refused, Silent, Found}
 use Rattle.text.specs.Text.{textOf}
 
 -- its shape: "`09` tab, `0A` newline. Every other octet 00-1F or 80-9F except 1B and 9B: refusal 3."; "7F: refusal 3."
-unfoldable pub shapeOf : List ℕ → State → Element
-shapeOf [] st = End
-shapeOf (b ∷ t) st =
-    pick (eqb b 0x1B) (escapeOf t st)
-    (pick (eqb b 0x9B) (csiOf t st)
-    (pick (eqb b 0x09) (unit kind.tab 0 0 1 st)
-    (pick (eqb b 0x0A) (unit kind.newline 0 0 1 st)
+unfoldable pub shapeOf : List ℕ → Sets → Shape
+shapeOf [] s = Ends
+shapeOf (b ∷ t) s =
+    pick (eqb b 0x1B) (escapeOf t)
+    (pick (eqb b 0x9B) (csiOf t)
+    (pick (eqb b 0x09) (unit kind.tab 0 0 1)
+    (pick (eqb b 0x0A) (unit kind.newline 0 0 1)
     (pick (ltb b 0x20) (refused refusal.unused)
     (pick (eqb b 0x7F) (refused refusal.unused)
-    (pick (ltb b 0x80) (textOf b t st) (pick (ltb b 0xA0) (refused refusal.unused) (textOf b t st))))))))
+    (pick (ltb b 0x80) (textOf b t s) (pick (ltb b 0xA0) (refused refusal.unused) (textOf b t s))))))))
 
 -- a unit whose step by the direction rule is known
-unfoldable pub steppedOf : Part → Sets → Step → Element
-steppedOf p s (Goes d) = Found p (state s d)
-steppedOf p s (Stops n) = refused n
+unfoldable pub steppedOf : Part → State → Step → Element
+steppedOf p st (Goes d) = Found p (directedTo d st)
+steppedOf p st (Stops n) = Refused n 0
 
--- the direction rule, after the shape: "the first offending element (its own shape before 8 and 9)"
-unfoldable pub directedOf : Element → Element
-directedOf End = End
-directedOf (Refused n o) = Refused n o
-directedOf (Silent k st) = Silent k st
-directedOf (Found p st) = steppedOf p (st .sets) (stepOf (p .text) (p .kind) (st .directions))
+-- a shape under a state: a designation changes the sets, and a unit the directions, by the direction rule, which comes after the shape:
+-- "the first offending element (its own shape before 8 and 9)"; "Designations and directions don't affect each other."
+unfoldable pub directedOf : Shape → State → Element
+directedOf Ends st = End
+directedOf (Refuses n o) st = Refused n o
+directedOf (Designates k d c) st = Silent k (designatedOf d c st)
+directedOf (Gives p) st = steppedOf p st (stepOf (p .text) (p .kind) (st .directions))
 
 abbrev pub elementOf : List ℕ → State → Element
-elementOf t st = directedOf (shapeOf t st)
+elementOf t st = directedOf (shapeOf t (st .sets)) st

@@ -14,16 +14,16 @@ use Rattle.charset.specs.declared.Side.{Side}
 use Rattle.charset.specs.declared.Side.the-variants.{GL, GR}
 use Rattle.charset.specs.Charsets.{mayUse, allowed, formOf, fitsOf, find, setOf}
 use Rattle.charset.proofs.Laws.{allowed-below}
-use Rattle.state.specs.State.{on, get, designatedOf}
+use Rattle.state.specs.State.{on, get}
 use Rattle.state.specs.Elements.{part, next}
 use Rattle.text.specs.Text.{graphicOf, secondOctetOf, characterOf, textOf}
 use Rattle.control.specs.Escape.{designatesOf, designationOf, multiOctetOf, escapeOf}
 use Rattle.segment.specs.Segment.{segmentPart, bodyOf, lengthsOf, extendedOf}
 use Rattle.control.specs.Mark.{beginOf, csiOf}
 use Rattle.element.specs.Element.{shapeOf}
-use Rattle.state.specs.declared.State.{State}
+use Rattle.state.specs.declared.Sets.{Sets}
 use Rattle.state.specs.declared.elements.Part.{Part}
-use Rattle.state.specs.declared.elements.Element.the-variants.{Silent, Found}
+use Rattle.state.specs.declared.elements.Shape.the-variants.{Designates, Gives}
 use Rattle.grammar.specs.Units.{TextUnit, char, space, tab, newline, ltr, rtl, revert, ext, kindOf, textOctets, counts, unitOf, wide, top, shown, octets, designation, codeUsed, segment, good}
 use Rattle.grammar.specs.Grammar.{Shows}
 use Rattle.grammar.specs.Reading.{unitAt}
@@ -63,11 +63,11 @@ left-form c a =
     ((λ _. refl) & (λ _. refl) & (λ _. refl) & off & off & off & off & off & off & off & off & off & (λ _. refl) & (λ _. refl) & (λ _. refl) & tt) c
     (allowed-below GL c a) a
 
-module _ (st : State) where
+module _ (s : Sets) where
   -- ---- designations
 
   abbrev Starts : List ℕ → Side → ℕ → Type 0
-  Starts t d c = allowed d c ≡ true → shapeOf (designation (on d c) ++ t) st ≡ Silent (length (designation (on d c))) (designatedOf d c st)
+  Starts t d c = allowed d c ≡ true → shapeOf (designation (on d c) ++ t) s ≡ Designates (length (designation (on d c))) d c
 
   starts-at : (t : List ℕ) (d : Side) → Each 15 (Starts t d)
   unfolding allowed mayUse formOf fitsOf find setOf designation shapeOf escapeOf multiOctetOf designationOf designatesOf next pick
@@ -81,7 +81,7 @@ module _ (st : State) where
 
   -- ---- characters
 
-  shape-left : (b : ℕ) (t : List ℕ) → 0x21 ≤ b → b < 0x7F → shapeOf (b ∷ t) st ≡ characterOf (st .sets .gl) b t st
+  shape-left : (b : ℕ) (t : List ℕ) → 0x21 ≤ b → b < 0x7F → shapeOf (b ∷ t) s ≡ characterOf (s .gl) b t
   unfolding shapeOf textOf pick
   shape-left b t h k =
       rw (
@@ -95,7 +95,7 @@ module _ (st : State) where
         ne-eqb b 0x20 (λ e. omega arith),
       )
 
-  shape-right : (b : ℕ) (t : List ℕ) → 0xA0 ≤ b → shapeOf (b ∷ t) st ≡ characterOf (st .sets .gr) b t st
+  shape-right : (b : ℕ) (t : List ℕ) → 0xA0 ≤ b → shapeOf (b ∷ t) s ≡ characterOf (s .gr) b t
   unfolding shapeOf textOf pick
   shape-right b t h =
       rw (
@@ -111,12 +111,12 @@ module _ (st : State) where
       )
 
   -- the first octet on a side; a GL octet is no 20 or 7F
-  first-octet : (l : Legal (st .sets)) (d : Side) (c k : ℕ) (t : List ℕ) → get d (st .sets) ≡ c → 0x20 ≤ k → k ≤ 0x7F → (eqb (formOf c) 2 ≡ false → (0x21 ≤ k) × (k ≤ 0x7E))
-      → shapeOf ((top d + k) ∷ t) st ≡ characterOf c (top d + k) t st
+  first-octet : (l : Legal s) (d : Side) (c k : ℕ) (t : List ℕ) → get d s ≡ c → 0x20 ≤ k → k ≤ 0x7F → (eqb (formOf c) 2 ≡ false → (0x21 ≤ k) × (k ≤ 0x7E))
+      → shapeOf ((top d + k) ∷ t) s ≡ characterOf c (top d + k) t
   first-octet l GL c k t e h j r =
       let g = r (left-form c (subst (λ (m : ℕ). allowed GL m ≡ true) e (l .left))) in
-      shape-left (0 + k) t (omega arith) (omega arith) ∙ ap (λ (m : ℕ). characterOf m (0 + k) t st) e
-  first-octet l GR c k t e h j r = shape-right (128 + k) t (omega arith) ∙ ap (λ (m : ℕ). characterOf m (128 + k) t st) e
+      shape-left (0 + k) t (omega arith) (omega arith) ∙ ap (λ (m : ℕ). characterOf m (0 + k) t) e
+  first-octet l GR c k t e h j r = shape-right (128 + k) t (omega arith) ∙ ap (λ (m : ℕ). characterOf m (128 + k) t) e
 
   abbrev charPart : ℕ → ℕ → Part
   charPart c k = part 0 c k 0 (cond (wide c) 2 1) true
@@ -129,14 +129,14 @@ module _ (st : State) where
   top-div GL j k h i = omega arith
   top-div GR j k h i = omega arith
 
-  starts-char : (l : Legal (st .sets)) (d : Side) (c k : ℕ) (t : List ℕ) → codeUsed (formOf c) k ≡ true → get d (st .sets) ≡ c
-      → shapeOf (octets d (char c k) ++ t) st ≡ Found (charPart c k) st
+  starts-char : (l : Legal s) (d : Side) (c k : ℕ) (t : List ℕ) → codeUsed (formOf c) k ≡ true → get d s ≡ c
+      → shapeOf (octets d (char c k) ++ t) s ≡ Gives (charPart c k)
   unfolding octets wide codeUsed characterOf secondOctetOf next pick
   starts-char l d c k t u e = go (eqb (formOf c) 3) (eqb (formOf c) 2) refl refl u
     where
       go : (x y : Bool) → eqb (formOf c) 3 ≡ x → eqb (formOf c) 2 ≡ y
           → cond x (graphicOf (k / 256) && graphicOf (k % 256)) (cond y (leb 0x20 k && leb k 0x7F) (graphicOf k)) ≡ true
-          → shapeOf (shown x (top d) k ++ t) st ≡ Found (part 0 c k 0 (cond x 2 1) true) st
+          → shapeOf (shown x (top d) k ++ t) s ≡ Gives (part 0 c k 0 (cond x 2 1) true)
       go true true p q u = absurd (let z = eqb-true (formOf c) 3 p in let w = eqb-true (formOf c) 2 q in omega arith)
       go true false p q u =
           let g = and-left (graphicOf (k / 256)) (graphicOf (k % 256)) u in
@@ -148,7 +148,7 @@ module _ (st : State) where
           let z : k / 256 * 256 + k % 256 ≡ k = omega arith in
           first-octet l d c (k / 256) ((top d + k % 256) ∷ t) e (omega arith) (omega arith) (λ _. a)
           ∙ rw (q, m, n, g, h, p, eq-eqb ((top d + k % 256) / 128) ((top d + k / 256) / 128) (top-div d (k % 256) (k / 256) (omega arith) (omega arith)))
-          (ap (λ (j : ℕ). Found (part 0 c j 0 2 true) st) z)
+          (ap (λ (j : ℕ). Gives (part 0 c j 0 2 true)) z)
       go false true p q u =
           let a = leb-true 0x20 k (and-left (leb 0x20 k) (leb k 0x7F) u) in
           let b = leb-true k 0x7F (and-right (leb 0x20 k) (leb k 0x7F) u) in
@@ -161,7 +161,7 @@ module _ (st : State) where
 
   -- ---- extended segments
 
-  starts-ext : (e : ℕ) (xs t : List ℕ) → good (ext e xs) ≡ true → shapeOf (octets GL (ext e xs) ++ t) st ≡ Found (segmentPart e (length xs) (textOctets xs)) st
+  starts-ext : (e : ℕ) (xs t : List ℕ) → good (ext e xs) ≡ true → shapeOf (octets GL (ext e xs) ++ t) s ≡ Gives (segmentPart e (length xs) (textOctets xs))
   unfolding octets good shapeOf escapeOf extendedOf lengthsOf bodyOf next pick
   starts-ext e xs t g =
       rw (
@@ -172,7 +172,7 @@ module _ (st : State) where
         n,
         le-leb (length xs) (length (xs ++ t)) (omega (arith, length-append xs t)),
         take-append-seam xs t,
-        content e (length xs) st xs 0 (let z : length xs ≡ 0 + length xs = omega arith in z),
+        content e (length xs) xs 0 (let z : length xs ≡ 0 + length xs = omega arith in z),
         g₄,
       )
     where
@@ -239,17 +239,17 @@ ownIn (ext e xs) = length xs
 abbrev pub partOf : TextUnit → Part
 partOf u = part (kindOf u) (setIn u) (codeIn u) (skipIn u) (ownIn u) (counts u)
 
-pub starts-unit : (st : State) (l : Legal (st .sets)) (u : TextUnit) (d : Side) (t : List ℕ) → good u ≡ true → Shows u d (st .sets)
-    → shapeOf (octets d u ++ t) st ≡ Found (partOf u) st
+pub starts-unit : (s : Sets) (l : Legal s) (u : TextUnit) (d : Side) (t : List ℕ) → good u ≡ true → Shows u d s
+    → shapeOf (octets d u ++ t) s ≡ Gives (partOf u)
 unfolding good octets wide shapeOf csiOf beginOf textOf next pick
-starts-unit st l (char c k) d t g h = starts-char st l d c k t (and-right (ltb c 15) (codeUsed (formOf c) k) g) h
-starts-unit st l space d t g h = rw h
-starts-unit st l tab d t g h = refl
-starts-unit st l newline d t g h = refl
-starts-unit st l ltr d t g h = refl
-starts-unit st l rtl d t g h = refl
-starts-unit st l revert d t g h = refl
-starts-unit st l (ext e xs) d t g h = starts-ext st e xs t g
+starts-unit s l (char c k) d t g h = starts-char s l d c k t (and-right (ltb c 15) (codeUsed (formOf c) k) g) h
+starts-unit s l space d t g h = rw h
+starts-unit s l tab d t g h = refl
+starts-unit s l newline d t g h = refl
+starts-unit s l ltr d t g h = refl
+starts-unit s l rtl d t g h = refl
+starts-unit s l revert d t g h = refl
+starts-unit s l (ext e xs) d t g h = starts-ext s e xs t g
 
 pub part-size : (u : TextUnit) (d : Side) → length (octets d u) ≡ partOf u .skip + partOf u .octets
 unfolding octets

@@ -2,60 +2,80 @@
 use Prim.Native.Nat.{ℕ, zero, suc, _+_, _-_, _≤_, _<_}
 use native.Mathlib.Omega.{arith}
 use native.Mathlib.Nat.{not-suc-le-zero}
-use mathlib.Core.Path.{_≡_, refl, ap, sym, _∙_}
+use mathlib.Core.Path.{_≡_, refl, ap, ap₂, sym, _∙_}
 use mathlib.Core.List.{List, [], _∷_}
-use lib.ListN.{drop}
+use lib.ListN.{length, drop}
 use Rattle.element.specs.Element.{elementOf, shapeOf, directedOf}
+use Rattle.element.proofs.Sizes.{Passed, silent, found, element-size, of-passed}
 use Rattle.state.specs.declared.State.{State}
-use Rattle.state.specs.declared.elements.Part.{Part}
 use Rattle.state.specs.declared.elements.Element.{Element}
 use Rattle.state.specs.declared.elements.Element.the-variants.{End, Refused, Silent, Found}
-use Rattle.grammar.specs.Reading.{size, onward, elements}
+use Rattle.grammar.specs.Reading.{Elements, end-at, refused-at, silent-at, found-at, onward, elements}
+
+-- the element at a place before those after it
+abbrev pub next-at : ℕ → Element → Elements → Elements
+next-at at End es = end-at at
+next-at at (Refused n o) es = refused-at at n o
+next-at at (Silent k st) es = silent-at at k st es
+next-at at (Found p st) es = found-at at p st es
 
 -- octets that are passed
-pub elements-drop : (t : List ℕ) (k : ℕ) (st : State) → elements t k st ≡ elements (drop k t) 0 st
+pub elements-drop : (t : List ℕ) (k at : ℕ) (st : State) → k ≤ length t → elements t k at st ≡ elements (drop k t) 0 (at + k) st
 unfolding elements
-elements-drop [] zero st = refl
-elements-drop [] (suc k) st = refl
-elements-drop (b ∷ t) zero st = refl
-elements-drop (b ∷ t) (suc k) st = elements-drop t k st
+elements-drop [] zero at st h = ap end-at (omega arith)
+elements-drop [] (suc k) at st h = absurd (not-suc-le-zero h)
+elements-drop (b ∷ t) zero at st h =
+    let e : at ≡ at + 0 = omega arith in
+    ap (λ (n : ℕ). elements (b ∷ t) 0 n st) e
+elements-drop (b ∷ t) (suc k) at st h =
+    let e : at + 1 + k ≡ at + suc k = omega arith in
+    elements-drop t k (at + 1) st (omega arith) ∙ ap (λ (n : ℕ). elements (drop k t) 0 n st) e
+
+pub at-nothing : (st : State) → elementOf [] st ≡ End
+unfolding shapeOf directedOf
+at-nothing st = refl
 
 -- the octets after an element of k octets
-rest : (b : ℕ) (t : List ℕ) (k : ℕ) (st : State) → 1 ≤ k → elements t (k - 1) st ≡ elements (drop k (b ∷ t)) 0 st
-rest b t zero st h = absurd (not-suc-le-zero h)
-rest b t (suc k) st h =
+rest : (b : ℕ) (t : List ℕ) (k at : ℕ) (st : State) → 1 ≤ k → k ≤ suc (length t) → elements t (k - 1) (at + 1) st ≡ elements (drop k (b ∷ t)) 0 (at + k) st
+rest b t zero at st h g = absurd (not-suc-le-zero h)
+rest b t (suc k) at st h g =
     let e : suc k - 1 ≡ k = omega arith in
-    rw e (elements-drop t k st)
+    let d : at + 1 + k ≡ at + suc k = omega arith in
+    rw e (elements-drop t k (at + 1) st (omega arith) ∙ ap (λ (n : ℕ). elements (drop k t) 0 n st) d)
 
-at-end : (st : State) → elementOf [] st ≡ End
-unfolding shapeOf directedOf
-at-end st = refl
+module _ (at : ℕ) (st : State) where
+  pub elements-end : (t : List ℕ) → elementOf t st ≡ End → elements t 0 at st ≡ end-at at
+  unfolding elements onward
+  elements-end [] e = refl
+  elements-end (b ∷ t) e = rw e
 
-pub elements-end : (t : List ℕ) (st : State) → elementOf t st ≡ End → elements t 0 st ≡ End ∷ []
-unfolding elements onward
-elements-end [] st e = refl
-elements-end (b ∷ t) st e = rw e
+  pub elements-refused : (t : List ℕ) {n o : ℕ} → elementOf t st ≡ Refused n o → elements t 0 at st ≡ refused-at at n o
+  unfolding elements onward
+  elements-refused [] {n} {o} e =
+      let h : End ≡ Refused n o = sym (at-nothing st) ∙ e in
+      let z : _≡_ {A = ℕ} 0 1 = cc in
+      absurd (omega arith)
+  elements-refused (b ∷ t) e = rw e
 
-pub elements-refused : (t : List ℕ) (st : State) {n o : ℕ} → elementOf t st ≡ Refused n o → elements t 0 st ≡ Refused n o ∷ []
-unfolding elements onward
-elements-refused [] st {n} {o} e =
-    let h : End ≡ Refused n o = sym (at-end st) ∙ e in
-    let z : _≡_ {A = ℕ} 0 1 = cc in
-    absurd (omega arith)
-elements-refused (b ∷ t) st e = rw e
+  -- nothing is passed where no octet is left
+  none-passed : {e : Element} {k : ℕ} {next : State} → Passed e k next → End ≡ e → ⊥
+  none-passed (silent {k} {next}) h =
+      let z : _≡_ {A = ℕ} 0 1 = cc in
+      omega arith
+  none-passed (found {p} {next}) h =
+      let z : _≡_ {A = ℕ} 0 1 = cc in
+      omega arith
 
-pub elements-silent : (t : List ℕ) (st : State) {k : ℕ} {next : State} → 1 ≤ k → elementOf t st ≡ Silent k next → elements t 0 st ≡ Silent k next ∷ elements (drop k t) 0 next
-unfolding elements onward
-elements-silent [] st {k} {next} h e =
-    let h : End ≡ Silent k next = sym (at-end st) ∙ e in
-    let z : _≡_ {A = ℕ} 0 1 = cc in
-    absurd (omega arith)
-elements-silent (b ∷ t) st {k} {next} h e = rw e (ap (λ (l : List Element). Silent k next ∷ l) (rest b t k next h))
+  onward-passed : (b : ℕ) (t : List ℕ) {e : Element} {k : ℕ} {next : State} → Passed e k next → 1 ≤ k → k ≤ suc (length t)
+      → onward at e (λ j after. elements t j (at + 1) after) ≡ next-at at e (elements (drop k (b ∷ t)) 0 (at + k) next)
+  unfolding onward
+  onward-passed b t (silent {k} {next}) h g = ap (silent-at at k next) (rest b t k at next h g)
+  onward-passed b t (found {p} {next}) h g = ap (found-at at p next) (rest b t (p .skip + p .octets) at next h g)
 
-pub elements-found : (t : List ℕ) (st : State) {p : Part} {next : State} → 1 ≤ size p → elementOf t st ≡ Found p next → elements t 0 st ≡ Found p next ∷ elements (drop (size p) t) 0 next
-unfolding elements onward
-elements-found [] st {p} {next} h e =
-    let h : End ≡ Found p next = sym (at-end st) ∙ e in
-    let z : _≡_ {A = ℕ} 0 1 = cc in
-    absurd (omega arith)
-elements-found (b ∷ t) st {p} {next} h e = rw e (ap (λ (l : List Element). Found p next ∷ l) (rest b t (size p) next h))
+  pub elements-passed : (t : List ℕ) {e : Element} {k : ℕ} {next : State} → Passed e k next → elementOf t st ≡ e
+      → elements t 0 at st ≡ next-at at e (elements (drop k t) 0 (at + k) next)
+  unfolding elements
+  elements-passed [] v e = absurd (none-passed v (sym (at-nothing st) ∙ e))
+  elements-passed (b ∷ t) v e =
+      let z = of-passed v (rw e at (element-size (b ∷ t) st)) in
+      rw e (onward-passed b t v (z .0) (z .1))

@@ -1,6 +1,6 @@
 -- The elements of a string from a place on, one at a time: each has an octet at least and no more than are left, its unit's fields that
--- mean nothing are 0, a refusal has a number above 0, a state that is fit stays fit, and the elements after it are those of the place after it (`ahead-from`). What is shown of all elements of a string
--- goes by induction on `Ahead`.
+-- mean nothing are 0, a refusal has a number above 0, a state that is fit stays fit, and the elements after it are those of the place
+-- after it (`ahead-from`). What is shown of all elements of a string goes by induction on `Ahead`.
 use Prim.Native.Nat.{ℕ, zero, suc, _+_, _-_, _≤_, _<_}
 use native.Mathlib.Omega.{arith}
 use mathlib.Core.Path.{_≡_, refl, ap, sym, _∙_, subst}
@@ -11,22 +11,19 @@ use lib.ListN.{length}
 use borrow.Author.Tests.{ltb-true, ltb-false}
 use Rattle.base.specs.Choice.{from}
 use Rattle.base.proofs.Ladder.{from-end, from-from, from-length}
-use Rattle.element.specs.Element.{elementOf, shapeOf, directedOf}
-use Rattle.element.proofs.Sizes.{Sized, Fit, MeantPart, element-size, of-refused, of-number, of-silent, fit-silent, of-found, of-meant, fit-found}
+use Rattle.element.specs.Element.{elementOf}
+use Rattle.element.proofs.Sizes.{Sized, Fit, MeantPart, Passed, silent, found, element-size, of-refused, of-passed, of-meant}
+use Rattle.state.specs.State.{fresh}
 use Rattle.state.specs.declared.State.{State}
 use Rattle.state.specs.declared.elements.Part.{Part}
 use Rattle.state.specs.declared.elements.Element.{Element}
 use Rattle.state.specs.declared.elements.Element.the-variants.{End, Refused, Silent, Found}
-use Rattle.grammar.specs.Reading.{size, elements}
-use Rattle.grammar.proofs.Elements.{elements-end, elements-refused, elements-silent, elements-found}
+use Rattle.grammar.specs.Reading.{Elements, end-at, refused-at, silent-at, found-at, size, elements, elementsOf}
+use Rattle.grammar.proofs.Elements.{next-at, at-nothing, elements-end, elements-refused, elements-passed}
 
 -- the elements from a place on, under a state
-abbrev pub ahead : List ℕ → ℕ → State → List Element
-ahead s at st = elements (from at s) 0 st
-
-of-nothing : (st : State) → elementOf [] st ≡ End
-unfolding shapeOf directedOf
-of-nothing st = refl
+abbrev pub ahead : List ℕ → ℕ → State → Elements
+ahead s at st = elements (from at s) 0 at st
 
 -- the element at a place of s, which has k octets and leads to a state
 pub record Step (s : List ℕ) (at : ℕ) (st : State) (e : Element) (k : ℕ) (next : State) : Type 0 where
@@ -40,17 +37,17 @@ module _ (s : List ℕ) (at : ℕ) (st : State) (e : Element) (is : e ≡ elemen
   sized : Sized (length s - at) st e
   sized = rw (is, ← (from-length s at)) (element-size (from at s) st)
 
-  pub at-end : e ≡ End → ahead s at st ≡ End ∷ []
-  at-end k = elements-end (from at s) st (sym is ∙ k)
+  pub at-end : e ≡ End → ahead s at st ≡ end-at at
+  at-end k = elements-end at st (from at s) (sym is ∙ k)
 
-  pub at-refused : {n o : ℕ} → e ≡ Refused n o → ahead s at st ≡ Refused n o ∷ []
-  at-refused k = elements-refused (from at s) st (sym is ∙ k)
+  pub at-refused : {n o : ℕ} → e ≡ Refused n o → ahead s at st ≡ refused-at at n o
+  at-refused k = elements-refused at st (from at s) (sym is ∙ k)
 
   -- where an octet is left
   refused-inside : {n o : ℕ} → e ≡ Refused n o → (b : Bool) → ltb at (length s) ≡ b → at < length s
   refused-inside k true h = ltb-true at (length s) h
   refused-inside {n} {o} k false h =
-      let g : End ≡ Refused n o = sym (ap (λ (t : List ℕ). elementOf t st) (from-end s at (ltb-false at (length s) h)) ∙ of-nothing st) ∙ (sym is ∙ k) in
+      let g : End ≡ Refused n o = sym (ap (λ (t : List ℕ). elementOf t st) (from-end s at (ltb-false at (length s) h)) ∙ at-nothing st) ∙ (sym is ∙ k) in
       let z : _≡_ {A = ℕ} 0 1 = cc in
       absurd (omega arith)
 
@@ -58,47 +55,39 @@ module _ (s : List ℕ) (at : ℕ) (st : State) (e : Element) (is : e ≡ elemen
   pub refused-within : {n o : ℕ} → e ≡ Refused n o → at + o ≤ length s
   refused-within {n} {o} k =
       let h : at < length s = refused-inside k (ltb at (length s)) refl in
-      let g : o ≤ length s - at = of-refused (rw k at sized) in
-      omega arith
+      let g = of-refused (rw k at sized) in
+      omega (arith, g .1)
 
   pub refused-number : {n o : ℕ} → e ≡ Refused n o → 1 ≤ n
-  refused-number k = of-number (rw k at sized)
+  refused-number k = of-refused (rw k at sized) .0
 
-  pub step-silent : {k : ℕ} {next : State} → e ≡ Silent k next → Step s at st (Silent k next) k next
-  step-silent {k} i =
-      let z = of-silent (rw i at sized) in
-      record { is = sym is ∙ i; some = z .0; fits = omega arith; fit = fit-silent (rw i at sized) }
+  module _ {x : Element} {k : ℕ} {next : State} (v : Passed x k next) (i : e ≡ x) where
+    pub step-passed : Step s at st x k next
+    step-passed =
+        let z = of-passed v (rw i at sized) in
+        record { is = sym is ∙ i; some = z .0; fits = omega (arith, z .0, z .1); fit = z .2 }
 
-  pub at-silent : {k : ℕ} {next : State} → e ≡ Silent k next → ahead s at st ≡ Silent k next ∷ ahead s (at + k) next
-  at-silent {k} {next} i =
-      rw (← (from-from s at k)) (elements-silent (from at s) st (step-silent i .some) (sym is ∙ i))
-
-  pub step-found : {p : Part} {next : State} → e ≡ Found p next → Step s at st (Found p next) (size p) next
-  step-found {p} i =
-      let z = of-found (rw i at sized) in
-      record { is = sym is ∙ i; some = z .0; fits = omega arith; fit = fit-found (rw i at sized) }
-
-  pub at-found : {p : Part} {next : State} → e ≡ Found p next → ahead s at st ≡ Found p next ∷ ahead s (at + size p) next
-  at-found {p} {next} i =
-      rw (← (from-from s at (size p))) (elements-found (from at s) st (step-found i .some) (sym is ∙ i))
+    pub at-passed : ahead s at st ≡ next-at at x (ahead s (at + k) next)
+    at-passed = rw (← (from-from s at k)) (elements-passed at st (from at s) v (sym is ∙ i))
 
   pub found-meant : {p : Part} {next : State} → e ≡ Found p next → MeantPart p
   found-meant i = of-meant (rw i at sized)
 
-pub data Ahead (s : List ℕ) : ℕ → State → List Element → Type 0 where
-  ends : {at : ℕ} {st : State} → ahead s at st ≡ End ∷ [] → Ahead s at st (End ∷ [])
-  stops : {at : ℕ} {st : State} {n o : ℕ} → 1 ≤ n → ahead s at st ≡ Refused n o ∷ [] → Ahead s at st (Refused n o ∷ [])
-  passes : {at : ℕ} {st : State} {k : ℕ} {next : State} {es : List Element} → Step s at st (Silent k next) k next → ahead s at st ≡ Silent k next ∷ es
-      → Ahead s (at + k) next es → Ahead s at st (Silent k next ∷ es)
-  reads : {at : ℕ} {st : State} {p : Part} {next : State} {es : List Element} → Step s at st (Found p next) (size p) next → MeantPart p → ahead s at st ≡ Found p next ∷ es
-      → Ahead s (at + size p) next es → Ahead s at st (Found p next ∷ es)
+pub data Ahead (s : List ℕ) : ℕ → State → Elements → Type 0 where
+  ends : {at : ℕ} {st : State} → ahead s at st ≡ end-at at → Ahead s at st (end-at at)
+  stops : {at : ℕ} {st : State} {n o : ℕ} → 1 ≤ n → ahead s at st ≡ refused-at at n o → Ahead s at st (refused-at at n o)
+  passes : {at : ℕ} {st : State} {k : ℕ} {next : State} {es : Elements} → Step s at st (Silent k next) k next
+      → ahead s at st ≡ silent-at at k next es → Ahead s (at + k) next es → Ahead s at st (silent-at at k next es)
+  reads : {at : ℕ} {st : State} {p : Part} {next : State} {es : Elements} → Step s at st (Found p next) (size p) next → MeantPart p
+      → ahead s at st ≡ found-at at p next es → Ahead s (at + size p) next es → Ahead s at st (found-at at p next es)
 
-past : (s : List ℕ) (at : ℕ) (st : State) → length s ≤ at → ahead s at st ≡ End ∷ []
+past : (s : List ℕ) (at : ℕ) (st : State) → length s ≤ at → ahead s at st ≡ end-at at
 unfolding elements
 past s at st h = rw (from-end s at h)
 
 -- the element at a place, where those after it are known
-onward : (s : List ℕ) (at : ℕ) (st : State) → ((e : Element) (k : ℕ) (next : State) → Step s at st e k next → Ahead s (at + k) next (ahead s (at + k) next))
+onward : (s : List ℕ) (at : ℕ) (st : State)
+    → ((e : Element) (k : ℕ) (next : State) → Step s at st e k next → Ahead s (at + k) next (ahead s (at + k) next))
     → (e : Element) → e ≡ elementOf (from at s) st → Ahead s at st (ahead s at st)
 onward s at st after End i =
     let e = at-end s at st End i refl in
@@ -107,18 +96,18 @@ onward s at st after (Refused r o) i =
     let e = at-refused s at st (Refused r o) i refl in
     subst (Ahead s at st) (sym e) (stops (refused-number s at st (Refused r o) i refl) e)
 onward s at st after (Silent k next) i =
-    let e = at-silent s at st (Silent k next) i refl in
-    let t = step-silent s at st (Silent k next) i refl in
+    let e = at-passed s at st (Silent k next) i silent refl in
+    let t = step-passed s at st (Silent k next) i silent refl in
     subst (Ahead s at st) (sym e) (passes t e (after _ k next t))
 onward s at st after (Found p next) i =
-    let e = at-found s at st (Found p next) i refl in
-    let t = step-found s at st (Found p next) i refl in
+    let e = at-passed s at st (Found p next) i found refl in
+    let t = step-passed s at st (Found p next) i found refl in
     subst (Ahead s at st) (sym e) (reads t (found-meant s at st (Found p next) i refl) e (after _ (size p) next t))
 
 -- n bounds the octets that are left
 go : (n : ℕ) (s : List ℕ) (at : ℕ) (st : State) → length s - at ≤ n → Ahead s at st (ahead s at st)
 go zero s at st h =
-    let e : ahead s at st ≡ End ∷ [] = past s at st (omega arith) in
+    let e : ahead s at st ≡ end-at at = past s at st (omega arith) in
     subst (Ahead s at st) (sym e) (ends e)
 go (suc n) s at st h =
     onward s at st (λ _ k next t. go n s (at + k) next (omega (arith, t .some, t .fits))) (elementOf (from at s) st) refl
@@ -126,8 +115,13 @@ go (suc n) s at st h =
 pub ahead-from : (s : List ℕ) (at : ℕ) (st : State) → Ahead s at st (ahead s at st)
 ahead-from s at st = go (length s) s at st (omega arith)
 
+-- of a whole string
+pub from-start : (s : List ℕ) → Ahead s 0 fresh (elementsOf s)
+unfolding from
+from-start s = ahead-from s 0 fresh
+
 -- they are the elements from the place on
-pub ahead-is : (s : List ℕ) {at : ℕ} {st : State} {es : List Element} → Ahead s at st es → ahead s at st ≡ es
+pub ahead-is : (s : List ℕ) {at : ℕ} {st : State} {es : Elements} → Ahead s at st es → ahead s at st ≡ es
 ahead-is s (ends e) = e
 ahead-is s (stops f e) = e
 ahead-is s (passes t e a) = e

@@ -12,21 +12,20 @@ use Rattle.base.specs.Choice.{pick}
 use Rattle.base.specs.Refusal as refusal
 use Rattle.state.specs.Elements.{refused}
 use Rattle.segment.specs.Segment.{segmentPart, nameOctetOf, nameOf, textWidthOf, contentOf}
-use Rattle.state.specs.declared.State.{State}
-use Rattle.state.specs.declared.elements.Element.the-variants.{Found}
+use Rattle.state.specs.declared.elements.Shape.the-variants.{Gives}
 use Rattle.segment.specs.declared.Name.the-variants.{Ends, Bad}
 use Rattle.grammar.specs.Units.{textOctets, segment}
 
-module _ (d n : ℕ) (st : State) where
+module _ (d n : ℕ) where
   pub content : (xs : List ℕ) (k : ℕ) → n ≡ k + length xs
-      → contentOf d n (nameOf xs k) st ≡ pick (segment d k xs) (Found (segmentPart d n (textOctets xs)) st) (refused refusal.bad-segment)
+      → contentOf d n (nameOf xs k) ≡ pick (segment d k xs) (Gives (segmentPart d n (textOctets xs))) (refused refusal.bad-segment)
   unfolding nameOf contentOf segment textOctets pick
   content [] k h = refl
   content (x ∷ xs) k h = go (eqb x 2) (nameOctetOf x) (content xs (suc k) (omega arith))
     where
       ending : (b : Bool) → eqb k 0 ≡ b
-          → contentOf d n (pick b (Bad k) (Ends k)) st
-          ≡ pick (leb 1 k && eqb (length xs % textWidthOf d) 0) (Found (segmentPart d n (length xs)) st) (refused refusal.bad-segment)
+          → contentOf d n (pick b (Bad k) (Ends k))
+          ≡ pick (leb 1 k && eqb (length xs % textWidthOf d) 0) (Gives (segmentPart d n (length xs))) (refused refusal.bad-segment)
       ending true e = rw (eqb-true k 0 e)
       ending false e =
           let z : k ≡ 0 → ⊥ = eqb-false k 0 e in
@@ -34,9 +33,9 @@ module _ (d n : ℕ) (st : State) where
           let m : n - k - 1 ≡ length xs = omega arith in
           rw (l, m, lt-ltb k n (omega arith))
 
-      go : (a c : Bool) → contentOf d n (nameOf xs (suc k)) st ≡ pick (segment d (suc k) xs) (Found (segmentPart d n (textOctets xs)) st) (refused refusal.bad-segment)
-          → contentOf d n (pick a (pick (eqb k 0) (Bad k) (Ends k)) (pick c (nameOf xs (k + 1)) (Bad k))) st
-          ≡ pick (cond a (leb 1 k && eqb (length xs % textWidthOf d) 0) (c && segment d (suc k) xs)) (Found (segmentPart d n (cond a (length xs) (textOctets xs))) st) (refused refusal.bad-segment)
+      go : (a c : Bool) → contentOf d n (nameOf xs (suc k)) ≡ pick (segment d (suc k) xs) (Gives (segmentPart d n (textOctets xs))) (refused refusal.bad-segment)
+          → contentOf d n (pick a (pick (eqb k 0) (Bad k) (Ends k)) (pick c (nameOf xs (k + 1)) (Bad k)))
+          ≡ pick (cond a (leb 1 k && eqb (length xs % textWidthOf d) 0) (c && segment d (suc k) xs)) (Gives (segmentPart d n (cond a (length xs) (textOctets xs)))) (refused refusal.bad-segment)
       go true c r = ending (eqb k 0) refl
-      go false true r = ap (λ (m : ℕ). contentOf d n (nameOf xs m) st) (add-one k) ∙ r
+      go false true r = ap (λ (m : ℕ). contentOf d n (nameOf xs m)) (add-one k) ∙ r
       go false false r = refl

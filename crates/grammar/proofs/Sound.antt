@@ -14,7 +14,7 @@ use Rattle.charset.specs.declared.Side.{Side}
 use Rattle.charset.specs.declared.Side.the-variants.{GL, GR}
 use Rattle.charset.specs.Charsets.{rowOf, formOf, allowed, setOf}
 use Rattle.charset.proofs.Laws.{Named, set-named, allowed-below}
-use Rattle.state.specs.State.{Standing, on, get, designatedOf}
+use Rattle.state.specs.State.{Standing, on, get}
 use Rattle.state.specs.Directions.{countsAsText}
 use Rattle.state.specs.Elements.{part, next}
 use Rattle.text.specs.Text.{graphicOf, oneOctetOf, twoOctetsOf, secondOctetOf, characterOf, textOf}
@@ -23,10 +23,9 @@ use Rattle.segment.specs.Segment.{segmentPart, bodyOf, lengthsOf, extendedOf}
 use Rattle.control.specs.Mark.{beginOf, csiOf}
 use Rattle.element.specs.Element.{shapeOf}
 use Rattle.state.specs.declared.Sets.{Sets}
-use Rattle.state.specs.declared.State.{State}
 use Rattle.state.specs.declared.elements.Part.{Part}
-use Rattle.state.specs.declared.elements.Element.{Element}
-use Rattle.state.specs.declared.elements.Element.the-variants.{Refused, Silent, Found}
+use Rattle.state.specs.declared.elements.Shape.{Shape}
+use Rattle.state.specs.declared.elements.Shape.the-variants.{Refuses, Designates, Gives}
 use Rattle.grammar.specs.Units.{TextUnit, char, space, tab, newline, ltr, rtl, revert, ext, kindOf, textOctets, counts, unitOf, wide, top, octets, lead, designation, codeUsed, segment, good}
 use Rattle.grammar.specs.Grammar.{Shows}
 use Rattle.grammar.specs.Reading.{Octets, unitAt}
@@ -53,10 +52,10 @@ pub record Changed (w : List ℕ) (k : ℕ) (p : Standing) (t : List ℕ) : Type
   pub are : w ≡ designation p ++ t
   pub size : length (designation p) ≡ k
 
-pub data Sound (st : State) (w : List ℕ) : Element → Type 0 where
-  refuses : {n o : ℕ} → 1 ≤ n → Sound st w (Refused n o)
-  designates : {k : ℕ} (d : Side) (c : ℕ) (t : List ℕ) → Changed w k (on d c) t → Sound st w (Silent k (designatedOf d c st))
-  finds : {p : Part} (u : TextUnit) (d : Side) (t : List ℕ) → Shown (st .sets) w p u d t → Sound st w (Found p st)
+pub data Sound (s : Sets) (w : List ℕ) : Shape → Type 0 where
+  refuses : {n o : ℕ} → 1 ≤ n → Sound s w (Refuses n o)
+  designates : {k : ℕ} (d : Side) (c : ℕ) (t : List ℕ) → Changed w k (on d c) t → Sound s w (Designates k d c)
+  finds : {p : Part} (u : TextUnit) (d : Side) (t : List ℕ) → Shown s w p u d t → Sound s w (Gives p)
 
 -- ---- octets before a final, and codes
 
@@ -102,24 +101,24 @@ graphic-low k e = go (ltb k 0x21) refl e
     go true p q = absurd (mathlib.Core.Bool.false≢true q)
     go false p q = (ltb-false k 0x21 p, leb-true k 0x7E q)
 
-module _ (st : State) where
-  no : {w : List ℕ} {n : ℕ} → Sound st w (Refused (suc n) 0)
+module _ (s : Sets) where
+  no : {w : List ℕ} {n : ℕ} → Sound s w (Refuses (suc n) 0)
   no {n = n} = refuses {n = suc n} (omega arith)
 
-  test : {w : List ℕ} {x y : Element} (b : Bool) → (b ≡ true → Sound st w x) → (b ≡ false → Sound st w y) → Sound st w (pick b x y)
+  test : {w : List ℕ} {x y : Shape} (b : Bool) → (b ≡ true → Sound s w x) → (b ≡ false → Sound s w y) → Sound s w (pick b x y)
   unfolding pick
   test true f g = f refl
   test false f g = g refl
 
   -- a unit whose octets do not depend on the side
   plain : {w : List ℕ} {p : Part} (u : TextUnit) (t : List ℕ) → w ≡ octets GL u ++ t → length (octets GL u) ≡ p .skip + p .octets → unitAt p w ≡ u
-      → good u ≡ true → Shows u GL (st .sets) → p .kind ≡ kindOf u → p .text ≡ counts u → Sound st w (Found p st)
+      → good u ≡ true → Shows u GL s → p .kind ≡ kindOf u → p .text ≡ counts u → Sound s w (Gives p)
   plain u t e l r g h k x = finds u GL t (record { fit = g; shows = h; are = e; size = l; unit = r; kind = k; text = x })
 
   -- ---- direction marks
 
   sound-begin : (u : TextUnit) (kind y : ℕ) (t : List ℕ) → octets GL u ≡ 0x9B ∷ y ∷ 0x5D ∷ [] → ((xs : List ℕ) → unitOf kind 0 0 xs ≡ u) → good u ≡ true
-      → Shows u GL (st .sets) → kind ≡ kindOf u → countsAsText kind 0 ≡ counts u → Sound st (0x9B ∷ y ∷ t) (beginOf kind t st)
+      → Shows u GL s → kind ≡ kindOf u → countsAsText kind 0 ≡ counts u → Sound s (0x9B ∷ y ∷ t) (beginOf kind t)
   unfolding beginOf next unitAt
   sound-begin u kind y [] o r g h k x = no
   sound-begin u kind y (z ∷ t) o r g h k x =
@@ -127,7 +126,7 @@ module _ (st : State) where
       (λ e. plain {p = part kind 0 0 0 3 (countsAsText kind 0)} u t (ap (λ (a : ℕ). 0x9B ∷ y ∷ a ∷ t) (eqb-true z 0x5D e) ∙ ap (λ (q : List ℕ). q ++ t) (sym o)) (ap length o) (r _) g h k x)
       (λ _. no)
 
-  sound-csi : (t : List ℕ) → Sound st (0x9B ∷ t) (csiOf t st)
+  sound-csi : (t : List ℕ) → Sound s (0x9B ∷ t) (csiOf t)
   unfolding csiOf next octets good unitOf unitAt
   sound-csi [] = no
   sound-csi (x ∷ t) =
@@ -137,13 +136,13 @@ module _ (st : State) where
 
   -- ---- designations
 
-  sound-intermediates : {w : List ℕ} (t : List ℕ) → Sound st w (intermediatesOf t)
+  sound-intermediates : {w : List ℕ} (t : List ℕ) → Sound s w (intermediatesOf t)
   unfolding intermediatesOf
   sound-intermediates [] = no
   sound-intermediates (b ∷ t) =
       test _ (λ _. no) (λ _. test _ (λ _. sound-intermediates t) (λ _. test _ (λ _. no) (λ _. test _ (λ _. no) (λ _. no))))
 
-  sound-named : (form : ℕ) (d : Side) (x : ℕ) (t : List ℕ) → Sound st (lead form d (x ∷ t)) (designatesOf form d (setOf form d x) st)
+  sound-named : (form : ℕ) (d : Side) (x : ℕ) (t : List ℕ) → Sound s (lead form d (x ∷ t)) (designatesOf form d (setOf form d x))
   unfolding designatesOf
   sound-named form d x t =
       test _
@@ -151,14 +150,14 @@ module _ (st : State) where
       test _ (λ k. designates d (setOf form d x) t (change form d x t n true k)) (λ k. designates d (setOf form d x) t (change form d x t n false k)))
       (λ _. no)
 
-  sound-designation : (form : ℕ) (d : Side) (t : List ℕ) → Sound st (lead form d t) (designationOf form d t st)
+  sound-designation : (form : ℕ) (d : Side) (t : List ℕ) → Sound s (lead form d t) (designationOf form d t)
   unfolding designationOf next
   sound-designation form d [] = no
   sound-designation form d (x ∷ t) =
       test _ (λ _. no)
       (λ _. test _ (λ _. sound-intermediates t) (λ _. test _ (λ _. no) (λ _. test _ (λ _. sound-named form d x t) (λ _. no))))
 
-  sound-multi-octet : (t : List ℕ) → Sound st (0x1B ∷ 0x24 ∷ t) (multiOctetOf t st)
+  sound-multi-octet : (t : List ℕ) → Sound s (0x1B ∷ 0x24 ∷ t) (multiOctetOf t)
   unfolding multiOctetOf next
   sound-multi-octet [] = no
   sound-multi-octet (x ∷ t) =
@@ -168,7 +167,7 @@ module _ (st : State) where
   -- ---- extended segments
 
   held : (e m l n : ℕ) (t : List ℕ) → 0x30 ≤ e → e < 0x35 → 128 ≤ m → m < 256 → 128 ≤ l → l < 256 → n ≡ (m - 128) * 128 + (l - 128) → n ≤ length t
-      → segment e 0 (take n t) ≡ true → Sound st (0x1B ∷ 0x25 ∷ 0x2F ∷ e ∷ m ∷ l ∷ t) (Found (segmentPart e n (textOctets (take n t))) st)
+      → segment e 0 (take n t) ≡ true → Sound s (0x1B ∷ 0x25 ∷ 0x2F ∷ e ∷ m ∷ l ∷ t) (Gives (segmentPart e n (textOctets (take n t))))
   unfolding octets good unitAt unitOf
   held e m l n t le ge lm gm ll gl en h g =
       plain {p = segmentPart e n (textOctets (take n t))} (ext e (take n t)) (drop n t)
@@ -186,16 +185,16 @@ module _ (st : State) where
       low = omega (arith, count)
 
   sound-body : (e m l n : ℕ) (t : List ℕ) → 0x30 ≤ e → e < 0x35 → 128 ≤ m → m < 256 → 128 ≤ l → l < 256 → n ≡ (m - 128) * 128 + (l - 128)
-      → Sound st (0x1B ∷ 0x25 ∷ 0x2F ∷ e ∷ m ∷ l ∷ t) (bodyOf e n t st)
+      → Sound s (0x1B ∷ 0x25 ∷ 0x2F ∷ e ∷ m ∷ l ∷ t) (bodyOf e n t)
   unfolding bodyOf
   sound-body e m l n t le ge lm gm ll gl en =
       test (leb n (length t))
       (λ q. let h = leb-true n (length t) q in
-      subst (Sound st (0x1B ∷ 0x25 ∷ 0x2F ∷ e ∷ m ∷ l ∷ t)) (sym (content e n st (take n t) 0 (let z : n ≡ 0 + length (take n t) = omega (arith, length-take-le n t h) in z)))
+      subst (Sound s (0x1B ∷ 0x25 ∷ 0x2F ∷ e ∷ m ∷ l ∷ t)) (sym (content e n (take n t) 0 (let z : n ≡ 0 + length (take n t) = omega (arith, length-take-le n t h) in z)))
       (test (segment e 0 (take n t)) (λ g. held e m l n t le ge lm gm ll gl en h g) (λ _. no)))
       (λ _. no)
 
-  sound-lengths : (e : ℕ) (t : List ℕ) → 0x30 ≤ e → e < 0x35 → Octets t → Sound st (0x1B ∷ 0x25 ∷ 0x2F ∷ e ∷ t) (lengthsOf e t st)
+  sound-lengths : (e : ℕ) (t : List ℕ) → 0x30 ≤ e → e < 0x35 → Octets t → Sound s (0x1B ∷ 0x25 ∷ 0x2F ∷ e ∷ t) (lengthsOf e t)
   unfolding lengthsOf next
   sound-lengths e [] le ge o = no
   sound-lengths e (m ∷ []) le ge o = test _ (λ _. no) (λ _. no)
@@ -203,7 +202,7 @@ module _ (st : State) where
       test (ltb m 0x80) (λ _. no)
       (λ p. test (ltb l 0x80) (λ _. no) (λ q. sound-body e m l ((m - 128) * 128 + (l - 128)) t le ge (ltb-false m 0x80 p) (o 0) (ltb-false l 0x80 q) (o 1) refl))
 
-  sound-extended : (t : List ℕ) → Octets t → Sound st (0x1B ∷ 0x25 ∷ t) (extendedOf t st)
+  sound-extended : (t : List ℕ) → Octets t → Sound s (0x1B ∷ 0x25 ∷ t) (extendedOf t)
   unfolding extendedOf next
   sound-extended [] o = no
   sound-extended (x ∷ []) o = test _ (λ _. no) (λ _. no)
@@ -213,7 +212,7 @@ module _ (st : State) where
       (test (ltb e 0x30) (λ _. no) (λ p. test (ltb e 0x35) (λ r. sound-lengths e t (ltb-false e 0x30 p) (ltb-true e 0x35 r) (λ i. o (suc (suc i)))) (λ _. no))))
       (λ _. no)
 
-  sound-escape : (t : List ℕ) → Octets t → Sound st (0x1B ∷ t) (escapeOf t st)
+  sound-escape : (t : List ℕ) → Octets t → Sound s (0x1B ∷ t) (escapeOf t)
   unfolding escapeOf next
   sound-escape [] o = no
   sound-escape (x ∷ t) o =
@@ -227,14 +226,14 @@ module _ (st : State) where
   -- ---- characters and spaces
 
   -- a character of the set c, which stands on the side of its first octet b
-  module _ (d : Side) (c b : ℕ) (here : get d (st .sets) ≡ c) (below : c < 15) (side : top d + b % 128 ≡ b) (low : 0x20 ≤ b % 128) (octet : b < 256) where
-    one : (t : List ℕ) → eqb (formOf c) 3 ≡ false → codeUsed (formOf c) (b % 128) ≡ true → Sound st (b ∷ t) (oneOctetOf c b st)
+  module _ (d : Side) (c b : ℕ) (here : get d s ≡ c) (below : c < 15) (side : top d + b % 128 ≡ b) (low : 0x20 ≤ b % 128) (octet : b < 256) where
+    one : (t : List ℕ) → eqb (formOf c) 3 ≡ false → codeUsed (formOf c) (b % 128) ≡ true → Sound s (b ∷ t) (oneOctetOf c b)
     unfolding octets good wide unitAt unitOf
     one t n u =
         finds {p = part 0 c (b % 128) 0 1 true} (char c (b % 128)) d t
         (record { fit = rw (lt-ltb c 15 below, u); shows = here; are = rw n (ap (λ (x : ℕ). x ∷ t) (sym side)); size = rw n; unit = refl; kind = refl; text = refl })
 
-    two : (y : ℕ) (t : List ℕ) → eqb (formOf c) 3 ≡ true → graphicOf (b % 128) ≡ true → y / 128 ≡ b / 128 → graphicOf (y % 128) ≡ true → Sound st (b ∷ y ∷ t) (twoOctetsOf c b y st)
+    two : (y : ℕ) (t : List ℕ) → eqb (formOf c) 3 ≡ true → graphicOf (b % 128) ≡ true → y / 128 ≡ b / 128 → graphicOf (y % 128) ≡ true → Sound s (b ∷ y ∷ t) (twoOctetsOf c b y)
     unfolding octets good wide unitAt unitOf codeUsed
     two y t n u e v =
         let k : ℕ = b % 128 * 256 + y % 128 in
@@ -252,13 +251,13 @@ module _ (st : State) where
           text = refl;
         })
 
-    sound-second : (t : List ℕ) → eqb (formOf c) 3 ≡ true → graphicOf (b % 128) ≡ true → Sound st (b ∷ t) (secondOctetOf c b t st)
+    sound-second : (t : List ℕ) → eqb (formOf c) 3 ≡ true → graphicOf (b % 128) ≡ true → Sound s (b ∷ t) (secondOctetOf c b t)
     unfolding secondOctetOf next
     sound-second [] n u = no
     sound-second (y ∷ t) n u =
         test (eqb (y / 128) (b / 128)) (λ e. test (graphicOf (y % 128)) (λ v. two y t n u (eqb-true (y / 128) (b / 128) e) v) (λ _. no)) (λ _. no)
 
-    sound-character : (t : List ℕ) → Sound st (b ∷ t) (characterOf c b t st)
+    sound-character : (t : List ℕ) → Sound s (b ∷ t) (characterOf c b t)
     unfolding characterOf codeUsed
     sound-character t =
         test (eqb (formOf c) 2)
@@ -266,21 +265,21 @@ module _ (st : State) where
         (λ m. test (graphicOf (b % 128))
         (λ u. test (eqb (formOf c) 3) (λ n. sound-second t n u) (λ n. one t n (rw (n, m, u)))) (λ _. no))
 
-  module _ (l : Legal (st .sets)) where
-    sound-text : (b : ℕ) (t : List ℕ) → 0x20 ≤ b → b < 256 → (0x80 ≤ b → 0xA0 ≤ b) → Sound st (b ∷ t) (textOf b t st)
+  module _ (l : Legal s) where
+    sound-text : (b : ℕ) (t : List ℕ) → 0x20 ≤ b → b < 256 → (0x80 ≤ b → 0xA0 ≤ b) → Sound s (b ∷ t) (textOf b t s)
     unfolding textOf octets good wide unitAt unitOf
     sound-text b t h o r =
         test (eqb b 0x20)
-        (λ e. test (eqb (formOf (st .sets .gl)) 3) (λ _. no)
+        (λ e. test (eqb (formOf (s .gl)) 3) (λ _. no)
         (λ n. plain {p = part 1 0 0 0 1 true} space t (ap (λ (x : ℕ). x ∷ t) (eqb-true b 0x20 e)) refl refl refl n refl refl))
         (λ _. test (ltb b 0x80)
         (λ p. let q = ltb-true b 0x80 p in
-        sound-character GL (st .sets .gl) b refl (allowed-below GL (st .sets .gl) (l .left)) (omega arith) (omega arith) o t)
+        sound-character GL (s .gl) b refl (allowed-below GL (s .gl) (l .left)) (omega arith) (omega arith) o t)
         (λ p. let q = ltb-false b 0x80 p in
         let z = r q in
-        sound-character GR (st .sets .gr) b refl (allowed-below GR (st .sets .gr) (l .right)) (omega arith) (omega arith) o t))
+        sound-character GR (s .gr) b refl (allowed-below GR (s .gr) (l .right)) (omega arith) (omega arith) o t))
 
-    pub sound : (b : ℕ) (t : List ℕ) → Octets (b ∷ t) → Sound st (b ∷ t) (shapeOf (b ∷ t) st)
+    pub sound : (b : ℕ) (t : List ℕ) → Octets (b ∷ t) → Sound s (b ∷ t) (shapeOf (b ∷ t) s)
     unfolding shapeOf octets good unitAt unitOf
     sound b t o =
         test (eqb b 0x1B) (λ e. rw (eqb-true b 0x1B e) (sound-escape t (λ i. o (suc i))))

@@ -1,4 +1,5 @@
--- The reading of a whole string: its elements one after the other, and what they answer.
+-- The reading of a whole string: its elements one after the other, and what they answer. What is asked of a string (its answer, its units,
+-- its records, its pieces) is a fold over them.
 use Prim.Native.Nat.{ℕ, zero, suc, _+_, _-_, _<_}
 use mathlib.Core.Path.{_≡_}
 use mathlib.Core.Bool.{Bool, true, false}
@@ -25,56 +26,64 @@ use Rattle.grammar.specs.Units.{TextUnit, kindOf, counts, unitOf}
 abbrev pub size : Part → ℕ
 size p = p .skip + p .octets
 
--- an element, and what follows: f gives the elements after so many further octets
-unfoldable pub onward : Element → (ℕ → State → List Element) → List Element
-onward End f = End ∷ []
-onward (Refused n o) f = Refused n o ∷ []
-onward (Silent k st) f = Silent k st ∷ f (k - 1) st
-onward (Found p st) f = Found p st ∷ f (size p - 1) st
+-- the elements of a string one after the other, each with the place where it starts; the last is the end or a refusal
+pub data Elements : Type 0 where
+  end-at : ℕ → Elements
+  refused-at : ℕ → ℕ → ℕ → Elements
+  silent-at : ℕ → ℕ → State → Elements → Elements
+  found-at : ℕ → Part → State → Elements → Elements
 
--- the elements of a string, of which k octets belong to the element before and are passed; the last is the end or a refusal
-unfoldable pub elements : List ℕ → ℕ → State → List Element
+-- the element at a place, and what follows: f gives the elements after so many further octets
+unfoldable pub onward : ℕ → Element → (ℕ → State → Elements) → Elements
+onward at End f = end-at at
+onward at (Refused n o) f = refused-at at n o
+onward at (Silent k st) f = silent-at at k st (f (k - 1) st)
+onward at (Found p st) f = found-at at p st (f (size p - 1) st)
+
+-- the elements of octets that start at a place, of which k belong to the element before and are passed
+unfoldable pub elements : List ℕ → ℕ → ℕ → State → Elements
 unfolding onward
-elements [] k st = End ∷ []
-elements (b ∷ t) zero st = onward (elementOf (b ∷ t) st) (λ k next. elements t k next)
-elements (b ∷ t) (suc k) st = elements t k st
+elements [] k at st = end-at at
+elements (b ∷ t) zero at st = onward at (elementOf (b ∷ t) st) (λ k next. elements t k (at + 1) next)
+elements (b ∷ t) (suc k) at st = elements t k (at + 1) st
 
--- what elements answer that start at a place, after so many units: "Accepted is 0, the input's length, and the units"; "A refusal has
--- count 0"; "Place: where the offending element starts"
-unfoldable pub answerOf : ℕ → ℕ → List Element → Answer
-answerOf at count [] = answer refusal.accepted at count
-answerOf at count (End ∷ es) = answer refusal.accepted at count
-answerOf at count (Refused n o ∷ es) = refusedAt n (at + o)
-answerOf at count (Silent k st ∷ es) = answerOf (at + k) count es
-answerOf at count (Found p st ∷ es) = answerOf (at + size p) (count + 1) es
+-- those of a string: "Every string starts from" the fresh state
+abbrev pub elementsOf : List ℕ → Elements
+elementsOf s = elements s 0 0 fresh
 
--- "Reader order: 1, then the first offending element"; "Every string starts from" the fresh state
+-- what elements answer after so many units: "Accepted is 0, the input's length, and the units"; "A refusal has count 0"; "Place: where the
+-- offending element starts"
+unfoldable pub answerOf : ℕ → Elements → Answer
+answerOf count (end-at at) = answer refusal.accepted at count
+answerOf count (refused-at at n o) = refusedAt n (at + o)
+answerOf count (silent-at at k st es) = answerOf count es
+answerOf count (found-at at p st es) = answerOf (count + 1) es
+
+-- "Reader order: 1, then the first offending element"
 unfoldable pub checkOf : List ℕ → Answer
-checkOf s = pick (ltb limit.octets (length s)) (refusedAt refusal.too-long 0) (answerOf 0 0 (elements s 0 fresh))
+checkOf s = pick (ltb limit.octets (length s)) (refusedAt refusal.too-long 0) (answerOf 0 (elementsOf s))
 
 -- no element is refused
-unfoldable pub noneRefused : List Element → Bool
-noneRefused [] = true
-noneRefused (End ∷ es) = true
-noneRefused (Refused n o ∷ es) = false
-noneRefused (Silent k st ∷ es) = noneRefused es
-noneRefused (Found p st ∷ es) = noneRefused es
+unfoldable pub noneRefused : Elements → Bool
+noneRefused (end-at at) = true
+noneRefused (refused-at at n o) = false
+noneRefused (silent-at at k st es) = noneRefused es
+noneRefused (found-at at p st es) = noneRefused es
 
 -- the unit of an element that starts the octets t
 unfoldable pub unitAt : Part → List ℕ → TextUnit
 unitAt p t = unitOf (p .kind) (p .set) (p .code) (take (p .octets) (drop (p .skip) t))
 
 -- the units of elements that start the octets t
-unfoldable pub unitsOf : List ℕ → List Element → List TextUnit
-unitsOf t [] = []
-unitsOf t (End ∷ es) = []
-unitsOf t (Refused n o ∷ es) = []
-unitsOf t (Silent k st ∷ es) = unitsOf (drop k t) es
-unitsOf t (Found p st ∷ es) = unitAt p t ∷ unitsOf (drop (size p) t) es
+unfoldable pub unitsOf : List ℕ → Elements → List TextUnit
+unitsOf t (end-at at) = []
+unitsOf t (refused-at at n o) = []
+unitsOf t (silent-at at k st es) = unitsOf (drop k t) es
+unitsOf t (found-at at p st es) = unitAt p t ∷ unitsOf (drop (size p) t) es
 
 -- "Designations aren't in it."
 unfoldable pub readingOf : List ℕ → List TextUnit
-readingOf s = unitsOf s (elements s 0 fresh)
+readingOf s = unitsOf s (elementsOf s)
 
 -- the step of a unit by the direction rule
 abbrev pub direct : Directions → TextUnit → Step

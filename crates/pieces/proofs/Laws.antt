@@ -11,14 +11,14 @@ use lib.Dec.{eqb, ltb}
 use lib.ListN.{length, getD}
 use lib.Seq.{getD-drop}
 use borrow.Author.Tests.{ltb-true, ltb-false, lt-ltb, le-ltb, eqb-true}
-use Rattle.base.proofs.Ladder.{from-from}
 use Rattle.base.specs.Choice.{pick, from}
 use Rattle.base.specs.Kind as kind
 use Rattle.charset.specs.declared.Side.{Side}
 use Rattle.element.specs.Element.{elementOf, shapeOf, directedOf}
-use Rattle.grammar.specs.Reading.{size, elements, Octets}
+use Rattle.element.proofs.Sizes.{silent, found}
+use Rattle.grammar.specs.Reading.{Elements, size, Octets}
 use Rattle.grammar.specs.Units.{TextUnit, kindOf, octets}
-use Rattle.grammar.proofs.Elements.{elements-end, elements-refused, elements-silent, elements-found}
+use Rattle.grammar.proofs.Places.{ahead, at-end, at-refused, at-passed}
 use Rattle.grammar.proofs.Sound.{Legal, Shown, sound}
 use Rattle.grammar.proofs.Agrees.{Right, refused, passed, read, right, fresh-legal, put-legal}
 use Rattle.state.specs.Directions.{inForceOf}
@@ -32,7 +32,7 @@ use Rattle.pieces.specs.Pieces.{noPiece, sideKindOf, pieceKindOf, pieceO
 use Rattle.pieces.specs.declared.Piece.{Piece}
 use Rattle.pieces.proofs.Joined.{Followed, same, over, other, followed, joined-by}
 use Rattle.pieces.proofs.Partition.{EndToEnd, none, more, tiled}
-use Rattle.pieces.proofs.Step.{Step, stops, goes, step, elementAt, rest, silent-fits, found-fits}
+use Rattle.pieces.proofs.Step.{Step, stops, goes, step, elementAt, rest, fits}
 use Rattle.pieces.proofs.Text.{text-side, text-keeps}
 
 -- ---- longest
@@ -71,7 +71,7 @@ pub record Same (a b : State) : Type 0 where
   pub way : inForceOf (a .directions) ≡ inForceOf (b .directions)
 
 abbrev pub stateFrom : List ℕ → ℕ → State → ℕ → State
-stateFrom s at st i = stateAt at st (elements (from at s) 0 st) i
+stateFrom s at st i = stateAt st (ahead s at st) i
 
 -- at each octet of a run, and after it, its sets and its direction are in force
 abbrev pub InForce : List ℕ → ℕ → State → Piece → Type 0
@@ -159,31 +159,28 @@ module _ (s : List ℕ) where
   StateAfter at st q = (i : ℕ) → (q .end ≡ at → ⊥) → (i < q .end → stateFrom s at st i ≡ st) × (q .end ≤ i → stateFrom s at st i ≡ stateFrom s (q .end) (q .state) i)
 
   -- an element of k octets
-  past : (at : ℕ) (st next : State) (k i : ℕ) (es : List Element) → stateFrom s at st i ≡ pick (ltb i (at + k)) st (stateAt (at + k) next es i) → es ≡ elements (from (at + k) s) 0 next
+  past : (at : ℕ) (st next : State) (k i : ℕ) → stateFrom s at st i ≡ pick (ltb i (at + k)) st (stateFrom s (at + k) next i)
       → (i < at + k → stateFrom s at st i ≡ st) × (at + k ≤ i → stateFrom s at st i ≡ stateFrom s (at + k) next i)
   unfolding pick
-  past at st next k i es e f =
-      (λ h. e ∙ rw (lt-ltb i (at + k) h), λ h. e ∙ rw (le-ltb i (at + k) h) (ap (λ (x : List Element). stateAt (at + k) next x i) f))
+  past at st next k i e = (λ h. e ∙ rw (lt-ltb i (at + k) h), λ h. e ∙ rw (le-ltb i (at + k) h))
 
   state-after : (at : ℕ) (st : State) (e : Element) → elementAt s at st ≡ e → StateAfter at st (pieceOf s at e)
   unfolding pieceOf stateAt
   state-after at st End is i n = absurd (n refl)
   state-after at st (Refused r o) is i n = absurd (n refl)
-  state-after at st (Silent k next) is i n =
-      past at st next k i _ (ap (λ (x : List Element). stateAt at st x i) (elements-silent (from at s) st (silent-fits s at st is .0) is)) (ap (λ (x : List ℕ). elements x 0 next) (from-from s at k))
-  state-after at st (Found p next) is i n =
-      past at st next (size p) i _ (ap (λ (x : List Element). stateAt at st x i) (elements-found (from at s) st (found-fits s at st is .0) is)) (ap (λ (x : List ℕ). elements x 0 next) (from-from s at (size p)))
+  state-after at st (Silent k next) is i n = past at st next k i (ap (λ (x : Elements). stateAt st x i) (at-passed s at st _ refl silent is))
+  state-after at st (Found p next) is i n = past at st next (size p) i (ap (λ (x : Elements). stateAt st x i) (at-passed s at st _ refl found is))
 
   -- at the place itself
   first-state : (at : ℕ) (st : State) (e : Element) → elementAt s at st ≡ e → stateFrom s at st at ≡ st
   unfolding pieceOf stateAt
-  first-state at st End is = ap (λ (x : List Element). stateAt at st x at) (elements-end (from at s) st is)
-  first-state at st (Refused r o) is = ap (λ (x : List Element). stateAt at st x at) (elements-refused (from at s) st is)
+  first-state at st End is = ap (λ (x : Elements). stateAt st x at) (at-end s at st _ refl is)
+  first-state at st (Refused r o) is = ap (λ (x : Elements). stateAt st x at) (at-refused s at st _ refl is)
   first-state at st (Silent k next) is =
-      let z = silent-fits s at st is in
+      let z = fits s at st silent is in
       state-after at st (Silent k next) is at (λ y. absurd (omega arith)) .0 (omega arith)
   first-state at st (Found p next) is =
-      let z = found-fits s at st is in
+      let z = fits s at st found is in
       state-after at st (Found p next) is at (λ y. absurd (omega arith)) .0 (omega arith)
 
   -- ---- what is in force in a run
@@ -222,7 +219,7 @@ module _ (s : List ℕ) where
     good-from : (at : ℕ) (st : State) (w : List ℕ) → from at s ≡ w → Legal (st .sets) → Good st (pieceOf s at (elementOf w st))
     unfolding pieceOf shapeOf directedOf
     good-from at st [] is l = nothing-good at st
-    good-from at st (b ∷ t) is l = good-by at st (b ∷ t) is l (right st (b ∷ t) (sound st l b t (λ i. rw is at (from-octets at i))))
+    good-from at st (b ∷ t) is l = good-by at st (b ∷ t) is l (right st (b ∷ t) (sound (st .sets) l b t (λ i. rw is at (from-octets at i))))
 
     longer-sided : (p q : Piece) → p .start < p .end → q .start ≡ p .end → q .start < q .end → p .kind ≡ q .kind → OneSided s p → OneSided s q → OneSided s (longer p q)
     longer-sided p q n b l e f g r i h k = by (ltb i (p .end)) refl

@@ -2,18 +2,18 @@
 -- its end on follow, joined to it where they are of one run.
 use Prim.Native.Nat.{ℕ, _+_, _-_, _≤_, _<_}
 use native.Mathlib.Omega.{arith}
-use mathlib.Core.Path.{_≡_, refl, ap, sym, _∙_}
+use mathlib.Core.Path.{_≡_, refl, ap, sym, _∙_, subst}
 use mathlib.Core.Bool.{Bool, true, false}
 use mathlib.Core.List.{List, []}
 use lib.ListN.{length, getD}
 use Rattle.base.specs.Choice.{from}
-use Rattle.base.proofs.Ladder.{ended, from-from, from-length}
+use Rattle.base.proofs.Ladder.{ended, from-length}
 use Rattle.element.specs.Element.{shapeOf, directedOf, elementOf}
-use Rattle.element.proofs.Sizes.{Sized, element-size, of-end, of-silent, of-found}
-use Rattle.grammar.specs.Reading.{size, elements, noneRefused}
-use Rattle.grammar.proofs.Elements.{elements-end, elements-refused, elements-silent, elements-found}
+use Rattle.element.proofs.Sizes.{Sized, Passed, silent, found, element-size, of-end}
+use Rattle.grammar.specs.Reading.{size, noneRefused}
+use Rattle.grammar.proofs.Elements.{next-at}
+use Rattle.grammar.proofs.Places.{ahead, at-end, at-refused, at-passed, step-passed}
 use Rattle.state.specs.declared.State.{State}
-use Rattle.state.specs.declared.elements.Part.{Part}
 use Rattle.state.specs.declared.elements.Element.{Element}
 use Rattle.state.specs.declared.elements.Element.the-variants.{End, Refused, Silent, Found}
 use Rattle.pieces.specs.PieceKind as pieceKind
@@ -28,44 +28,43 @@ abbrev pub pieceAt : List ℕ → ℕ → State → Piece
 pieceAt s at st = pieceOf s at (elementAt s at st)
 
 abbrev pub rest : List ℕ → ℕ → State → List Piece
-rest s at st = piecesFrom s at (elements (from at s) 0 st)
+rest s at st = piecesFrom s (ahead s at st)
 
 -- no element is refused from there on
 abbrev pub noRefusal : List ℕ → ℕ → State → Bool
-noRefusal s at st = noneRefused (elements (from at s) 0 st)
+noRefusal s at st = noneRefused (ahead s at st)
 
 pub data Step (s : List ℕ) (at : ℕ) (st : State) : Piece → Type 0 where
   stops : rest s at st ≡ [] → (noRefusal s at st ≡ true → length s ≤ at) → Step s at st (noPiece at)
   goes : {q : Piece} → q .start ≡ at → at < q .end → q .end ≤ length s → rest s at st ≡ joined q (rest s (q .end) (q .state)) → noRefusal s at st ≡ noRefusal s (q .end) (q .state) → Step s at st q
 
 module _ (s : List ℕ) (at : ℕ) (st : State) where
-  sized : (e : Element) → elementAt s at st ≡ e → Sized (length s - at) st e
-  sized e is = rw (← is, ← (from-length s at)) (element-size (from at s) st)
-
   -- an element's octets lie in the string
-  pub silent-fits : {k : ℕ} {next : State} → elementAt s at st ≡ Silent k next → (1 ≤ k) × (at + k ≤ length s)
-  silent-fits is = let z = of-silent (sized _ is) in (z .0, omega arith)
+  pub fits : {e : Element} {k : ℕ} {next : State} → Passed e k next → elementAt s at st ≡ e → (1 ≤ k) × (at + k ≤ length s)
+  fits v is = let t = step-passed s at st _ refl v is in (t .some, t .fits)
 
-  pub found-fits : {p : Part} {next : State} → elementAt s at st ≡ Found p next → (1 ≤ size p) × (at + size p ≤ length s)
-  found-fits is = let z = of-found (sized _ is) in (z .0, omega arith)
+  -- the piece of an element that is passed, of some kind
+  on : {e : Element} {k : ℕ} {next : State} (kind : ℕ) → Passed e k next → elementAt s at st ≡ e
+      → piecesFrom s (next-at at e (ahead s (at + k) next)) ≡ joined (piece at (at + k) kind next) (rest s (at + k) next)
+      → noneRefused (next-at at e (ahead s (at + k) next)) ≡ noRefusal s (at + k) next → Step s at st (piece at (at + k) kind next)
+  on {k = k} {next} kind v is pieces refusal =
+      let z = fits v is in
+      let a = at-passed s at st _ refl v is in
+      goes {q = piece at (at + k) kind next} refl (omega (arith, z .0)) (z .1) (ap (piecesFrom s) a ∙ pieces) (ap noneRefused a ∙ refusal)
 
   step-by : (e : Element) → elementAt s at st ≡ e → Step s at st (pieceOf s at e)
   unfolding pieceOf piecesFrom noneRefused
   step-by End is =
-      let z = of-end (sized End is) in
-      stops (ap (piecesFrom s at) (elements-end (from at s) st is)) (λ h. omega arith)
+      let z = of-end (subst (Sized (length (from at s)) st) is (element-size (from at s) st)) in
+      stops (ap (piecesFrom s) (at-end s at st _ refl is)) (λ h. omega (arith, z, from-length s at))
   step-by (Refused n o) is =
-      stops (ap (piecesFrom s at) (elements-refused (from at s) st is))
+      stops (ap (piecesFrom s) (at-refused s at st _ refl is))
       (λ h.
-      let f : false ≡ true = sym (ap noneRefused (elements-refused (from at s) st is)) ∙ h in
+      let f : false ≡ true = sym (ap noneRefused (at-refused s at st _ refl is)) ∙ h in
       let z : _≡_ {A = ℕ} 0 1 = cc in
       absurd (omega arith))
-  step-by (Silent k next) is =
-      let z = silent-fits is in
-      goes {q = piece at (at + k) pieceKind.control next} refl (omega arith) (z .1) (rw (← (from-from s at k)) (ap (piecesFrom s at) (elements-silent (from at s) st (z .0) is))) (rw (← (from-from s at k)) (ap noneRefused (elements-silent (from at s) st (z .0) is)))
-  step-by (Found p next) is =
-      let z = found-fits is in
-      goes {q = piece at (at + size p) (pieceKindOf (p .kind) (getD s at 0)) next} refl (omega arith) (z .1) (rw (← (from-from s at (size p))) (ap (piecesFrom s at) (elements-found (from at s) st (z .0) is))) (rw (← (from-from s at (size p))) (ap noneRefused (elements-found (from at s) st (z .0) is)))
+  step-by (Silent k next) is = on pieceKind.control silent is refl refl
+  step-by (Found p next) is = on (pieceKindOf (p .kind) (getD s at 0)) found is refl refl
 
   pub step : Step s at st (pieceAt s at st)
   step = step-by (elementAt s at st) refl

@@ -7,7 +7,7 @@ use lib.Dec.{eqb, leb, ltb}
 use lib.ListN.{getD}
 use Rattle.base.specs.Choice.{pick}
 use Rattle.base.specs.Kind as kind
-use Rattle.grammar.specs.Reading.{size, elements}
+use Rattle.grammar.specs.Reading.{Elements, end-at, refused-at, silent-at, found-at, size, elementsOf}
 use Rattle.state.specs.State.{fresh}
 use Rattle.state.specs.declared.State.{State}
 use Rattle.state.specs.declared.elements.Element.{Element}
@@ -61,17 +61,16 @@ unfoldable pub joined : Piece → List Piece → List Piece
 joined p [] = p ∷ []
 joined p (q ∷ qs) = pick (sameRunOf (p .kind) (q .kind)) (longer p q ∷ qs) (p ∷ q ∷ qs)
 
--- the pieces of elements that start at a place of a string
-unfoldable pub piecesFrom : List ℕ → ℕ → List Element → List Piece
+-- the pieces of elements of a string
+unfoldable pub piecesFrom : List ℕ → Elements → List Piece
 unfolding pieceOf
-piecesFrom s at [] = []
-piecesFrom s at (End ∷ es) = []
-piecesFrom s at (Refused n o ∷ es) = []
-piecesFrom s at (Silent k st ∷ es) = joined (pieceOf s at (Silent k st)) (piecesFrom s (at + k) es)
-piecesFrom s at (Found p st ∷ es) = joined (pieceOf s at (Found p st)) (piecesFrom s (at + size p) es)
+piecesFrom s (end-at at) = []
+piecesFrom s (refused-at at n o) = []
+piecesFrom s (silent-at at k st es) = joined (pieceOf s at (Silent k st)) (piecesFrom s es)
+piecesFrom s (found-at at p st es) = joined (pieceOf s at (Found p st)) (piecesFrom s es)
 
 unfoldable pub piecesOf : List ℕ → List Piece
-piecesOf s = piecesFrom s 0 (elements s 0 fresh)
+piecesOf s = piecesFrom s (elementsOf s)
 
 -- whether the octet at a place lies in a piece, and in how many pieces it does
 unfoldable pub contains : Piece → ℕ → Bool
@@ -85,13 +84,12 @@ holding (p ∷ ps) i = pick (contains p i) (1 + holding ps i) (holding ps i)
 unfoldable pub setIn : Piece → ℕ
 setIn p = pick (eqb (p .kind) pieceKind.gl-run) (p .state .sets .gl) (p .state .sets .gr)
 
--- the state in which the octet at a place i is read, of elements that start at a place with a state: that before its element
-unfoldable pub stateAt : ℕ → State → List Element → ℕ → State
-stateAt at st [] i = st
-stateAt at st (End ∷ es) i = st
-stateAt at st (Refused n o ∷ es) i = st
-stateAt at st (Silent k next ∷ es) i = pick (ltb i (at + k)) st (stateAt (at + k) next es i)
-stateAt at st (Found p next ∷ es) i = pick (ltb i (at + size p)) st (stateAt (at + size p) next es i)
+-- the state in which the octet at a place i is read, of elements that start with a state: that before its element
+unfoldable pub stateAt : State → Elements → ℕ → State
+stateAt st (end-at at) i = st
+stateAt st (refused-at at n o) i = st
+stateAt st (silent-at at k next es) i = pick (ltb i (at + k)) st (stateAt next es i)
+stateAt st (found-at at p next es) i = pick (ltb i (at + size p)) st (stateAt next es i)
 
 -- ---- what the code asks of two neighbours, and `joined` answers for a list
 

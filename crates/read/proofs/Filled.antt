@@ -17,17 +17,16 @@ use Rattle.base.specs.declared.Answer.{Answer}
 use Rattle.base.specs.declared.Unit.{Unit as UnitRecord}
 use Rattle.state.specs.State.{fresh}
 use Rattle.state.specs.declared.State.{State}
-use Rattle.state.specs.declared.elements.Element.{Element}
-use Rattle.grammar.specs.Reading.{size, elements, answerOf, checkOf}
-use Rattle.grammar.proofs.Places.{Ahead, ends, stops, passes, reads}
+use Rattle.grammar.specs.Reading.{Elements, size, elementsOf, answerOf, checkOf}
+use Rattle.grammar.proofs.Places.{Ahead, ends, stops, passes, reads, from-start}
 use Rattle.units.specs.Records.{recordOf, recordsFrom, recordsOf}
 use Rattle.units.specs.Next.{outcomeOf}
 use Rattle.units.specs.declared.Outcome.the-variants.{Gives}
-use Rattle.units.proofs.Records.{from-start}
 use Rattle.walks.proofs.Filling.{fillFrom}
 use Rattle.cursor.specs.declared.Cursor.{Cursor}
 use Rattle.cursor.specs.declared.Turn.{Turn}
 use Rattle.cursor.specs.Cursor.{cursor, first, turn, advanceOf}
+use Rattle.cursor.proofs.Lenient.{Like, like-itself}
 use Rattle.cursor.proofs.Turns.{Turns, turns, advance-ahead}
 use Rattle.read.specs.Listing.{readAnswer, storedOf, listAfter}
 use Rattle.read.proofs.Cases.{Case, refuses, lacks, accepts, read-cases}
@@ -42,25 +41,27 @@ after s c = advanceOf s c .cursor
 abbrev pub filledTo : List ℕ → ℕ → Cursor → List UnitRecord → List UnitRecord
 filledTo s n c ys = fillFrom (unitAt s) (after s) n c ys
 
-given : {r : Turn} {u : UnitRecord} {place : ℕ} {st : State} → Turns r (Gives u place st) → r ≡ turn u (cursor place (st .sets))
-given turns = refl
+-- a turn that gives a unit, by the state of the cursor after it
+given : {r : Turn} {u : UnitRecord} {place : ℕ} {st : State} → Turns r (Gives u place st) → (to : State) × ((r ≡ turn u (cursor place to)) × Like st to)
+given (turns {to = to} l) = (to, (refl, l))
 
 module _ (s : List ℕ) (short : length s ≤ limit.octets) where
   -- a cursor from which the next unit, if there is one, is that of the elements
-  fills : {at : ℕ} {st : State} {es : List Element} → Ahead s at st es → (c : Cursor) → (1 ≤ length (recordsFrom at es) → Turns (advanceOf s c) (outcomeOf at es))
-      → (ys : List UnitRecord) → length (recordsFrom at es) ≤ length ys
-      → filledTo s (length (recordsFrom at es)) c ys ≡ recordsFrom at es ++ drop (length (recordsFrom at es)) ys
+  fills : {at : ℕ} {st : State} {es : Elements} → Ahead s at st es → (c : Cursor) → (1 ≤ length (recordsFrom es) → Turns (advanceOf s c) (outcomeOf es))
+      → (ys : List UnitRecord) → length (recordsFrom es) ≤ length ys
+      → filledTo s (length (recordsFrom es)) c ys ≡ recordsFrom es ++ drop (length (recordsFrom es)) ys
   unfolding recordsFrom outcomeOf
   fills (ends e) c h ys k = refl
   fills (stops f e) c h ys k = refl
   fills (passes t e a) c h ys k = fills a c h ys k
   fills (reads t m e a) c h [] k = absurd (not-suc-le-zero k)
   fills {at} (reads {p = p} {next = next} {es = es} t m e a) c h (y ∷ ys) k =
-      ap (λ (t : Turn). t .unit ∷ filledTo s (length (recordsFrom (at + size p) es)) (t .cursor) ys) (given (h (omega arith)))
-      ∙ ap (λ (l : List UnitRecord). recordOf p at ∷ l) (fills a (cursor (at + size p) (next .sets)) (advance-ahead s short a) ys (le-of-suc-le-suc k))
+      let g = given (h (omega arith)) in
+      ap (λ (t : Turn). t .unit ∷ filledTo s (length (recordsFrom es)) (t .cursor) ys) (g .1 .0)
+      ∙ ap (λ (l : List UnitRecord). recordOf p at ∷ l) (fills a (cursor (at + size p) (g .0)) (advance-ahead s short a (g .1 .1)) ys (le-of-suc-le-suc k))
 
 -- an accepted string has at most 65,535 octets
-short-by : (s : List ℕ) (b : Bool) → ltb limit.octets (length s) ≡ b → pick b (refusedAt refusal.too-long 0) (answerOf 0 0 (elements s 0 fresh)) .number ≡ refusal.accepted → length s ≤ limit.octets
+short-by : (s : List ℕ) (b : Bool) → ltb limit.octets (length s) ≡ b → pick b (refusedAt refusal.too-long 0) (answerOf 0 (elementsOf s)) .number ≡ refusal.accepted → length s ≤ limit.octets
 unfolding pick
 short-by s true e z = absurd (let y : _≡_ {A = ℕ} refusal.too-long refusal.accepted = z in omega arith)
 short-by s false e z = ltb-false limit.octets (length s) e
@@ -72,7 +73,7 @@ short s z = short-by s (ltb limit.octets (length s)) refl z
 all : (s : List ℕ) (ys : List UnitRecord) → checkOf s .number ≡ refusal.accepted → length (recordsOf s) ≤ length ys
     → filledTo s (length (recordsOf s)) first ys ≡ recordsOf s ++ drop (length (recordsOf s)) ys
 unfolding recordsOf
-all s ys z h = fills s (short s z) (from-start s) first (advance-ahead s (short s z) (from-start s)) ys h
+all s ys z h = fills s (short s z) (from-start s) first (advance-ahead s (short s z) (from-start s) (like-itself fresh)) ys h
 
 -- an answer that refuses stores none
 none-stored : (a : Answer) → (a .number ≡ refusal.accepted → ⊥) → storedOf a ≡ 0

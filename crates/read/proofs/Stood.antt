@@ -18,19 +18,20 @@ use Rattle.base.specs.declared.Unit.{Unit as UnitRecord}
 use Rattle.charset.specs.Charsets.{no-set}
 use Rattle.state.specs.Directions.{stepOf}
 use Rattle.state.specs.Elements.{part}
-use Rattle.state.specs.State.{state}
 use Rattle.state.specs.declared.Sets.{Sets}
+use Rattle.state.specs.declared.State.{State}
 use Rattle.state.specs.declared.elements.Element.{Element}
 use Rattle.state.specs.declared.elements.Element.the-variants.{Found}
 use Rattle.element.specs.Element.{shapeOf, steppedOf, directedOf, elementOf}
-use Rattle.grammar.proofs.Places.{at-found}
+use Rattle.element.proofs.Sizes.{found}
+use Rattle.grammar.proofs.Places.{at-passed}
 use Rattle.units.specs.Next.{outcomeOf, nextOf}
-use Rattle.cursor.specs.Cursor.{cursor, setsIn, turn, free, turnOf, elementTurn, first-double, textOctet, setAt, unlessSpace, kindAt, doubleOf, quickOf, textTurn, advanceAt, advanceOf}
-use Rattle.read.specs.Spans.{any, ones, left-twos, right-twos, singleOf, leftFirst, twoOctets, formAt, lesserOf, anyOf, ofForm, byForm, spanOf, Fits, movedOf, stands, kindOf, ifGraphic, oneOf, twoAt, nthOf}
+use Rattle.cursor.specs.Cursor.{cursor, turn, turnOf, elementTurn, first-double, textOctet, setAt, kindAt, ifGraphic, oneOf, doubleOf, octetOf, quickOf, textTurn, advanceAt, advanceOf}
+use Rattle.read.specs.Spans.{any, ones, left-twos, right-twos, singleOf, leftFirst, hasTwo, formAt, lesserOf, anyOf, ofForm, byForm, spanOf, Fits, movedOf, stands, oneAt, twoAt, nthOf}
 use Rattle.cursor.specs.declared.Cursor.{Cursor}
 use Rattle.cursor.specs.declared.Turn.{Turn}
 use Rattle.read.specs.declared.spans.Span.{Span}
-use Rattle.cursor.proofs.Rules.{on-quick, on-double, on-advance}
+use Rattle.cursor.proofs.Rules.{on-quick, on-text, on-double, on-advance}
 
 -- ---- what an octet by itself is taken for
 
@@ -86,108 +87,87 @@ left-range b e = go (leb b 0x20) refl e
     go true h e = absurd (false≢true e)
     go false h e = (leb-false b 0x20 h, ltb-true b 0x7F e)
 
-two-range : (set : ℕ) → twoOctets set ≡ true → (first-double ≤ set) × (set < no-set)
-unfolding twoOctets pick
+two-range : (set : ℕ) → hasTwo set ≡ true → (first-double ≤ set) × (set < no-set)
+unfolding hasTwo pick
 two-range set e = go (ltb set first-double) refl e
   where
     go : (x : Bool) → ltb set first-double ≡ x → pick x false (ltb set no-set) ≡ true → (first-double ≤ set) × (set < no-set)
     go true h e = absurd (false≢true e)
     go false h e = (ltb-false set first-double h, ltb-true set no-set e)
 
--- from a space on the fields are those of `advance`
-kind-same : (b : ℕ) → 0x20 ≤ b → kindOf b ≡ kindAt b
-unfolding kindOf kindAt pick
-kind-same b h = go (eqb b 0x20) refl
-  where
-    go : (x : Bool) → eqb b 0x20 ≡ x → kindOf b ≡ pick x kind.space kind.character
-    go true e = rw (eqb-true b 0x20 e)
-    go false e = sym (on-lt 0x20 b _ _ _ (let n = eqb-false b 0x20 e in omega (arith, n, h)) refl)
-
-graphic-same : (b x : ℕ) → 0x20 ≤ b → ifGraphic b x ≡ unlessSpace b x
-unfolding ifGraphic unlessSpace pick
-graphic-same b x h = go (eqb b 0x20) refl
-  where
-    go : (y : Bool) → eqb b 0x20 ≡ y → ifGraphic b x ≡ pick y 0 x
-    go true e = rw (eqb-true b 0x20 e)
-    go false e = sym (on-gt b 0x20 _ _ _ (let n = eqb-false b 0x20 e in omega (arith, n, h)) refl)
-
 module _ (s : List ℕ) where
   -- an octet that is not an escape: the unit is that of text, or the element's
-  plain-turn : (at : ℕ) (sets : Sets) (r : Turn) → at < length s → (getD s at 0 ≡ 0x1B → ⊥) → r ≡ textTurn s (cursor at sets) → r ≡ advanceOf s (cursor at sets)
+  plain-turn : (at : ℕ) (st : State) (r : Turn) → at < length s → (getD s at 0 ≡ 0x1B → ⊥) → r ≡ textTurn s (cursor at st) → r ≡ advanceOf s (cursor at st)
   unfolding advanceAt
-  plain-turn at sets r h n e = on-advance s at (cursor at sets) r h (on-ne (getD s at 0) 0x1B _ _ _ n e)
+  plain-turn at st r h n e = on-advance s at (cursor at st) r h (on-ne (getD s at 0) 0x1B _ _ _ n e)
 
   -- ---- a character or space of one octet
-  one-text : (at : ℕ) (sets : Sets) → at < length s → 0x20 ≤ getD s at 0 → textOctet (getD s at 0) ≡ true → setAt (getD s at 0) sets < first-double
-      → turn (oneOf at (getD s at 0) sets) (cursor (at + 1) sets) ≡ advanceOf s (cursor at sets)
-  unfolding textTurn quickOf
-  one-text at sets h k t l =
-      plain-turn at sets _ h (λ q. omega (arith, q, k))
-      (on-quick s at sets (elementTurn s (cursor at sets)) _ h
-      (on-true (textOctet (getD s at 0)) _ _ _ t
-      (on-lt (setAt (getD s at 0) sets) first-double _ _ _ l
-      (rw (kind-same (getD s at 0) k, graphic-same (getD s at 0) (setAt (getD s at 0) sets) k, graphic-same (getD s at 0) (getD s at 0 % 128) k)))))
+  one-text : (at : ℕ) (st : State) → at < length s → 0x20 ≤ getD s at 0 → textOctet (getD s at 0) ≡ true → setAt (getD s at 0) (st .sets) < first-double
+      → turn (oneAt s at (st .sets)) (cursor (at + 1) st) ≡ advanceOf s (cursor at st)
+  unfolding textTurn octetOf
+  one-text at st h k t l =
+      plain-turn at st _ h (λ q. omega (arith, q, k))
+      (on-quick s at st (elementTurn s (cursor at st)) _ h
+      (on-text at (getD s at 0) _ _ st (elementTurn s (cursor at st)) _ t refl (on-lt (setAt (getD s at 0) (st .sets)) first-double _ _ _ l refl)))
 
   -- ---- a character of two
-  two-text : (at set : ℕ) (sets : Sets) → at + 1 < length s → 0x20 < getD s at 0 → textOctet (getD s at 0) ≡ true
-      → set ≡ setAt (getD s at 0) sets → first-double ≤ set → set < no-set
-      → turn (twoAt s at set) (cursor (at + 2) sets) ≡ advanceOf s (cursor at sets)
-  unfolding textTurn quickOf doubleOf
-  two-text at set sets h k t e l m =
-      plain-turn at sets _ (omega (arith, h)) (λ q. omega (arith, q, k))
-      (on-quick s at sets (elementTurn s (cursor at sets)) _ (omega (arith, h))
-      (on-true (textOctet (getD s at 0)) _ _ _ t
-      (on-ge (setAt (getD s at 0) sets) first-double _ _ _ (rw e at l)
-      (on-double s at (getD s at 0) sets (elementTurn s (cursor at sets)) _ h
-      (on-ne (getD s at 0) 0x20 _ _ _ (λ q. omega (arith, q, k))
-      (on-lt (setAt (getD s at 0) sets) no-set _ _ _ (rw e at m) (rw e)))))))
+  two-text : (at set : ℕ) (st : State) → at + 1 < length s → 0x20 < getD s at 0 → textOctet (getD s at 0) ≡ true
+      → set ≡ setAt (getD s at 0) (st .sets) → first-double ≤ set → set < no-set
+      → turn (twoAt s at set) (cursor (at + 2) st) ≡ advanceOf s (cursor at st)
+  unfolding textTurn octetOf doubleOf
+  two-text at set st h k t e l m =
+      plain-turn at st _ (omega (arith, h)) (λ q. omega (arith, q, k))
+      (on-quick s at st (elementTurn s (cursor at st)) _ (omega (arith, h))
+      (on-text at (getD s at 0) _ set st (elementTurn s (cursor at st)) _ t e
+      (on-ge set first-double _ _ _ l
+      (on-double s at (getD s at 0) set st (elementTurn s (cursor at st)) _ h
+      (on-ne (getD s at 0) 0x20 _ _ _ (λ q. omega (arith, q, k)) (on-lt set no-set _ _ _ m refl))))))
 
   -- ---- a tab or a newline, of kind k
   module _ (short : length s ≤ limit.octets) where
     abbrev lone : ℕ → ℕ → UnitRecord
     lone at k = record { kind = k; set = 0; code = 0; start = at % 2 ^ 32; length = 1 }
 
-    lone-turn : (at k : ℕ) (sets : Sets) → at < length s → elementOf (from at s) (state sets free) ≡ Found (part k 0 0 0 1 false) (state sets free)
-        → turn (lone at k) (cursor (at + 1) sets) ≡ elementTurn s (cursor at sets)
+    lone-turn : (at k : ℕ) (st : State) → at < length s → elementOf (from at s) st ≡ Found (part k 0 0 0 1 false) st
+        → turn (lone at k) (cursor (at + 1) st) ≡ elementTurn s (cursor at st)
     unfolding elementTurn nextOf outcomeOf turnOf pick
-    lone-turn at k sets h e =
+    lone-turn at k st h e =
         let m : at % 2 ^ 32 ≡ at + 0 = mod-eq-of-lt (omega (arith, h, short)) ∙ (let z : at ≡ at + 0 = omega arith in z) in
         let n : at + 1 ≡ at + (0 + 1) = omega arith in
-        rw (le-ltb limit.octets (length s) short, at-found s at (state sets free) _ refl e, m, n)
+        rw (le-ltb limit.octets (length s) short, at-passed s at st _ refl found e, m, n)
 
-    lone-advance : (at k : ℕ) (sets : Sets) → at < length s → (getD s at 0 ≡ 0x1B → ⊥) → textOctet (getD s at 0) ≡ false
-        → elementOf (from at s) (state sets free) ≡ Found (part k 0 0 0 1 false) (state sets free)
-        → turn (lone at k) (cursor (at + 1) sets) ≡ advanceOf s (cursor at sets)
+    lone-advance : (at k : ℕ) (st : State) → at < length s → (getD s at 0 ≡ 0x1B → ⊥) → textOctet (getD s at 0) ≡ false
+        → elementOf (from at s) st ≡ Found (part k 0 0 0 1 false) st
+        → turn (lone at k) (cursor (at + 1) st) ≡ advanceOf s (cursor at st)
     unfolding textTurn quickOf
-    lone-advance at k sets h n t e =
-        plain-turn at sets _ h n (on-quick s at sets (elementTurn s (cursor at sets)) _ h (on-false (textOctet (getD s at 0)) _ _ _ t (lone-turn at k sets h e)))
+    lone-advance at k st h n t e =
+        plain-turn at st _ h n
+        (on-quick s at st (elementTurn s (cursor at st)) _ h (on-false (textOctet (getD s at 0)) _ _ _ t (lone-turn at k st h e)))
 
-    tab-advance : (at : ℕ) (sets : Sets) → at < length s → getD s at 0 ≡ 0x09
-        → turn (oneOf at (getD s at 0) sets) (cursor (at + 1) sets) ≡ advanceOf s (cursor at sets)
-    unfolding shapeOf directedOf steppedOf stepOf textOctet kindOf ifGraphic pick
-    tab-advance at sets h e =
-        let t : textOctet (getD s at 0) ≡ false = rw e in
-        let f : elementOf (from at s) (state sets free) ≡ Found (part kind.tab 0 0 0 1 false) (state sets free) = rw (from-octet s at h, e) in
-        let g : turn (oneOf at (getD s at 0) sets) (cursor (at + 1) sets) ≡ turn (lone at kind.tab) (cursor (at + 1) sets) = rw e in
-        g ∙ lone-advance at kind.tab sets h (λ q. omega (arith, q, e)) t f
+    -- the octet b of kind k, which is no text and leaves the state
+    blank-advance : (at b k : ℕ) (st : State) → at < length s → getD s at 0 ≡ b → (b ≡ 0x1B → ⊥) → textOctet b ≡ false → oneOf at b (setAt b (st .sets)) ≡ lone at k
+        → ((t : List ℕ) → elementOf (b ∷ t) st ≡ Found (part k 0 0 0 1 false) st) → turn (oneAt s at (st .sets)) (cursor (at + 1) st) ≡ advanceOf s (cursor at st)
+    blank-advance at b k st h e n t g f =
+        let i : elementOf (from at s) st ≡ Found (part k 0 0 0 1 false) st = rw (from-octet s at h, e) (f _) in
+        let j : turn (oneAt s at (st .sets)) (cursor (at + 1) st) ≡ turn (lone at k) (cursor (at + 1) st) = rw (e, g) in
+        j ∙ lone-advance at k st h (rw e n) (rw e t) i
 
-    newline-advance : (at : ℕ) (sets : Sets) → at < length s → getD s at 0 ≡ 0x0A
-        → turn (oneOf at (getD s at 0) sets) (cursor (at + 1) sets) ≡ advanceOf s (cursor at sets)
-    unfolding shapeOf directedOf steppedOf stepOf textOctet kindOf ifGraphic pick
-    newline-advance at sets h e =
-        let t : textOctet (getD s at 0) ≡ false = rw e in
-        let f : elementOf (from at s) (state sets free) ≡ Found (part kind.newline 0 0 0 1 false) (state sets free) = rw (from-octet s at h, e) in
-        let g : turn (oneOf at (getD s at 0) sets) (cursor (at + 1) sets) ≡ turn (lone at kind.newline) (cursor (at + 1) sets) = rw e in
-        g ∙ lone-advance at kind.newline sets h (λ q. omega (arith, q, e)) t f
+    tab-advance : (at : ℕ) (st : State) → at < length s → getD s at 0 ≡ 0x09 → turn (oneAt s at (st .sets)) (cursor (at + 1) st) ≡ advanceOf s (cursor at st)
+    unfolding shapeOf directedOf steppedOf stepOf textOctet kindAt ifGraphic pick
+    tab-advance at st h e = blank-advance at 0x09 kind.tab st h e (λ q. omega arith) refl refl (λ _. refl)
 
-    one-advance : (at : ℕ) (sets : Sets) → at < length s → singleOf (getD s at 0) sets ≡ true
-        → turn (oneOf at (getD s at 0) sets) (cursor (at + 1) sets) ≡ advanceOf s (cursor at sets)
-    one-advance at sets h e = by (singled (getD s at 0) sets e)
+    newline-advance : (at : ℕ) (st : State) → at < length s → getD s at 0 ≡ 0x0A → turn (oneAt s at (st .sets)) (cursor (at + 1) st) ≡ advanceOf s (cursor at st)
+    unfolding shapeOf directedOf steppedOf stepOf textOctet kindAt ifGraphic pick
+    newline-advance at st h e = blank-advance at 0x0A kind.newline st h e (λ q. omega arith) refl refl (λ _. refl)
+
+    one-advance : (at : ℕ) (st : State) → at < length s → singleOf (getD s at 0) (st .sets) ≡ true
+        → turn (oneAt s at (st .sets)) (cursor (at + 1) st) ≡ advanceOf s (cursor at st)
+    one-advance at st h e = by (singled (getD s at 0) (st .sets) e)
       where
-        by : Single (getD s at 0) sets → turn (oneOf at (getD s at 0) sets) (cursor (at + 1) sets) ≡ advanceOf s (cursor at sets)
-        by (tab i) = tab-advance at sets h i
-        by (newline i) = newline-advance at sets h i
-        by (text k t l) = one-text at sets h k t l
+        by : Single (getD s at 0) (st .sets) → turn (oneAt s at (st .sets)) (cursor (at + 1) st) ≡ advanceOf s (cursor at st)
+        by (tab i) = tab-advance at st h i
+        by (newline i) = newline-advance at st h i
+        by (text k t l) = one-text at st h k t l
 
 -- ---- the spans
 
@@ -195,8 +175,8 @@ module _ (s : List ℕ) where
 data FormIs (b : ℕ) (sets : Sets) : ℕ → Type 0 where
   is-any : FormIs b sets any
   is-ones : singleOf b sets ≡ true → FormIs b sets ones
-  is-left : leftFirst b ≡ true → twoOctets (sets .gl) ≡ true → FormIs b sets left-twos
-  is-right : 0xA0 ≤ b → twoOctets (sets .gr) ≡ true → FormIs b sets right-twos
+  is-left : leftFirst b ≡ true → hasTwo (sets .gl) ≡ true → FormIs b sets left-twos
+  is-right : 0xA0 ≤ b → hasTwo (sets .gr) ≡ true → FormIs b sets right-twos
 
 form-pick : {b : ℕ} {sets : Sets} (t : Bool) (x y : ℕ) → (t ≡ true → FormIs b sets x) → (t ≡ false → FormIs b sets y) → FormIs b sets (pick t x y)
 unfolding pick
@@ -207,9 +187,9 @@ formed : (b : ℕ) (sets : Sets) → FormIs b sets (formAt b sets)
 unfolding formAt
 formed b sets =
     form-pick (singleOf b sets) _ _ is-ones
-    (λ _. form-pick (leftFirst b) _ _ (λ l. form-pick (twoOctets (sets .gl)) _ _ (λ t. is-left l t) (λ _. is-any))
+    (λ _. form-pick (leftFirst b) _ _ (λ l. form-pick (hasTwo (sets .gl)) _ _ (λ t. is-left l t) (λ _. is-any))
     (λ _. form-pick (ltb b 0xA0) _ _ (λ _. is-any)
-    (λ h. form-pick (twoOctets (sets .gr)) _ _ (λ t. is-right (ltb-false b 0xA0 h) t) (λ _. is-any))))
+    (λ h. form-pick (hasTwo (sets .gr)) _ _ (λ t. is-right (ltb-false b 0xA0 h) t) (λ _. is-any))))
 
 least : (m n : ℕ) → (lesserOf m n ≤ m) × ((lesserOf m n ≤ n) × (1 ≤ m → 1 ≤ n → 1 ≤ lesserOf m n))
 unfolding lesserOf pick
@@ -229,16 +209,16 @@ module _ (s : List ℕ) (c : Cursor) (n : ℕ) where
   -- the span at a cursor, by the octet there
   data Spans : Span → Type 0 where
     as-any : Spans (anyOf s c)
-    as-ones : c .place < length s → singleOf b (setsIn c) ≡ true → Spans (ofForm c ones (lesserOf octets n))
-    as-left : 2 ≤ octets → leftFirst b ≡ true → twoOctets (c .gl) ≡ true → Spans (ofForm c left-twos (lesserOf (octets / 2) n))
-    as-right : 2 ≤ octets → 0xA0 ≤ b → twoOctets (c .gr) ≡ true → Spans (ofForm c right-twos (lesserOf (octets / 2) n))
+    as-ones : c .place < length s → singleOf b (c .state .sets) ≡ true → Spans (ofForm c ones (lesserOf octets n))
+    as-left : 2 ≤ octets → leftFirst b ≡ true → hasTwo (c .state .sets .gl) ≡ true → Spans (ofForm c left-twos (lesserOf (octets / 2) n))
+    as-right : 2 ≤ octets → 0xA0 ≤ b → hasTwo (c .state .sets .gr) ≡ true → Spans (ofForm c right-twos (lesserOf (octets / 2) n))
 
   spans-pick : (t : Bool) (x y : Span) → (t ≡ true → Spans x) → (t ≡ false → Spans y) → Spans (pick t x y)
   unfolding pick
   spans-pick true x y h k = h refl
   spans-pick false x y h k = k refl
 
-  by-form : {form : ℕ} → c .place < length s → FormIs b (setsIn c) form → Spans (byForm s c n form octets)
+  by-form : {form : ℕ} → c .place < length s → FormIs b (c .state .sets) form → Spans (byForm s c n form octets)
   unfolding byForm
   by-form h is-any = spans-pick (eqb any any) _ _ (λ _. as-any) (λ e. absurd (eqb-false any any e refl))
   by-form h (is-ones e) =
@@ -256,7 +236,7 @@ module _ (s : List ℕ) (c : Cursor) (n : ℕ) where
   spanned : Spans (spanOf s c n)
   unfolding spanOf
   spanned =
-      spans-pick (leb (length s) (c .place)) _ _ (λ _. as-any) (λ h. by-form (leb-false (length s) (c .place) h) (formed b (setsIn c)))
+      spans-pick (leb (length s) (c .place)) _ _ (λ _. as-any) (λ h. by-form (leb-false (length s) (c .place) h) (formed b (c .state .sets)))
 
   -- ---- its units are in the string, and there is one
   fits-by : {r : Span} → Spans r → Fits s r
@@ -305,19 +285,19 @@ module _ (s : List ℕ) (c : Cursor) (n : ℕ) where
   stood r (suc j) = movedOf r (suc j)
 
   module _ (short : length s ≤ limit.octets) where
-    ones-at : (m j : ℕ) → stood (ofForm c ones m) j ≡ cursor (c .place + j) (setsIn c)
+    ones-at : (m j : ℕ) → stood (ofForm c ones m) j ≡ cursor (c .place + j) (c .state)
     unfolding movedOf pick
-    ones-at m zero = ap (λ (p : ℕ). cursor p (setsIn c)) at-none
+    ones-at m zero = ap (λ (p : ℕ). cursor p (c .state)) at-none
     ones-at m (suc j) = refl
 
-    left-at : (m j : ℕ) → stood (ofForm c left-twos m) j ≡ cursor (c .place + 2 * j) (setsIn c)
+    left-at : (m j : ℕ) → stood (ofForm c left-twos m) j ≡ cursor (c .place + 2 * j) (c .state)
     unfolding movedOf pick
-    left-at m zero = ap (λ (p : ℕ). cursor p (setsIn c)) at-nothing
+    left-at m zero = ap (λ (p : ℕ). cursor p (c .state)) at-nothing
     left-at m (suc j) = refl
 
-    right-at : (m j : ℕ) → stood (ofForm c right-twos m) j ≡ cursor (c .place + 2 * j) (setsIn c)
+    right-at : (m j : ℕ) → stood (ofForm c right-twos m) j ≡ cursor (c .place + 2 * j) (c .state)
     unfolding movedOf pick
-    right-at m zero = ap (λ (p : ℕ). cursor p (setsIn c)) at-nothing
+    right-at m zero = ap (λ (p : ℕ). cursor p (c .state)) at-nothing
     right-at m (suc j) = refl
 
     one-on : (j : ℕ) → c .place + j + 1 ≡ c .place + suc j
@@ -335,19 +315,19 @@ module _ (s : List ℕ) (c : Cursor) (n : ℕ) where
     unfolding stands nthOf pick
     turns-by as-any j h e = any-by j h
     turns-by (as-ones k i) j h e =
-        rw (ones-at (lesserOf octets n) j, ones-at (lesserOf octets n) (suc j), ← (one-on j)) (one-advance s short (c .place + j) (setsIn c) (omega (arith, h, k, least octets n .0)) e)
+        rw (ones-at (lesserOf octets n) j, ones-at (lesserOf octets n) (suc j), ← (one-on j)) (one-advance s short (c .place + j) (c .state) (omega (arith, h, k, least octets n .0)) e)
     turns-by (as-left k l t) j h e =
         let i = left-range (getD s (c .place + 2 * j) 0) e in
-        let u = two-range (c .gl) t in
+        let u = two-range (c .state .sets .gl) t in
         rw (left-at (lesserOf (octets / 2) n) j, left-at (lesserOf (octets / 2) n) (suc j), ← (two-on j))
-        (two-text s (c .place + 2 * j) (c .gl) (setsIn c) (omega (arith, h, k, least (octets / 2) n .0)) (i .0) (left-text (getD s (c .place + 2 * j) 0) (omega (arith, i .0)) (i .1))
-        (left-set (getD s (c .place + 2 * j) 0) (setsIn c) (i .1)) (u .0) (u .1))
+        (two-text s (c .place + 2 * j) (c .state .sets .gl) (c .state) (omega (arith, h, k, least (octets / 2) n .0)) (i .0) (left-text (getD s (c .place + 2 * j) 0) (omega (arith, i .0)) (i .1))
+        (left-set (getD s (c .place + 2 * j) 0) (c .state .sets) (i .1)) (u .0) (u .1))
     turns-by (as-right k l t) j h e =
         let i = leb-true 0xA0 (getD s (c .place + 2 * j) 0) e in
-        let u = two-range (c .gr) t in
+        let u = two-range (c .state .sets .gr) t in
         rw (right-at (lesserOf (octets / 2) n) j, right-at (lesserOf (octets / 2) n) (suc j), ← (two-on j))
-        (two-text s (c .place + 2 * j) (c .gr) (setsIn c) (omega (arith, h, k, least (octets / 2) n .0)) (omega (arith, i)) (right-text (getD s (c .place + 2 * j) 0) i)
-        (right-set (getD s (c .place + 2 * j) 0) (setsIn c) i) (u .0) (u .1))
+        (two-text s (c .place + 2 * j) (c .state .sets .gr) (c .state) (omega (arith, h, k, least (octets / 2) n .0)) (omega (arith, i)) (right-text (getD s (c .place + 2 * j) 0) i)
+        (right-set (getD s (c .place + 2 * j) 0) (c .state .sets) i) (u .0) (u .1))
 
     pub span-turns : (j : ℕ) → j < spanOf s c n .most → stands s (spanOf s c n) j ≡ true
         → turn (nthOf s (spanOf s c n) j) (stood (spanOf s c n) (suc j)) ≡ advanceOf s (stood (spanOf s c n) j)

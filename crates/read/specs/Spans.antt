@@ -7,13 +7,11 @@ use mathlib.Core.List.{List}
 use lib.Dec.{eqb, leb, ltb}
 use lib.ListN.{length, getD, set}
 use Rattle.base.specs.Choice.{pick}
-use Rattle.base.specs.Kind as kind
 use Rattle.base.specs.declared.Unit.{Unit as UnitRecord}
 use Rattle.charset.specs.Charsets.{no-set}
-use Rattle.state.specs.State.{sets}
 use Rattle.state.specs.declared.Sets.{Sets}
 use Rattle.units.specs.Records.{blank}
-use Rattle.cursor.specs.Cursor.{cursor, setsIn, first-double, setAt, advanceOf}
+use Rattle.cursor.specs.Cursor.{cursor, first-double, setAt, oneOf, twoOf, advanceOf}
 use Rattle.cursor.specs.declared.Cursor.{Cursor}
 use Rattle.read.specs.declared.spans.Span.{Span}
 
@@ -44,14 +42,14 @@ unfoldable pub leftFirst : ℕ → Bool
 leftFirst b = pick (leb b 0x20) false (ltb b 0x7F)
 
 -- a set of two octets
-unfoldable pub twoOctets : ℕ → Bool
-twoOctets set = pick (ltb set first-double) false (ltb set no-set)
+unfoldable pub hasTwo : ℕ → Bool
+hasTwo set = pick (ltb set first-double) false (ltb set no-set)
 
 unfoldable pub formAt : ℕ → Sets → ℕ
 formAt b s =
     pick (singleOf b s) ones
-    (pick (leftFirst b) (pick (twoOctets (s .gl)) left-twos any)
-    (pick (ltb b 0xA0) any (pick (twoOctets (s .gr)) right-twos any)))
+    (pick (leftFirst b) (pick (hasTwo (s .gl)) left-twos any)
+    (pick (ltb b 0xA0) any (pick (hasTwo (s .gr)) right-twos any)))
 
 -- ---- the span at a cursor
 
@@ -60,10 +58,10 @@ lesserOf m n = pick (ltb m n) m n
 
 abbrev pub anyOf : List ℕ → Cursor → Span
 anyOf s c =
-    record { place = advanceOf s c .cursor .place; most = 1; unit = advanceOf s c .unit; form = any; gl = advanceOf s c .cursor .gl; gr = advanceOf s c .cursor .gr }
+    record { place = advanceOf s c .cursor .place; most = 1; unit = advanceOf s c .unit; form = any; state = advanceOf s c .cursor .state }
 
 abbrev pub ofForm : Cursor → ℕ → ℕ → Span
-ofForm c form most = record { place = c .place; most = most; unit = blank; form = form; gl = c .gl; gr = c .gr }
+ofForm c form most = record { place = c .place; most = most; unit = blank; form = form; state = c .state }
 
 -- by the form of its first unit, where so many octets are left
 unfoldable pub byForm : List ℕ → Cursor → ℕ → ℕ → ℕ → Span
@@ -75,7 +73,7 @@ byForm s c n form octets =
 unfoldable pub spanOf : List ℕ → Cursor → ℕ → Span
 spanOf s c n =
     pick (leb (length s) (c .place)) (anyOf s c)
-    (byForm s c n (formAt (getD s (c .place) 0) (setsIn c)) (length s - c .place))
+    (byForm s c n (formAt (getD s (c .place) 0) (c .state .sets)) (length s - c .place))
 
 -- the octets of its units are in the string
 pub record Fits (s : List ℕ) (r : Span) : Type 0 where
@@ -85,31 +83,21 @@ pub record Fits (s : List ℕ) (r : Span) : Type 0 where
 -- the cursor after j of its units
 unfoldable pub movedOf : Span → ℕ → Cursor
 movedOf r j =
-    pick (eqb (r .form) ones) (cursor (r .place + j) (sets (r .gl) (r .gr)))
-    (pick (ltb ones (r .form)) (cursor (r .place + 2 * j) (sets (r .gl) (r .gr))) (cursor (r .place) (sets (r .gl) (r .gr))))
+    pick (eqb (r .form) ones) (cursor (r .place + j) (r .state))
+    (pick (ltb ones (r .form)) (cursor (r .place + 2 * j) (r .state)) (cursor (r .place) (r .state)))
 
 -- ---- the units of a span
 
 -- whether the unit after j units is of its form
 unfoldable pub stands : List ℕ → Span → ℕ → Bool
 stands s r j =
-    pick (eqb (r .form) ones) (singleOf (getD s (r .place + j) 0) (sets (r .gl) (r .gr)))
+    pick (eqb (r .form) ones) (singleOf (getD s (r .place + j) 0) (r .state .sets))
     (pick (eqb (r .form) left-twos) (leftFirst (getD s (r .place + 2 * j) 0))
     (pick (eqb (r .form) right-twos) (leb 0xA0 (getD s (r .place + 2 * j) 0)) true))
 
-unfoldable pub kindOf : ℕ → ℕ
-kindOf b = pick (ltb 0x20 b) kind.character (b % 8 + 1)
-
-unfoldable pub ifGraphic : ℕ → ℕ → ℕ
-ifGraphic b x = pick (leb b 0x20) 0 x
-
-abbrev pub oneOf : ℕ → ℕ → Sets → UnitRecord
-oneOf at b s =
-    record { kind = kindOf b; set = ifGraphic b (setAt b s); code = ifGraphic b (b % 128); start = at % 2 ^ 32; length = 1 }
-
-abbrev pub twoOf : ℕ → ℕ → ℕ → ℕ → UnitRecord
-twoOf at b d set =
-    record { kind = kind.character; set = set; code = b % 128 * 256 + d % 128; start = at % 2 ^ 32; length = 2 }
+-- the octet at a place, as a unit by itself
+abbrev pub oneAt : List ℕ → ℕ → Sets → UnitRecord
+oneAt s at to = oneOf at (getD s at 0) (setAt (getD s at 0) to)
 
 -- the two octets at a place, as a character of a set
 abbrev pub twoAt : List ℕ → ℕ → ℕ → UnitRecord
@@ -118,9 +106,9 @@ twoAt s at set = twoOf at (getD s at 0) (getD s (at + 1) 0) set
 -- the unit after j units
 unfoldable pub nthOf : List ℕ → Span → ℕ → UnitRecord
 nthOf s r j =
-    pick (eqb (r .form) ones) (oneOf (r .place + j) (getD s (r .place + j) 0) (sets (r .gl) (r .gr)))
-    (pick (eqb (r .form) left-twos) (twoAt s (r .place + 2 * j) (r .gl))
-    (pick (eqb (r .form) right-twos) (twoAt s (r .place + 2 * j) (r .gr)) (r .unit)))
+    pick (eqb (r .form) ones) (oneAt s (r .place + j) (r .state .sets))
+    (pick (eqb (r .form) left-twos) (twoAt s (r .place + 2 * j) (r .state .sets .gl))
+    (pick (eqb (r .form) right-twos) (twoAt s (r .place + 2 * j) (r .state .sets .gr)) (r .unit)))
 
 -- of a span, of which j units are passed and m more may follow: how many there are
 unfoldable pub countFrom : List ℕ → Span → ℕ → ℕ → ℕ

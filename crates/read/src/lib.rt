@@ -20,7 +20,7 @@ mod spans;
 pub fn answer(s: &[u8], room: usize) -> Answer
     ensures { λ r. ⌜ r ≡ readAnswer (now (s .entry)) room ⌝ }
 {
-    let a = check_string::check(s);
+    let a = check_string::answer(s);
     if a.number == refusal::ACCEPTED {
         if room < a.count {
             return Answer {

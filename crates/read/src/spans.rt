@@ -4,14 +4,16 @@ ghost use Prim.Native.Nat.{_+_, _*_, _<_, _≤_, _^_};
 ghost use lib.Dec.{leb};
 ghost use lib.ListN.{length, getD};
 ghost use Rattle.state.specs.State.{sets};
-ghost use Rattle.read.specs.Spans.{ones, singleOf, leftFirst, twoOctets, formAt, lesserOf, anyOf, ofForm, spanOf, Fits, movedOf, stands, kindOf, ifGraphic, oneOf, twoAt, nthOf};
+ghost use Rattle.read.specs.Spans.{ones, singleOf, leftFirst, hasTwo, formAt, lesserOf, anyOf, ofForm, spanOf, Fits, movedOf, stands, oneAt, twoAt, nthOf};
 use base::Unit;
-use base::kind;
 use charset::NO_SET;
 use cursor::Cursor;
 use cursor::FIRST_DOUBLE;
 use cursor::advance;
+use cursor::octets::one_octet;
+use cursor::octets::two_octets;
 use cursor::set_at;
+use state::State;
 
 // The forms: any one unit, units of one octet, characters of two octets in GL, and in GR.
 const ANY: u8 = 0;
@@ -22,15 +24,14 @@ const LEFT_TWOS: u8 = 2;
 
 const RIGHT_TWOS: u8 = 3;
 
-// The units of a form that start at a place, so many at most, under these sets. Of any one unit the unit is given, and the place and the
-// sets are those after it.
+// The units of a form that start at a place, so many at most, under this state. Of any one unit the unit is given, and the place and the
+// state are those after it.
 pub struct Span {
     pub place: usize,
     pub most: usize,
     pub unit: Unit,
+    pub state: State,
     pub form: u8,
-    pub gl: u8,
-    pub gr: u8,
 }
 
 // An octet that is a unit: a tab, a newline, a space or a character.
@@ -62,8 +63,8 @@ fn left_first(b: u8) -> bool
     b < 0x7F
 }
 
-fn two_octets(set: u8) -> bool
-    ensures { λ r. ⌜ r ≡ twoOctets set ⌝ }
+fn has_two(set: u8) -> bool
+    ensures { λ r. ⌜ r ≡ hasTwo set ⌝ }
 {
     if set < FIRST_DOUBLE {
         return false;
@@ -79,7 +80,7 @@ fn form_at(b: u8, gl: u8, gr: u8) -> u8
         return ONES;
     }
     if left_first(b) {
-        if two_octets(gl) {
+        if has_two(gl) {
             return LEFT_TWOS;
         }
         return ANY;
@@ -87,7 +88,7 @@ fn form_at(b: u8, gl: u8, gr: u8) -> u8
     if b < 0xA0 {
         return ANY;
     }
-    if two_octets(gr) {
+    if has_two(gr) {
         return RIGHT_TWOS;
     }
     ANY
@@ -109,32 +110,26 @@ fn any_unit(s: &[u8], c: Cursor) -> Span
     let t = advance(s, c);
     let next = t.cursor;
     let unit = t.unit;
+    let state = next.state;
     Span {
         place: next.place,
         most: 1,
         unit: unit,
+        state: state,
         form: ANY,
-        gl: next.gl,
-        gr: next.gr,
     }
 }
 
 fn of_form(c: Cursor, form: u8, most: usize) -> Span
     ensures { λ r. ⌜ r ≡ ofForm c form most ⌝ }
 {
+    let state = c.state;
     Span {
         place: c.place,
         most: most,
-        unit: Unit {
-            kind: 0,
-            set: 0,
-            code: 0,
-            start: 0,
-            length: 0,
-        },
+        unit: Unit::BLANK,
+        state: state,
         form: form,
-        gl: c.gl,
-        gr: c.gr,
     }
 }
 
@@ -146,7 +141,9 @@ pub fn span_at(s: &[u8], c: Cursor, n: usize) -> Span
     if s.len() <= at {
         return any_unit(s, c);
     }
-    let form = form_at(s[at], c.gl, c.gr);
+    let state = c.state;
+    let sets = state.sets;
+    let form = form_at(s[at], sets.gl, sets.gr);
     if form == ANY {
         return any_unit(s, c);
     }
@@ -165,26 +162,24 @@ pub fn moved(r: Span, j: usize) -> Cursor
     requires { ⌜ (r .form ≡ ones → r .place + j < 2 ^ 64) × (ones < r .form → r .place + 2 * j < 2 ^ 64) ⌝ }
     ensures { λ c. ⌜ c ≡ movedOf r j ⌝ }
 {
+    let state = r.state;
     if r.form == ONES {
         let place = r.place + j;
         return Cursor {
             place: place,
-            gl: r.gl,
-            gr: r.gr,
+            state: state,
         };
     }
     if ONES < r.form {
         let place = r.place + 2 * j;
         return Cursor {
             place: place,
-            gl: r.gl,
-            gr: r.gr,
+            state: state,
         };
     }
     Cursor {
         place: r.place,
-        gl: r.gl,
-        gr: r.gr,
+        state: state,
     }
 }
 
@@ -216,8 +211,10 @@ pub fn stands_at(s: &[u8], r: Span, j: usize) -> bool
     requires { ⌜ Fits (now s) r × (j < r .most) ⌝ }
     ensures { λ b. ⌜ b ≡ stands (now (s .entry)) r j ⌝ }
 {
+    let state = r.state;
+    let sets = state.sets;
     if r.form == ONES {
-        return single_at(s, r.place + j, r.gl, r.gr);
+        return single_at(s, r.place + j, sets.gl, sets.gr);
     }
     if r.form == LEFT_TWOS {
         return left_at(s, r.place + 2 * j);
@@ -228,57 +225,19 @@ pub fn stands_at(s: &[u8], r: Span, j: usize) -> bool
     true
 }
 
-// The kinds of a space, a tab and a newline are one more than the last three bits of their octets.
-fn kind_of(b: u8) -> u8
-    ensures { λ r. ⌜ r ≡ kindOf b ⌝ }
-{
-    if 0x20 < b {
-        return kind::CHARACTER;
-    }
-    b % 8 + 1
-}
-
-// A space, a tab and a newline have neither set nor code.
-fn if_graphic(b: u8, x: u8) -> u8
-    ensures { λ r. ⌜ r ≡ ifGraphic b x ⌝ }
-{
-    if b <= 0x20 {
-        return 0;
-    }
-    x
-}
-
 fn one(s: &[u8], at: usize, gl: u8, gr: u8) -> Unit
     requires { ⌜ at < length (now s) ⌝ }
-    ensures { λ r. ⌜ r ≡ oneOf at (getD (now (s .entry)) at 0) (sets gl gr) ⌝ }
+    ensures { λ r. ⌜ r ≡ oneAt (now (s .entry)) at (sets gl gr) ⌝ }
 {
     let b = s[at];
-    let code = if_graphic(b, b % 128) as u16;
-    let start = (at % 0x1_0000_0000) as u32;
-    Unit {
-        kind: kind_of(b),
-        set: if_graphic(b, set_at(b, gl, gr)),
-        code: code,
-        start: start,
-        length: 1,
-    }
+    one_octet(at, b, set_at(b, gl, gr))
 }
 
 fn two(s: &[u8], at: usize, set: u8) -> Unit
     requires { ⌜ at + 1 < length (now s) ⌝ }
     ensures { λ r. ⌜ r ≡ twoAt (now (s .entry)) at set ⌝ }
 {
-    let high = (s[at] % 128) as u16;
-    let low = (s[at + 1] % 128) as u16;
-    let code = high * 256 + low;
-    let start = (at % 0x1_0000_0000) as u32;
-    Unit {
-        kind: kind::CHARACTER,
-        set: set,
-        code: code,
-        start: start,
-        length: 2,
-    }
+    two_octets(at, s[at], s[at + 1], set)
 }
 
 // The unit after j units of a span.
@@ -286,14 +245,16 @@ pub fn nth(s: &[u8], r: Span, j: usize) -> Unit
     requires { ⌜ Fits (now s) r × (j < r .most) ⌝ }
     ensures { λ u. ⌜ u ≡ nthOf (now (s .entry)) r j ⌝ }
 {
+    let state = r.state;
+    let sets = state.sets;
     if r.form == ONES {
-        return one(s, r.place + j, r.gl, r.gr);
+        return one(s, r.place + j, sets.gl, sets.gr);
     }
     if r.form == LEFT_TWOS {
-        return two(s, r.place + 2 * j, r.gl);
+        return two(s, r.place + 2 * j, sets.gl);
     }
     if r.form == RIGHT_TWOS {
-        return two(s, r.place + 2 * j, r.gr);
+        return two(s, r.place + 2 * j, sets.gr);
     }
     r.unit
 }

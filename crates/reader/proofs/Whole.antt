@@ -20,12 +20,11 @@ use Rattle.charset.specs.Charsets.{allowed, mayUse}
 use Rattle.element.proofs.Sizes.{Fit}
 use Rattle.state.specs.State.{fresh}
 use Rattle.state.specs.declared.State.{State}
-use Rattle.state.specs.declared.elements.Element.{Element}
-use Rattle.grammar.specs.Reading.{size, elements, answerOf, checkOf}
-use Rattle.grammar.proofs.Places.{Ahead, ends, stops, passes, reads, ahead-is, ahead-from}
+use Rattle.grammar.specs.Reading.{Elements, size, elementsOf, answerOf, checkOf}
+use Rattle.grammar.proofs.Places.{Ahead, ends, stops, passes, reads, from-start}
 use Rattle.units.specs.Records.{recordOf, recordsFrom, recordsOf}
 use Rattle.units.specs.Next.{outcomeOf, nextOf}
-use Rattle.units.proofs.Records.{from-start, next-ahead, few-records}
+use Rattle.units.proofs.Records.{next-ahead, few-records}
 use Rattle.reader.specs.Step.{stepped, mayStand, largest, countedOf, endedOf, afterOf, stepAt}
 use Rattle.reader.specs.Reader.{opened, stepOf, itemAt, moved, readerAfter, unitsBefore, itemOf}
 use Rattle.reader.specs.declared.Item.{Item}
@@ -71,9 +70,9 @@ module _ (s : RefT (List ℕ)) (short : length (now s) ≤ limit.octets) where
   step-is place count st h = rw (le-ltb limit.octets (length (now s)) short, h)
 
   -- a reader, from which the next unit is that of the elements
-  record Stands (r : Reader) (at : ℕ) (st : State) (es : List Element) : Type 0 where
+  record Stands (r : Reader) (at : ℕ) (st : State) (es : Elements) : Type 0 where
     may : mayStand (length (now s)) (r .place) (r .state) ≡ true
-    gives : nextOf (now s) (r .place) (r .state) ≡ outcomeOf at es
+    gives : nextOf (now s) (r .place) (r .state) ≡ outcomeOf es
     fit : Fit st
 
   ended-refused : (n place count : ℕ) → 1 ≤ n → endedOf n place count ≡ refusedAt n place
@@ -97,8 +96,8 @@ module _ (s : RefT (List ℕ)) (short : length (now s) ≤ limit.octets) where
       ∙ ap (λ (c : ℕ). reader place′ c to′) (counted-one count n) in
       ap itemAt (sym (after-moved k (reader place count to)) ∙ ap (readerAfter k) m) ∙ h k
 
-  items : {at : ℕ} {st : State} {es : List Element} → Ahead (now s) at st es → (place count : ℕ) (to : State) → Stands (reader place count to) at st es
-      → count + length (recordsFrom at es) ≤ largest → (k : ℕ) → itemAt (readerAfter k (reader place count to)) ≡ itemOf k (recordsFrom at es) (answerOf at count es)
+  items : {at : ℕ} {st : State} {es : Elements} → Ahead (now s) at st es → (place count : ℕ) (to : State) → Stands (reader place count to) at st es
+      → count + length (recordsFrom es) ≤ largest → (k : ℕ) → itemAt (readerAfter k (reader place count to)) ≡ itemOf k (recordsFrom es) (answerOf count es)
   unfolding recordsFrom outcomeOf answerOf afterOf endedOf itemOf pick
   items (ends e) place count to h n k =
       repeats k (reader place count to) _ (step-is place count to (h .may) ∙ ap (afterOf place count to) (h .gives))
@@ -108,7 +107,7 @@ module _ (s : RefT (List ℕ)) (short : length (now s) ≤ limit.octets) where
   items (passes t e a) place count to h n k =
       items a place count to (record { may = h .may; gives = h .gives; fit = t .fit (h .fit) }) n k
   items {at} (reads {p = p} {next = next} {es = es} t m e a) place count to h n k =
-      further place count to (recordOf p at) (at + size p) next (recordsFrom (at + size p) es) (answerOf (at + size p) (count + 1) es) (omega arith) (step-is place count to (h .may) ∙ ap (afterOf place count to) (h .gives))
+      further place count to (recordOf p at) (at + size p) next (recordsFrom es) (answerOf (count + 1) es) (omega arith) (step-is place count to (h .may) ∙ ap (afterOf place count to) (h .gives))
       (items a (at + size p) (count + 1) next
       (record {
         may = may-stand (length (now s)) (at + size p) next (t .fits) (t .fit (h .fit));
@@ -118,10 +117,10 @@ module _ (s : RefT (List ℕ)) (short : length (now s) ≤ limit.octets) where
       (omega arith))
       k
 
-  pub short-items : (k : ℕ) → itemAt (readerAfter k (opened s)) ≡ itemOf k (recordsOf (now s)) (answerOf 0 0 (elements (now s) 0 fresh))
+  pub short-items : (k : ℕ) → itemAt (readerAfter k (opened s)) ≡ itemOf k (recordsOf (now s)) (answerOf 0 (elementsOf (now s)))
   unfolding recordsOf
   short-items k =
-      let few : 0 + length (recordsFrom 0 (elements (now s) 0 fresh)) ≤ length (now s) = few-records (now s) (from-start (now s)) (omega arith) in
+      let few : 0 + length (recordsFrom (elementsOf (now s))) ≤ length (now s) = few-records (now s) (from-start (now s)) (omega arith) in
       items (from-start (now s)) 0 0 fresh
       (record {
         may = may-stand (length (now s)) 0 fresh (omega arith) fresh-fit;
@@ -134,7 +133,7 @@ module _ (s : RefT (List ℕ)) (short : length (now s) ≤ limit.octets) where
 -- ---- every string
 
 by-length : (s : RefT (List ℕ)) (b : Bool) → ltb limit.octets (length (now s)) ≡ b → (k : ℕ)
-    → itemAt (readerAfter k (opened s)) ≡ itemOf k (pick b [] (recordsOf (now s))) (pick b (refusedAt refusal.too-long 0) (answerOf 0 0 (elements (now s) 0 fresh)))
+    → itemAt (readerAfter k (opened s)) ≡ itemOf k (pick b [] (recordsOf (now s))) (pick b (refusedAt refusal.too-long 0) (answerOf 0 (elementsOf (now s))))
 unfolding itemOf stepAt pick
 by-length s true e k = repeats k (opened s) _ (rw e)
 by-length s false e k = short-items s (ltb-false limit.octets (length (now s)) e) k

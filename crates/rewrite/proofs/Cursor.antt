@@ -11,25 +11,24 @@ use Rattle.base.specs.declared.Unit.{Unit as UnitRecord}
 use Rattle.cursor.specs.Cursor.{cursor, first, turn, advanceOf}
 use Rattle.cursor.specs.declared.Cursor.{Cursor}
 use Rattle.cursor.specs.declared.Turn.{Turn}
+use Rattle.cursor.proofs.Lenient.{Like, like-itself}
 use Rattle.cursor.proofs.Turns.{Turns, turns, advance-ahead}
-use Rattle.grammar.specs.Reading.{size, elements}
-use Rattle.grammar.proofs.Places.{Ahead, ends, stops, passes, reads}
+use Rattle.grammar.specs.Reading.{Elements, size, elementsOf}
+use Rattle.grammar.proofs.Places.{Ahead, ends, stops, passes, reads, from-start}
 use Rattle.state.specs.State.{fresh}
 use Rattle.state.specs.declared.State.{State}
-use Rattle.state.specs.declared.elements.Element.{Element}
 use Rattle.units.specs.Next.{outcomeOf}
 use Rattle.units.specs.Records.{recordOf, recordsFrom, recordsOf}
 use Rattle.units.specs.declared.Outcome.the-variants.{Gives}
-use Rattle.units.proofs.Records.{from-start}
 
 -- the units that come at a cursor are those of a list
 pub record Comes (s : List ℕ) (c : Cursor) (l : List UnitRecord) : Type 0 where
   pub at : ℕ
   pub st : State
-  pub es : List Element
+  pub es : Elements
   pub ahead : Ahead s at st es
-  pub are : recordsFrom at es ≡ l
-  pub turns : 1 ≤ length (recordsFrom at es) → Turns (advanceOf s c) (outcomeOf at es)
+  pub are : recordsFrom es ≡ l
+  pub turns : 1 ≤ length (recordsFrom es) → Turns (advanceOf s c) (outcomeOf es)
 
 -- the unit at a cursor, and those that come after it
 pub record Next (s : List ℕ) (c : Cursor) (l : List UnitRecord) : Type 0 where
@@ -37,8 +36,8 @@ pub record Next (s : List ℕ) (c : Cursor) (l : List UnitRecord) : Type 0 where
   pub is : l ≡ advanceOf s c .unit ∷ rest
   pub comes : Comes s (advanceOf s c .cursor) rest
 
-given : {r : Turn} {u : UnitRecord} {place : ℕ} {st : State} → Turns r (Gives u place st) → r ≡ turn u (cursor place (st .sets))
-given turns = refl
+given : {r : Turn} {u : UnitRecord} {place : ℕ} {st : State} → Turns r (Gives u place st) → (to : State) × ((r ≡ turn u (cursor place to)) × Like st to)
+given (turns {to = to} l) = (to, (refl, l))
 
 module _ (s : List ℕ) (short : length s ≤ limit.octets) where
   pub comes-first : Comes s first (recordsOf s)
@@ -47,30 +46,30 @@ module _ (s : List ℕ) (short : length s ≤ limit.octets) where
       record {
         at = 0;
         st = fresh;
-        es = elements s 0 fresh;
+        es = elementsOf s;
         ahead = from-start s;
         are = refl;
-        turns = advance-ahead s short (from-start s);
+        turns = advance-ahead s short (from-start s) (like-itself fresh);
       }
 
-  next-of : {at : ℕ} {st : State} {es : List Element} → Ahead s at st es → (c : Cursor) → (1 ≤ length (recordsFrom at es) → Turns (advanceOf s c) (outcomeOf at es))
-      → 1 ≤ length (recordsFrom at es) → Next s c (recordsFrom at es)
+  next-of : {at : ℕ} {st : State} {es : Elements} → Ahead s at st es → (c : Cursor) → (1 ≤ length (recordsFrom es) → Turns (advanceOf s c) (outcomeOf es))
+      → 1 ≤ length (recordsFrom es) → Next s c (recordsFrom es)
   unfolding recordsFrom outcomeOf
   next-of (ends e) c h k = absurd (omega arith)
   next-of (stops f e) c h k = absurd (omega arith)
   next-of (passes t e a) c h k = next-of a c h k
   next-of {at} (reads {p = p} {next = next} {es = es} t m e a) c h k =
-      let g : advanceOf s c ≡ turn (recordOf p at) (cursor (at + size p) (next .sets)) = given (h k) in
+      let g = given (h k) in
       record {
-        rest = recordsFrom (at + size p) es;
-        is = ap (λ (x : Turn). x .unit ∷ recordsFrom (at + size p) es) (sym g);
+        rest = recordsFrom es;
+        is = ap (λ (x : Turn). x .unit ∷ recordsFrom es) (sym (g .1 .0));
         comes = record {
           at = at + size p;
           st = next;
           es = es;
           ahead = a;
           are = refl;
-          turns = rw g (advance-ahead s short a);
+          turns = rw (g .1 .0) (advance-ahead s short a (g .1 .1));
         };
       }
 

@@ -11,8 +11,7 @@ use Rattle.base.specs.Refusal as refusal
 use Rattle.base.proofs.Ladder.{octet, ended, on-le, on-gt}
 use Rattle.state.proofs.Steps.{steps}
 use Rattle.state.specs.Elements.{refused}
-use Rattle.state.specs.declared.State.{State}
-use Rattle.state.specs.declared.elements.Element.{Element}
+use Rattle.state.specs.declared.elements.Shape.{Shape}
 use Rattle.segment.specs.Segment.{nameOf, textWidthOf, contentOf, bodyOf}
 use Rattle.segment.specs.declared.Name.{Name}
 
@@ -23,13 +22,13 @@ module _ (s : List ℕ) (at : ℕ) where
   pub on-name-end : (k : ℕ) (r : Name) → length s ≤ at → r ≡ nameOf [] k → r ≡ nameOf (from at s) k
   on-name-end k r h e = ended (λ (t : List ℕ). nameOf t k) s at r h e
 
-  pub on-body : (d n : ℕ) (st : State) (r : Element) → n ≤ length s - at → r ≡ contentOf d n (nameOf (take n (from at s)) 0) st → r ≡ bodyOf d n (from at s) st
+  pub on-body : (d n : ℕ) (r : Shape) → n ≤ length s - at → r ≡ contentOf d n (nameOf (take n (from at s)) 0) → r ≡ bodyOf d n (from at s)
   unfolding bodyOf from
-  on-body d n st r h e = on-le n (length (drop at s)) r _ _ (rw (length-drop at s) h) e
+  on-body d n r h e = on-le n (length (drop at s)) r _ _ (rw (length-drop at s) h) e
 
-  pub on-body-short : (d n : ℕ) (st : State) (r : Element) → length s - at < n → r ≡ refused refusal.cut → r ≡ bodyOf d n (from at s) st
+  pub on-body-short : (d n : ℕ) (r : Shape) → length s - at < n → r ≡ refused refusal.cut → r ≡ bodyOf d n (from at s)
   unfolding bodyOf from
-  on-body-short d n st r h e = on-gt n (length (drop at s)) r _ _ (rw (length-drop at s) h) e
+  on-body-short d n r h e = on-gt n (length (drop at s)) r _ _ (rw (length-drop at s) h) e
 
 width-by : (a b c : Bool) → 0 < pick a 2 (pick b 3 (pick c 4 1))
 unfolding pick

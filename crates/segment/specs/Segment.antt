@@ -1,4 +1,4 @@
--- Extended segments: "`1B 25 2F d M L`, d from 30 to 34", functions of the octets that are left and of the state.
+-- Extended segments: "`1B 25 2F d M L`, d from 30 to 34", functions of the octets that are left.
 use Prim.Native.Nat.{ℕ, _+_, _*_, _%_, _-_}
 use mathlib.Core.Bool.{Bool, true, false}
 use mathlib.Core.List.{List, [], _∷_}
@@ -9,10 +9,9 @@ use Rattle.base.specs.Refusal as refusal
 use Rattle.base.specs.Kind as kind
 use Rattle.state.specs.Directions.{countsAsText}
 use Rattle.state.specs.Elements.{part, refused, next}
-use Rattle.state.specs.declared.State.{State}
 use Rattle.state.specs.declared.elements.Part.{Part}
-use Rattle.state.specs.declared.elements.Element.{Element}
-use Rattle.state.specs.declared.elements.Element.the-variants.{Found}
+use Rattle.state.specs.declared.elements.Shape.{Shape}
+use Rattle.state.specs.declared.elements.Shape.the-variants.{Gives}
 use Rattle.segment.specs.declared.Name.{Name}
 use Rattle.segment.specs.declared.Name.the-variants.{Ends, Bad}
 
@@ -36,32 +35,32 @@ abbrev pub segmentPart : ℕ → ℕ → ℕ → Part
 segmentPart d n text = part kind.segment 0 d 6 n (countsAsText kind.segment text)
 
 -- a segment of n octets, by its name: "They hold a name, 02, and a text"; "The text is arbitrary."
-unfoldable pub contentOf : ℕ → ℕ → Name → State → Element
-contentOf d n (Ends k) st =
+unfoldable pub contentOf : ℕ → ℕ → Name → Shape
+contentOf d n (Ends k) =
     pick (ltb k n)
-    (pick (eqb ((n - k - 1) % textWidthOf d) 0) (Found (segmentPart d n (n - k - 1)) st) (refused refusal.bad-segment))
+    (pick (eqb ((n - k - 1) % textWidthOf d) 0) (Gives (segmentPart d n (n - k - 1))) (refused refusal.bad-segment))
     (refused refusal.bad-segment)
-contentOf d n (Bad k) st = refused refusal.bad-segment
+contentOf d n (Bad k) = refused refusal.bad-segment
 
 -- "n .. octets follow; fewer: 2"
-unfoldable pub bodyOf : ℕ → ℕ → List ℕ → State → Element
-bodyOf d n t st = pick (leb n (length t)) (contentOf d n (nameOf (take n t) 0) st) (refused refusal.cut)
+unfoldable pub bodyOf : ℕ → ℕ → List ℕ → Shape
+bodyOf d n t = pick (leb n (length t)) (contentOf d n (nameOf (take n t) 0)) (refused refusal.cut)
 
 -- after 1B 25 2F d: "M or L under 80: 7, a low M even if the string ends after it. n = (M - 128) × 128 + (L - 128)"
-unfoldable pub lengthsOf : ℕ → List ℕ → State → Element
-lengthsOf d t st =
+unfoldable pub lengthsOf : ℕ → List ℕ → Shape
+lengthsOf d t =
     next t
     (λ m u.
     pick (ltb m 0x80) (refused refusal.bad-segment)
-    (next u (λ l v. pick (ltb l 0x80) (refused refusal.bad-segment) (bodyOf d ((m - 128) * 128 + (l - 128)) v st))))
+    (next u (λ l v. pick (ltb l 0x80) (refused refusal.bad-segment) (bodyOf d ((m - 128) * 128 + (l - 128)) v))))
 
 -- after 1B 25
-unfoldable pub extendedOf : List ℕ → State → Element
-extendedOf t st =
+unfoldable pub extendedOf : List ℕ → Shape
+extendedOf t =
     next t
     (λ b u.
     pick (eqb b 0x2F)
     (next u
     (λ d v.
-    pick (ltb d 0x30) (refused refusal.unknown) (pick (ltb d 0x35) (lengthsOf d v st) (refused refusal.unknown))))
+    pick (ltb d 0x30) (refused refusal.unknown) (pick (ltb d 0x35) (lengthsOf d v) (refused refusal.unknown))))
     (refused refusal.unknown))

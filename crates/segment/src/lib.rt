@@ -6,10 +6,9 @@ ghost use Rattle.base.specs.Choice.{from};
 ghost use Rattle.segment.specs.Segment.{nameOctetOf, nameOf, textWidthOf, contentOf, bodyOf, lengthsOf, extendedOf};
 use base::kind;
 use base::refusal;
-use state::State;
 use state::directions::counts_as_text;
-use state::elements::Element;
 use state::elements::Part;
+use state::elements::Shape;
 
 // Where a name ends: the place of its 02, or of the first octet that is no name's (the length where there is no 02).
 pub enum Name {
@@ -70,43 +69,40 @@ pub fn text_width(d: u8) -> usize
 }
 
 // A segment of n octets that are all there, by its name.
-pub fn content(d: u8, n: usize, name: Name, st: State) -> Element
-    ensures { λ r. ⌜ r ≡ contentOf d n name st ⌝ }
+pub fn content(d: u8, n: usize, name: Name) -> Shape
+    ensures { λ r. ⌜ r ≡ contentOf d n name ⌝ }
 {
     let Name::Ends(k) = name else {
-        return Element::Refused(refusal::BAD_SEGMENT, 0);
+        return Shape::Refuses(refusal::BAD_SEGMENT, 0);
     };
     let w = text_width(d);
     if k < n {
         let size = n - k - 1;
         if size % w == 0 {
             let text = counts_as_text(kind::SEGMENT, size);
-            return Element::Found(
-                Part {
-                    skip: 6,
-                    octets: n,
-                    code: d as u16,
-                    kind: kind::SEGMENT,
-                    set: 0,
-                    text: text,
-                },
-                st,
-            );
+            return Shape::Gives(Part {
+                skip: 6,
+                octets: n,
+                code: d as u16,
+                kind: kind::SEGMENT,
+                set: 0,
+                text: text,
+            });
         }
     }
-    Element::Refused(refusal::BAD_SEGMENT, 0)
+    Shape::Refuses(refusal::BAD_SEGMENT, 0)
 }
 
 // The n octets of a segment.
-fn body(s: &[u8], at: usize, d: u8, n: usize, st: State) -> Element
+fn body(s: &[u8], at: usize, d: u8, n: usize) -> Shape
     requires { ⌜ at ≤ length (now s) ⌝ }
-    ensures { λ r. ⌜ r ≡ bodyOf d n (from at (now (s .entry))) st ⌝ }
+    ensures { λ r. ⌜ r ≡ bodyOf d n (from at (now (s .entry))) ⌝ }
 {
     if n <= s.len() - at {
         let name = name_end(&s[at..at + n]);
-        return content(d, n, name, st);
+        return content(d, n, name);
     }
-    Element::Refused(refusal::CUT, 0)
+    Shape::Refuses(refusal::CUT, 0)
 }
 
 fn wide(b: u8) -> usize
@@ -116,46 +112,46 @@ fn wide(b: u8) -> usize
 }
 
 // The octets after 1B 25 2F d: M, L and the n octets.
-pub fn lengths(s: &[u8], at: usize, d: u8, st: State) -> Element
-    ensures { λ r. ⌜ r ≡ lengthsOf d (from at (now (s .entry))) st ⌝ }
+pub fn lengths(s: &[u8], at: usize, d: u8) -> Shape
+    ensures { λ r. ⌜ r ≡ lengthsOf d (from at (now (s .entry))) ⌝ }
 {
     if s.len() <= at {
-        return Element::Refused(refusal::CUT, 0);
+        return Shape::Refuses(refusal::CUT, 0);
     }
     let m = s[at];
     if m < 0x80 {
-        return Element::Refused(refusal::BAD_SEGMENT, 0);
+        return Shape::Refuses(refusal::BAD_SEGMENT, 0);
     }
     if s.len() <= at + 1 {
-        return Element::Refused(refusal::CUT, 0);
+        return Shape::Refuses(refusal::CUT, 0);
     }
     let l = s[at + 1];
     if l < 0x80 {
-        return Element::Refused(refusal::BAD_SEGMENT, 0);
+        return Shape::Refuses(refusal::BAD_SEGMENT, 0);
     }
-    body(s, at + 1 + 1, d, wide(m - 128) * 128 + wide(l - 128), st)
+    body(s, at + 1 + 1, d, wide(m - 128) * 128 + wide(l - 128))
 }
 
 // The octets after 1B 25.
-pub fn extended(s: &[u8], at: usize, st: State) -> Element
-    ensures { λ r. ⌜ r ≡ extendedOf (from at (now (s .entry))) st ⌝ }
+pub fn extended(s: &[u8], at: usize) -> Shape
+    ensures { λ r. ⌜ r ≡ extendedOf (from at (now (s .entry))) ⌝ }
 {
     if s.len() <= at {
-        return Element::Refused(refusal::CUT, 0);
+        return Shape::Refuses(refusal::CUT, 0);
     }
     let b = s[at];
     if b == 0x2F {
         if s.len() <= at + 1 {
-            return Element::Refused(refusal::CUT, 0);
+            return Shape::Refuses(refusal::CUT, 0);
         }
         let d = s[at + 1];
         if d < 0x30 {
-            return Element::Refused(refusal::UNKNOWN, 0);
+            return Shape::Refuses(refusal::UNKNOWN, 0);
         }
         if d < 0x35 {
-            return lengths(s, at + 1 + 1, d, st);
+            return lengths(s, at + 1 + 1, d);
         }
-        return Element::Refused(refusal::UNKNOWN, 0);
+        return Shape::Refuses(refusal::UNKNOWN, 0);
     }
-    Element::Refused(refusal::UNKNOWN, 0)
+    Shape::Refuses(refusal::UNKNOWN, 0)
 }

@@ -7,9 +7,9 @@ use Rattle.base.specs.Choice.{from}
 use Rattle.base.specs.Refusal as refusal
 use Rattle.base.proofs.Ladder.{octet, ended, ladder}
 use Rattle.state.specs.Elements.{next, refused}
-use Rattle.state.specs.declared.elements.Element.{Element}
+use Rattle.state.specs.declared.elements.Shape.{Shape}
 
-module _ (s : List ℕ) (at : ℕ) (f : ℕ → List ℕ → Element) (r : Element) where
+module _ (s : List ℕ) (at : ℕ) (f : ℕ → List ℕ → Shape) (r : Shape) where
   pub on-next : at < length s → r ≡ f (getD s at 0) (from (at + 1) s) → r ≡ next (from at s) f
   unfolding next
   on-next h e = octet (λ (t : List ℕ). next t f) s at r h e

@@ -1,13 +1,12 @@
--- The parts of an element's definition that text, segments and control sequences share.
+-- The parts of a shape's definition that text, segments and control sequences share.
 use Prim.Native.Nat.{ℕ}
 use mathlib.Core.Bool.{Bool}
 use mathlib.Core.List.{List, [], _∷_}
 use Rattle.base.specs.Refusal as refusal
 use Rattle.state.specs.Directions.{countsAsText}
-use Rattle.state.specs.declared.State.{State}
 use Rattle.state.specs.declared.elements.Part.{Part}
-use Rattle.state.specs.declared.elements.Element.{Element}
-use Rattle.state.specs.declared.elements.Element.the-variants.{End, Refused, Silent, Found}
+use Rattle.state.specs.declared.elements.Shape.{Shape}
+use Rattle.state.specs.declared.elements.Shape.the-variants.{Refuses, Gives}
 
 -- kind, set, code, octets before the unit's own, the unit's octets, whether it is text for the direction rule
 abbrev pub part : ℕ → ℕ → ℕ → ℕ → ℕ → Bool → Part
@@ -15,14 +14,14 @@ part kind set code skip octets text =
     record { kind = kind; set = set; code = code; skip = skip; octets = octets; text = text }
 
 -- a unit whose octets are the whole element
-abbrev pub unit : ℕ → ℕ → ℕ → ℕ → State → Element
-unit kind set code octets st = Found (part kind set code 0 octets (countsAsText kind 0)) st
+abbrev pub unit : ℕ → ℕ → ℕ → ℕ → Shape
+unit kind set code octets = Gives (part kind set code 0 octets (countsAsText kind 0))
 
 -- a refusal; "Place: where the offending element starts"
-abbrev pub refused : ℕ → Element
-refused n = Refused n 0
+abbrev pub refused : ℕ → Shape
+refused n = Refuses n 0
 
 -- the next octet of an element, and those after it: "An end inside an element: 2."
-unfoldable pub next : List ℕ → (ℕ → List ℕ → Element) → Element
+unfoldable pub next : List ℕ → (ℕ → List ℕ → Shape) → Shape
 next [] f = refused refusal.cut
 next (b ∷ t) f = f b t

@@ -1,6 +1,6 @@
 // The direction rule, as steps of the open directions.
 ghost use mathlib.Core.Path.{_≡_};
-ghost use Rattle.state.specs.Directions.{undirected, countsAsText, writtenOf, deeperOf, begunOf, revertedOf, stepOf, inForceOf};
+ghost use Rattle.state.specs.Directions.{countsAsText, writtenOf, deeperOf, begunOf, revertedOf, stepOf, inForceOf};
 use base::direction;
 use base::kind;
 use base::limit;
@@ -35,12 +35,6 @@ impl Directions {
         marked: false,
         texted: false,
     };
-
-    pub fn none() -> Directions
-        ensures { λ r. ⌜ r ≡ undirected ⌝ }
-    {
-        Directions::NONE
-    }
 
     // Text.
     pub fn written(self) -> Step

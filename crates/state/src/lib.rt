@@ -1,6 +1,6 @@
 // The state of a reading, and what an element does to it.
 ghost use mathlib.Core.Path.{_≡_};
-ghost use Rattle.state.specs.State.{fresh, designatedOf, directedTo};
+ghost use Rattle.state.specs.State.{designatedOf, directedTo};
 use charset::Side;
 
 pub mod directions;
@@ -25,12 +25,6 @@ impl State {
         directions: Directions::NONE,
         sets: Sets { gl: 0, gr: 3 },
     };
-
-    pub fn fresh() -> State
-        ensures { λ r. ⌜ r ≡ fresh ⌝ }
-    {
-        State::FRESH
-    }
 
     // The state after a designation of a set to a side.
     pub fn designated(self, side: Side, set: u8) -> State

@@ -18,8 +18,10 @@ use Rattle.control.specs.Escape.{designatesOf, designationOf, multiOctetOf, esc
 use Rattle.element.specs.Element.{shapeOf, directedOf, elementOf}
 use Rattle.state.specs.Elements.{next}
 use Rattle.state.specs.State.{designatedOf}
+use Rattle.state.specs.declared.Sets.{Sets}
 use Rattle.state.specs.declared.State.{State}
-use Rattle.state.specs.declared.elements.Element.{Element}
+use Rattle.state.specs.declared.elements.Shape.{Shape}
+use Rattle.state.specs.declared.elements.Shape.the-variants.{Designates}
 use Rattle.state.specs.declared.elements.Element.the-variants.{Silent}
 use Rattle.stretch.specs.Designation as quick
 use Rattle.stretch.specs.declared.designation.Designation.{Designation}
@@ -56,65 +58,62 @@ module _ (s : List ℕ) (at : ℕ) where
 -- ---- the reader's element
 
 module _ (form : ℕ) (side : Side) (last : ℕ) (named : setOf form side last < no-set) where
-  final-octet : (t : List ℕ) (st : State) (r : Element) → r ≡ designatesOf form side (setOf form side last) st → r ≡ designationOf form side (last ∷ t) st
+  final-octet : (t : List ℕ) (r : Shape) → r ≡ designatesOf form side (setOf form side last) → r ≡ designationOf form side (last ∷ t)
   unfolding designationOf next
-  final-octet t st r e =
+  final-octet t r e =
       let h = final-range form side last named in
       on-ge last 0x21 _ _ _ (omega arith)
       (on-ge last 0x24 _ _ _ (omega arith) (on-ge last 0x40 _ _ _ (h .0) (on-lt last 0x7F _ _ _ (h .1) e)))
 
-  three-octets : (form ≡ form-94x94 → ⊥) → (t : List ℕ) (st : State) → Silent 3 (designatedOf side (setOf form side last) st) ≡ designationOf form side (last ∷ t) st
+  three-octets : (form ≡ form-94x94 → ⊥) → (t : List ℕ) → Designates 3 side (setOf form side last) ≡ designationOf form side (last ∷ t)
   unfolding designatesOf
-  three-octets n t st = final-octet t st _ (on-lt (setOf form side last) no-set _ _ _ named (on-ne form form-94x94 _ _ _ n refl))
+  three-octets n t = final-octet t _ (on-lt (setOf form side last) no-set _ _ _ named (on-ne form form-94x94 _ _ _ n refl))
 
-  four-octets : form ≡ form-94x94 → (t : List ℕ) (st : State) → Silent 4 (designatedOf side (setOf form side last) st) ≡ designationOf form side (last ∷ t) st
+  four-octets : form ≡ form-94x94 → (t : List ℕ) → Designates 4 side (setOf form side last) ≡ designationOf form side (last ∷ t)
   unfolding designatesOf
-  four-octets n t st = final-octet t st _ (on-lt (setOf form side last) no-set _ _ _ named (on-eq form form-94x94 _ _ _ n refl))
+  four-octets n t = final-octet t _ (on-lt (setOf form side last) no-set _ _ _ named (on-eq form form-94x94 _ _ _ n refl))
 
 -- a designation, where it names a set, is the shape of the octets t
-data Is (t : List ℕ) (st : State) : Designation → Type 0 where
-  is : {d : Designation} → (d .set < no-set → Silent (d .octets) (designatedOf (d .side) (d .set) st) ≡ shapeOf t st) → Is t st d
+data Is (t : List ℕ) (s : Sets) : Designation → Type 0 where
+  is : {d : Designation} → (d .set < no-set → Designates (d .octets) (d .side) (d .set) ≡ shapeOf t s) → Is t s d
 
-by : {t : List ℕ} {st : State} {x y : Designation} (q : Bool) → (q ≡ true → Is t st x) → (q ≡ false → Is t st y) → Is t st (pick q x y)
+by : {t : List ℕ} {s : Sets} {x y : Designation} (q : Bool) → (q ≡ true → Is t s x) → (q ≡ false → Is t s y) → Is t s (pick q x y)
 unfolding pick
 by true f g = f refl
 by false f g = g refl
 
-no : {t : List ℕ} {st : State} → Is t st quick.absent
+no : {t : List ℕ} {s : Sets} → Is t s quick.absent
 no = is {d = quick.absent} (λ h. absurd (omega arith))
 
-module _ (t : List ℕ) (st : State) where
-  multi-octet : (c d : ℕ) → Is (0x1B ∷ 0x24 ∷ c ∷ d ∷ t) st (quick.multiOctetOf c d)
+module _ (t : List ℕ) (s : Sets) where
+  multi-octet : (c d : ℕ) → Is (0x1B ∷ 0x24 ∷ c ∷ d ∷ t) s (quick.multiOctetOf c d)
   unfolding quick.multiOctetOf shapeOf escapeOf multiOctetOf next pick
   multi-octet c d =
-      by (eqb c 0x28) (λ e. rw (eqb-true c 0x28 e) (is {d = quick.byFinalOf 4 form-94x94 GL d} (λ h. four-octets form-94x94 GL d h refl t st)))
-      (λ _. by (eqb c 0x29) (λ e. rw (eqb-true c 0x29 e) (is {d = quick.byFinalOf 4 form-94x94 GR d} (λ h. four-octets form-94x94 GR d h refl t st))) (λ _. no))
+      by (eqb c 0x28) (λ e. rw (eqb-true c 0x28 e) (is {d = quick.byFinalOf 4 form-94x94 GL d} (λ h. four-octets form-94x94 GL d h refl t)))
+      (λ _. by (eqb c 0x29) (λ e. rw (eqb-true c 0x29 e) (is {d = quick.byFinalOf 4 form-94x94 GR d} (λ h. four-octets form-94x94 GR d h refl t))) (λ _. no))
 
-  sequence : (b c d : ℕ) → Is (0x1B ∷ b ∷ c ∷ d ∷ t) st (quick.sequenceOf b c d)
+  sequence : (b c d : ℕ) → Is (0x1B ∷ b ∷ c ∷ d ∷ t) s (quick.sequenceOf b c d)
   unfolding quick.sequenceOf shapeOf escapeOf next pick
   sequence b c d =
       by (eqb b 0x24) (λ e. rw (eqb-true b 0x24 e) (multi-octet c d))
-      (λ _. by (eqb b 0x28) (λ e. rw (eqb-true b 0x28 e) (is {d = quick.byFinalOf 3 form-94 GL c} (λ h. three-octets form-94 GL c h (λ q. omega arith) (d ∷ t) st)))
-      (λ _. by (eqb b 0x29) (λ e. rw (eqb-true b 0x29 e) (is {d = quick.byFinalOf 3 form-94 GR c} (λ h. three-octets form-94 GR c h (λ q. omega arith) (d ∷ t) st)))
-      (λ _. by (eqb b 0x2D) (λ e. rw (eqb-true b 0x2D e) (is {d = quick.byFinalOf 3 form-96 GR c} (λ h. three-octets form-96 GR c h (λ q. omega arith) (d ∷ t) st))) (λ _. no))))
+      (λ _. by (eqb b 0x28) (λ e. rw (eqb-true b 0x28 e) (is {d = quick.byFinalOf 3 form-94 GL c} (λ h. three-octets form-94 GL c h (λ q. omega arith) (d ∷ t))))
+      (λ _. by (eqb b 0x29) (λ e. rw (eqb-true b 0x29 e) (is {d = quick.byFinalOf 3 form-94 GR c} (λ h. three-octets form-94 GR c h (λ q. omega arith) (d ∷ t))))
+      (λ _. by (eqb b 0x2D) (λ e. rw (eqb-true b 0x2D e) (is {d = quick.byFinalOf 3 form-96 GR c} (λ h. three-octets form-96 GR c h (λ q. omega arith) (d ∷ t)))) (λ _. no))))
 
-shape : (t : List ℕ) (st : State) → Is t st (quick.designationAt t)
+shape : (t : List ℕ) (s : Sets) → Is t s (quick.designationAt t)
 unfolding quick.designationAt
-shape [] st = no
-shape (a ∷ []) st = no
-shape (a ∷ b ∷ []) st = no
-shape (a ∷ b ∷ c ∷ []) st = no
-shape (a ∷ b ∷ c ∷ d ∷ t) st = by (eqb a 0x1B) (λ e. rw (eqb-true a 0x1B e) (sequence t st b c d)) (λ _. no)
-
-silent-of : {k : ℕ} {st : State} (e : Element) → Silent k st ≡ e → Silent k st ≡ directedOf e
-unfolding directedOf
-silent-of e h = rw (← h)
+shape [] s = no
+shape (a ∷ []) s = no
+shape (a ∷ b ∷ []) s = no
+shape (a ∷ b ∷ c ∷ []) s = no
+shape (a ∷ b ∷ c ∷ d ∷ t) s = by (eqb a 0x1B) (λ e. rw (eqb-true a 0x1B e) (sequence t s b c d)) (λ _. no)
 
 pub designation-silent : (t : List ℕ) (st : State) (d : Designation) → d ≡ quick.designationAt t → d .set < no-set
     → Silent (d .octets) (designatedOf (d .side) (d .set) st) ≡ elementOf t st
-designation-silent t st d e h = silent-of (shapeOf t st) (given (subst (Is t st) (sym e) (shape t st)) h)
+unfolding directedOf
+designation-silent t st d e h = ap (λ (x : Shape). directedOf x st) (given (subst (Is t (st .sets)) (sym e) (shape t (st .sets))) h)
   where
-    given : {x : Designation} → Is t st x → x .set < no-set → Silent (x .octets) (designatedOf (x .side) (x .set) st) ≡ shapeOf t st
+    given : {x : Designation} → Is t (st .sets) x → x .set < no-set → Designates (x .octets) (x .side) (x .set) ≡ shapeOf t (st .sets)
     given (is f) = f
 
 pub ruleset placing = (on-four, on-few)

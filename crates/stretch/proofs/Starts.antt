@@ -23,7 +23,8 @@ use Rattle.state.specs.declared.directions.Step.{Step}
 use Rattle.state.specs.declared.directions.Step.the-variants.{Goes, Stops}
 use Rattle.state.specs.declared.elements.Part.{Part}
 use Rattle.state.specs.declared.elements.Element.{Element}
-use Rattle.state.specs.declared.elements.Element.the-variants.{Found}
+use Rattle.state.specs.declared.elements.Shape.{Shape}
+use Rattle.state.specs.declared.elements.Shape.the-variants.{Gives}
 use Rattle.text.specs.Text.{graphicOf, oneOctetOf, twoOctetsOf, secondOctetOf, characterOf, textOf}
 use Rattle.stretch.specs.Characters.{glOctet, graphicOn, grOctet, singleOf, oneAt, twoAt, settledOf}
 use Rattle.stretch.proofs.Law.{One}
@@ -92,12 +93,12 @@ module _ (d : Directions) (settled : settledOf d ≡ true) where
 
 module _ (st : State) where
   -- an element, by its shape and its step
-  leaves : (t : List ℕ) (n : ℕ) (p : Part) → Goes (st .directions) ≡ stepOf (p .text) (p .kind) (st .directions) → size p ≡ n → Found p st ≡ shapeOf t st → One n st (elementOf t st)
+  leaves : (t : List ℕ) (n : ℕ) (p : Part) → Goes (st .directions) ≡ stepOf (p .text) (p .kind) (st .directions) → size p ≡ n → Gives p ≡ shapeOf t (st .sets) → One n st (elementOf t st)
   unfolding directedOf steppedOf
   leaves t n p h k e = record { unit = p; is = rw (← e, ← h); sized = k }
 
   -- a tab or newline, which is no text
-  blank : (b k : ℕ) (t : List ℕ) → Goes (st .directions) ≡ stepOf false k (st .directions) → Found (part k 0 0 0 1 false) st ≡ shapeOf (b ∷ t) st → One 1 st (elementOf (b ∷ t) st)
+  blank : (b k : ℕ) (t : List ℕ) → Goes (st .directions) ≡ stepOf false k (st .directions) → Gives (part k 0 0 0 1 false) ≡ shapeOf (b ∷ t) (st .sets) → One 1 st (elementOf (b ∷ t) st)
   blank b k t h e = leaves (b ∷ t) 1 (part k 0 0 0 1 false) h refl e
 
   blank-by : (b : ℕ) (t : List ℕ) → 0x09 ≤ b → b < 0x0B → One 1 st (elementOf (b ∷ t) st)
@@ -123,11 +124,11 @@ module _ (st : State) where
 
 module _ (st : State) (settled : settledOf (st .directions) ≡ true) where
   -- text
-  found : (t : List ℕ) (n : ℕ) (p : Part) → p .text ≡ true → size p ≡ n → Found p st ≡ shapeOf t st → One n st (elementOf t st)
+  found : (t : List ℕ) (n : ℕ) (p : Part) → p .text ≡ true → size p ≡ n → Gives p ≡ shapeOf t (st .sets) → One n st (elementOf t st)
   unfolding stepOf
   found t n p h k e = leaves st t n p (on-true (p .text) _ _ _ h (written (st .directions) settled)) k e
 
-  left-shape : (b : ℕ) (t : List ℕ) (r : Element) → 0x20 ≤ b → b < 0x7F → r ≡ textOf b t st → r ≡ shapeOf (b ∷ t) st
+  left-shape : (b : ℕ) (t : List ℕ) (r : Shape) → 0x20 ≤ b → b < 0x7F → r ≡ textOf b t (st .sets) → r ≡ shapeOf (b ∷ t) (st .sets)
   unfolding shapeOf
   left-shape b t r h k e =
       on-ne b 0x1B _ _ _ (λ q. omega arith)
@@ -137,7 +138,7 @@ module _ (st : State) (settled : settledOf (st .directions) ≡ true) where
       (on-ge b 0x20 _ _ _ h
       (on-ne b 0x7F _ _ _ (λ q. omega arith) (on-lt b 0x80 _ _ _ (omega arith) e))))))
 
-  right-shape : (b : ℕ) (t : List ℕ) (r : Element) → 0xA0 ≤ b → r ≡ textOf b t st → r ≡ shapeOf (b ∷ t) st
+  right-shape : (b : ℕ) (t : List ℕ) (r : Shape) → 0xA0 ≤ b → r ≡ textOf b t (st .sets) → r ≡ shapeOf (b ∷ t) (st .sets)
   unfolding shapeOf
   right-shape b t r h e =
       on-ne b 0x1B _ _ _ (λ q. omega arith)
@@ -148,28 +149,28 @@ module _ (st : State) (settled : settledOf (st .directions) ≡ true) where
       (on-ne b 0x7F _ _ _ (λ q. omega arith)
       (on-ge b 0x80 _ _ _ (omega arith) (on-ge b 0xA0 _ _ _ h e)))))))
 
-  left-text : (b : ℕ) (t : List ℕ) (r : Element) → 0x21 ≤ b → b < 0x7F → r ≡ characterOf (st .sets .gl) b t st → r ≡ shapeOf (b ∷ t) st
+  left-text : (b : ℕ) (t : List ℕ) (r : Shape) → 0x21 ≤ b → b < 0x7F → r ≡ characterOf (st .sets .gl) b t → r ≡ shapeOf (b ∷ t) (st .sets)
   unfolding textOf
   left-text b t r h k e =
       left-shape b t r (omega arith) k (on-ne b 0x20 _ _ _ (λ q. omega arith) (on-lt b 0x80 _ _ _ (omega arith) e))
 
-  right-text : (b : ℕ) (t : List ℕ) (r : Element) → 0xA0 ≤ b → r ≡ characterOf (st .sets .gr) b t st → r ≡ shapeOf (b ∷ t) st
+  right-text : (b : ℕ) (t : List ℕ) (r : Shape) → 0xA0 ≤ b → r ≡ characterOf (st .sets .gr) b t → r ≡ shapeOf (b ∷ t) (st .sets)
   unfolding textOf
   right-text b t r h e =
       right-shape b t r h (on-ne b 0x20 _ _ _ (λ q. omega arith) (on-ge b 0x80 _ _ _ (omega arith) e))
 
   -- a character of one octet
-  one-of : (set b : ℕ) (t : List ℕ) → (formOf set ≡ form-94x94 → ⊥) → graphicOf (b % 128) ≡ true → (k : Bool) → eqb (formOf set) form-96 ≡ k → oneOctetOf set b st ≡ characterOf set b t st
+  one-of : (set b : ℕ) (t : List ℕ) → (formOf set ≡ form-94x94 → ⊥) → graphicOf (b % 128) ≡ true → (k : Bool) → eqb (formOf set) form-96 ≡ k → oneOctetOf set b ≡ characterOf set b t
   unfolding characterOf
   one-of set b t h g true k = on-true _ _ _ _ k refl
   one-of set b t h g false k = on-false _ _ _ _ k (on-true _ _ _ _ g (on-ne (formOf set) form-94x94 _ _ _ h refl))
 
-  one-96 : (set b : ℕ) (t : List ℕ) → formOf set ≡ form-96 → oneOctetOf set b st ≡ characterOf set b t st
+  one-96 : (set b : ℕ) (t : List ℕ) → formOf set ≡ form-96 → oneOctetOf set b ≡ characterOf set b t
   unfolding characterOf
   one-96 set b t h = on-eq (formOf set) form-96 _ _ _ h refl
 
   -- and of two
-  two-of : (set b d : ℕ) (t : List ℕ) (side : ℕ) → formOf set ≡ form-94x94 → graphicOn side b ≡ true → graphicOn side d ≡ true → twoOctetsOf set b d st ≡ characterOf set b (d ∷ t) st
+  two-of : (set b d : ℕ) (t : List ℕ) (side : ℕ) → formOf set ≡ form-94x94 → graphicOn side b ≡ true → graphicOn side d ≡ true → twoOctetsOf set b d ≡ characterOf set b (d ∷ t)
   unfolding characterOf secondOctetOf next
   two-of set b d t side h g i =
       let x = graphic-on side b g in
@@ -192,7 +193,7 @@ module _ (st : State) (settled : settledOf (st .directions) ≡ true) where
       found (b ∷ t) 1 (part kind.space 0 0 0 1 true) refl refl
       (left-shape b t _ (omega arith) (omega arith) (on-eq b 0x20 _ _ _ e (on-ne (formOf (st .sets .gl)) form-94x94 _ _ _ h refl)))
 
-  right-one : (b : ℕ) (t : List ℕ) → 0xA0 ≤ b → oneOctetOf (st .sets .gr) b st ≡ characterOf (st .sets .gr) b t st → One 1 st (elementOf (b ∷ t) st)
+  right-one : (b : ℕ) (t : List ℕ) → 0xA0 ≤ b → oneOctetOf (st .sets .gr) b ≡ characterOf (st .sets .gr) b t → One 1 st (elementOf (b ∷ t) st)
   right-one b t h e = found (b ∷ t) 1 (part kind.character (st .sets .gr) (b % 128) 0 1 true) refl refl (right-text b t _ h e)
 
   right-94 : (b : ℕ) (t : List ℕ) → 0xA0 ≤ b → formOf (st .sets .gr) ≡ form-94 → graphicOn 1 b ≡ true → One 1 st (elementOf (b ∷ t) st)

@@ -14,7 +14,7 @@ use Rattle.element.specs.Element.{elementOf}
 use Rattle.state.specs.declared.State.{State}
 use Rattle.stretch.specs.Characters.{leadOf, oneAt, twoAt, singlesOf, pairsOf, settledOf, stretch, twosOf, byFormsOf, stretchAt}
 use Rattle.stretch.specs.declared.characters.Stretch.{Stretch}
-use Rattle.stretch.proofs.Law.{One, Ahead, ahead, lead-fits}
+use Rattle.stretch.proofs.Law.{One, Ahead, leads, lead-fits}
 use Rattle.stretch.proofs.Starts.{blank-octet, one-octet, two-left, two-right}
 
 -- ---- the choice of a stretch, by what the code has found
@@ -66,7 +66,7 @@ module _ (s : List ℕ) (at : ℕ) (st : State) where
   singles inside left right one =
       let n : ℕ = singlesOf left right (from at s) in
       let f : 1 * n ≤ length (from at s) = lead-fits (oneAt left right) 0 st one (from at s) in
-      passes {r = stretch n n} (λ h. ahead _ 0 st one s at n n refl (omega arith) (omega arith) (omega (arith, f, from-length s at)))
+      passes {r = stretch n n} (λ h. leads _ 0 st one s at n n refl (omega arith) (omega arith) (omega (arith, f, from-length s at)))
 
   module _ (inside : at ≤ length s) (settled : settledOf (st .directions) ≡ true) where
     -- characters of two octets on a side, which are elements of the state
@@ -78,14 +78,14 @@ module _ (s : List ℕ) (at : ℕ) (st : State) where
         let n : ℕ = pairsOf 0 (from at s) in
         let f : 2 * n ≤ length (from at s) = lead-fits (twoAt 0) 1 st (two-left st settled k) (from at s) in
         passes {r = stretch (2 * n) n}
-        (λ h. ahead _ 1 st (two-left st settled k) s at n (2 * n) refl refl (omega arith) (omega (arith, f, from-length s at)))
+        (λ h. leads _ 1 st (two-left st settled k) s at n (2 * n) refl refl (omega arith) (omega (arith, f, from-length s at)))
 
     rights : formOf (st .sets .gr) ≡ form-94x94 → Passes (stretch (2 * pairsOf 1 (from at s)) (pairsOf 1 (from at s)))
     rights k =
         let n : ℕ = pairsOf 1 (from at s) in
         let f : 2 * n ≤ length (from at s) = lead-fits (twoAt 1) 1 st (two-right st settled k) (from at s) in
         passes {r = stretch (2 * n) n}
-        (λ h. ahead _ 1 st (two-right st settled k) s at n (2 * n) refl refl (omega arith) (omega (arith, f, from-length s at)))
+        (λ h. leads _ 1 st (two-right st settled k) s at n (2 * n) refl refl (omega arith) (omega (arith, f, from-length s at)))
 
     forms : Passes (byFormsOf (formOf (st .sets .gl)) (formOf (st .sets .gr)) (from at s))
     unfolding byFormsOf

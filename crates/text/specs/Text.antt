@@ -1,4 +1,4 @@
--- Characters and spaces: functions of a GL or GR octet, of the octets t after it and of the state.
+-- Characters and spaces: functions of a GL or GR octet, of the octets t after it and of the sets in force.
 use Prim.Native.Nat.{ℕ, _+_, _*_, _%_, _/_}
 use mathlib.Core.Bool.{Bool, false}
 use mathlib.Core.List.{List}
@@ -8,42 +8,42 @@ use Rattle.base.specs.Refusal as refusal
 use Rattle.base.specs.Kind as kind
 use Rattle.charset.specs.Charsets.{form-96, form-94x94, formOf}
 use Rattle.state.specs.Elements.{unit, refused, next}
-use Rattle.state.specs.declared.State.{State}
-use Rattle.state.specs.declared.elements.Element.{Element}
+use Rattle.state.specs.declared.Sets.{Sets}
+use Rattle.state.specs.declared.elements.Shape.{Shape}
 
 -- an octet less its top bit that a set of 94 uses, and either octet of a set of 94 by 94: "21-7E", "A1-FE"
 unfoldable pub graphicOf : ℕ → Bool
 graphicOf c = pick (ltb c 0x21) false (leb c 0x7E)
 
 -- "Code: of a character the octet less its top bit; for two octets first × 256 + second, each less its top bit"
-abbrev pub oneOctetOf : ℕ → ℕ → State → Element
-oneOctetOf set b st = unit kind.character set (b % 128) 1 st
+abbrev pub oneOctetOf : ℕ → ℕ → Shape
+oneOctetOf set b = unit kind.character set (b % 128) 1
 
-abbrev pub twoOctetsOf : ℕ → ℕ → ℕ → State → Element
-twoOctetsOf set b d st = unit kind.character set (b % 128 * 256 + d % 128) 2 st
+abbrev pub twoOctetsOf : ℕ → ℕ → ℕ → Shape
+twoOctetsOf set b d = unit kind.character set (b % 128 * 256 + d % 128) 2
 
 -- "SPACE, a unit without a set"
-abbrev pub spaceOf : State → Element
-spaceOf st = unit kind.space 0 0 1 st
+abbrev pub spaceOf : Shape
+spaceOf = unit kind.space 0 0 1
 
 -- the second octet, on the side of the first: "A missing second octet: 2. A second octet out of range: 3."
-unfoldable pub secondOctetOf : ℕ → ℕ → List ℕ → State → Element
-secondOctetOf set b t st =
+unfoldable pub secondOctetOf : ℕ → ℕ → List ℕ → Shape
+secondOctetOf set b t =
     next t
     (λ d _.
-    pick (eqb (d / 128) (b / 128)) (pick (graphicOf (d % 128)) (twoOctetsOf set b d st) (refused refusal.unused)) (refused refusal.unused))
+    pick (eqb (d / 128) (b / 128)) (pick (graphicOf (d % 128)) (twoOctetsOf set b d) (refused refusal.unused)) (refused refusal.unused))
 
 -- a character that begins with b, of the set on the side of b: "a 94 set uses A1-FE, a 96 set A0-FF, a two-octet set two octets A1-FE.
 -- Others: refusal 3."
-unfoldable pub characterOf : ℕ → ℕ → List ℕ → State → Element
-characterOf set b t st =
-    pick (eqb (formOf set) form-96) (oneOctetOf set b st)
+unfoldable pub characterOf : ℕ → ℕ → List ℕ → Shape
+characterOf set b t =
+    pick (eqb (formOf set) form-96) (oneOctetOf set b)
     (pick (graphicOf (b % 128))
-    (pick (eqb (formOf set) form-94x94) (secondOctetOf set b t st) (oneOctetOf set b st))
+    (pick (eqb (formOf set) form-94x94) (secondOctetOf set b t) (oneOctetOf set b))
     (refused refusal.unused))
 
 -- a GL or GR octet b: "GL octet 20 is SPACE .. when a one-octet set stands in GL; under a two-octet set it is refusal 3"
-unfoldable pub textOf : ℕ → List ℕ → State → Element
-textOf b t st =
-    pick (eqb b 0x20) (pick (eqb (formOf (st .sets .gl)) form-94x94) (refused refusal.unused) (spaceOf st))
-    (pick (ltb b 0x80) (characterOf (st .sets .gl) b t st) (characterOf (st .sets .gr) b t st))
+unfoldable pub textOf : ℕ → List ℕ → Sets → Shape
+textOf b t s =
+    pick (eqb b 0x20) (pick (eqb (formOf (s .gl)) form-94x94) (refused refusal.unused) (spaceOf))
+    (pick (ltb b 0x80) (characterOf (s .gl) b t) (characterOf (s .gr) b t))

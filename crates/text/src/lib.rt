@@ -6,9 +6,9 @@ use base::kind;
 use base::refusal;
 use charset::FORM_94X94;
 use charset::FORM_96;
-use state::State;
-use state::elements::Element;
+use state::Sets;
 use state::elements::Part;
+use state::elements::Shape;
 
 // An octet, less its top bit, that a set of 94 uses.
 pub fn graphic(c: u8) -> bool
@@ -20,103 +20,93 @@ pub fn graphic(c: u8) -> bool
     c <= 0x7E
 }
 
-pub fn one_octet(set: u8, b: u8, st: State) -> Element
-    ensures { λ r. ⌜ r ≡ oneOctetOf set b st ⌝ }
+pub fn one_octet(set: u8, b: u8) -> Shape
+    ensures { λ r. ⌜ r ≡ oneOctetOf set b ⌝ }
 {
-    Element::Found(
-        Part {
-            skip: 0,
-            octets: 1,
-            code: (b % 128) as u16,
-            kind: kind::CHARACTER,
-            set: set,
-            text: true,
-        },
-        st,
-    )
+    Shape::Gives(Part {
+        skip: 0,
+        octets: 1,
+        code: (b % 128) as u16,
+        kind: kind::CHARACTER,
+        set: set,
+        text: true,
+    })
 }
 
-pub fn two_octets(set: u8, b: u8, d: u8, st: State) -> Element
-    ensures { λ r. ⌜ r ≡ twoOctetsOf set b d st ⌝ }
+pub fn two_octets(set: u8, b: u8, d: u8) -> Shape
+    ensures { λ r. ⌜ r ≡ twoOctetsOf set b d ⌝ }
 {
-    Element::Found(
-        Part {
-            skip: 0,
-            octets: 2,
-            code: (b % 128) as u16 * 256 + (d % 128) as u16,
-            kind: kind::CHARACTER,
-            set: set,
-            text: true,
-        },
-        st,
-    )
+    Shape::Gives(Part {
+        skip: 0,
+        octets: 2,
+        code: (b % 128) as u16 * 256 + (d % 128) as u16,
+        kind: kind::CHARACTER,
+        set: set,
+        text: true,
+    })
 }
 
-pub fn space(st: State) -> Element
-    ensures { λ r. ⌜ r ≡ spaceOf st ⌝ }
+pub fn space() -> Shape
+    ensures { λ r. ⌜ r ≡ spaceOf ⌝ }
 {
-    Element::Found(
-        Part {
-            skip: 0,
-            octets: 1,
-            code: 0,
-            kind: kind::SPACE,
-            set: 0,
-            text: true,
-        },
-        st,
-    )
+    Shape::Gives(Part {
+        skip: 0,
+        octets: 1,
+        code: 0,
+        kind: kind::SPACE,
+        set: 0,
+        text: true,
+    })
 }
 
 // The second octet of a two-octet character that begins with b: on the side of b.
-pub fn second_octet(s: &[u8], at: usize, set: u8, b: u8, st: State) -> Element
-    ensures { λ r. ⌜ r ≡ secondOctetOf set b (from at (now (s .entry))) st ⌝ }
+pub fn second_octet(s: &[u8], at: usize, set: u8, b: u8) -> Shape
+    ensures { λ r. ⌜ r ≡ secondOctetOf set b (from at (now (s .entry))) ⌝ }
 {
     if s.len() <= at {
-        return Element::Refused(refusal::CUT, 0);
+        return Shape::Refuses(refusal::CUT, 0);
     }
     let d = s[at];
     if d / 128 == b / 128 {
         if graphic(d % 128) {
-            return two_octets(set, b, d, st);
+            return two_octets(set, b, d);
         }
-        return Element::Refused(refusal::UNUSED, 0);
+        return Shape::Refuses(refusal::UNUSED, 0);
     }
-    Element::Refused(refusal::UNUSED, 0)
+    Shape::Refuses(refusal::UNUSED, 0)
 }
 
 // A character that begins with b, where at is the place after b.
-pub fn character(s: &[u8], at: usize, set: u8, b: u8, st: State) -> Element
-    ensures { λ r. ⌜ r ≡ characterOf set b (from at (now (s .entry))) st ⌝ }
+pub fn character(s: &[u8], at: usize, set: u8, b: u8) -> Shape
+    ensures { λ r. ⌜ r ≡ characterOf set b (from at (now (s .entry))) ⌝ }
 {
     let form = charset::form_of(set);
     if form == FORM_96 {
-        return one_octet(set, b, st);
+        return one_octet(set, b);
     }
     if graphic(b % 128) {
         if form == FORM_94X94 {
-            return second_octet(s, at, set, b, st);
+            return second_octet(s, at, set, b);
         }
-        return one_octet(set, b, st);
+        return one_octet(set, b);
     }
-    Element::Refused(refusal::UNUSED, 0)
+    Shape::Refuses(refusal::UNUSED, 0)
 }
 
 // A GL or GR octet b, where at is the place after b.
-pub fn text(s: &[u8], at: usize, b: u8, st: State) -> Element
-    ensures { λ r. ⌜ r ≡ textOf b (from at (now (s .entry))) st ⌝ }
+pub fn text(s: &[u8], at: usize, b: u8, sets: Sets) -> Shape
+    ensures { λ r. ⌜ r ≡ textOf b (from at (now (s .entry))) sets ⌝ }
 {
-    let sets = st.sets;
     let gl = sets.gl;
     let gr = sets.gr;
     if b == 0x20 {
         if charset::form_of(gl) == FORM_94X94 {
-            return Element::Refused(refusal::UNUSED, 0);
+            return Shape::Refuses(refusal::UNUSED, 0);
         }
-        return space(st);
+        return space();
     }
     if b < 0x80 {
-        return character(s, at, gl, b, st);
+        return character(s, at, gl, b);
     }
-    character(s, at, gr, b, st)
+    character(s, at, gr, b)
 }

@@ -19,15 +19,12 @@ use Rattle.base.specs.Limit as limit
 use Rattle.base.specs.Refusal as refusal
 use Rattle.base.specs.declared.Unit.{Unit as UnitRecord}
 use Rattle.element.proofs.Sizes.{Meant, with-set, with-none, with-code, MeantPart}
-use Rattle.state.specs.State.{fresh}
 use Rattle.state.specs.declared.State.{State}
 use Rattle.state.specs.declared.elements.Part.{Part}
-use Rattle.state.specs.declared.elements.Element.{Element}
-use Rattle.state.specs.declared.elements.Element.the-variants.{End, Refused, Silent, Found}
 use Rattle.grammar.specs.Units.{TextUnit, unitOf}
-use Rattle.grammar.specs.Reading.{size, elements, answerOf, checkOf, unitAt, unitsOf, readingOf}
+use Rattle.grammar.specs.Reading.{Elements, size, elementsOf, answerOf, checkOf, unitAt, unitsOf, readingOf}
 use Rattle.grammar.specs.Records.{readable, unitRead, prepend, listReading}
-use Rattle.grammar.proofs.Places.{Ahead, ends, stops, passes, reads, ahead-from, ahead-is}
+use Rattle.grammar.proofs.Places.{Ahead, ends, stops, passes, reads, from-start, ahead-is}
 use Rattle.units.specs.Records.{recordOf, recordsFrom, recordsOf}
 use Rattle.units.specs.Next.{outcomeOf, nextOf}
 
@@ -47,17 +44,13 @@ unfolding unitRead unitAt
 unit-read s at p h m =
     rw (readable-by s (p .kind) (p .set) (p .code) (at + p .skip) (p .octets) m (omega (arith, h)), drop-drop (p .skip) at s)
 
-reads-from : (s : List ℕ) {at : ℕ} {st : State} {es : List Element} → Ahead s at st es
-    → listReading s (recordsFrom at es) ≡ some (unitsOf (drop at s) es)
+reads-from : (s : List ℕ) {at : ℕ} {st : State} {es : Elements} → Ahead s at st es
+    → listReading s (recordsFrom es) ≡ some (unitsOf (drop at s) es)
 unfolding listReading recordsFrom unitsOf
 reads-from s (ends e) = refl
 reads-from s (stops f e) = refl
 reads-from s {at} (passes {k = k} t e a) = rw (drop-drop k at s) (reads-from s a)
 reads-from s {at} (reads {p = p} t m e a) = rw (unit-read s at p (t .fits) m, drop-drop (size p) at s, reads-from s a)
-
-pub from-start : (s : List ℕ) → Ahead s 0 fresh (elements s 0 fresh)
-unfolding from
-from-start s = ahead-from s 0 fresh
 
 -- "A string reads as a list where their two readings are equal."
 pub records-read : (s : List ℕ) → listReading s (recordsOf s) ≡ some (readingOf s)
@@ -70,7 +63,7 @@ pub data AllMeant : List UnitRecord → Type 0 where
   none-left : AllMeant []
   one-more : {r : UnitRecord} {rs : List UnitRecord} → Meant (r .kind) (r .set) (r .code) → AllMeant rs → AllMeant (r ∷ rs)
 
-meant-from : (s : List ℕ) {at : ℕ} {st : State} {es : List Element} → Ahead s at st es → AllMeant (recordsFrom at es)
+meant-from : (s : List ℕ) {at : ℕ} {st : State} {es : Elements} → Ahead s at st es → AllMeant (recordsFrom es)
 unfolding recordsFrom
 meant-from s (ends e) = none-left
 meant-from s (stops f e) = none-left
@@ -84,8 +77,8 @@ records-meant s = meant-from s (from-start s)
 
 -- ---- their number
 
-counts-from : (s : List ℕ) (count : ℕ) {at : ℕ} {st : State} {es : List Element} → Ahead s at st es
-    → answerOf at count es .number ≡ refusal.accepted → answerOf at count es .count ≡ count + length (recordsFrom at es)
+counts-from : (s : List ℕ) (count : ℕ) {at : ℕ} {st : State} {es : Elements} → Ahead s at st es
+    → answerOf count es .number ≡ refusal.accepted → answerOf count es .count ≡ count + length (recordsFrom es)
 unfolding answerOf recordsFrom
 counts-from s count (ends e) z = omega arith
 counts-from s count (stops {n = n} f e) z =
@@ -94,8 +87,8 @@ counts-from s count (stops {n = n} f e) z =
 counts-from s count (passes t e a) z = counts-from s count a z
 counts-from s count (reads t m e a) z = omega (arith, counts-from s (count + 1) a z)
 
-counts-by : (s : List ℕ) (b : Bool) → pick b (refusedAt refusal.too-long 0) (answerOf 0 0 (elements s 0 fresh)) .number ≡ refusal.accepted
-    → pick b (refusedAt refusal.too-long 0) (answerOf 0 0 (elements s 0 fresh)) .count ≡ length (recordsFrom 0 (elements s 0 fresh))
+counts-by : (s : List ℕ) (b : Bool) → pick b (refusedAt refusal.too-long 0) (answerOf 0 (elementsOf s)) .number ≡ refusal.accepted
+    → pick b (refusedAt refusal.too-long 0) (answerOf 0 (elementsOf s)) .count ≡ length (recordsFrom (elementsOf s))
 unfolding pick
 counts-by s true z = absurd (let y : _≡_ {A = ℕ} refusal.too-long refusal.accepted = z in omega arith)
 counts-by s false z = omega (arith, counts-from s 0 (from-start s) z)
@@ -108,12 +101,12 @@ records-count s z = counts-by s (ltb limit.octets (length s)) z
 -- ---- the next of them
 
 -- the next unit of a string that is not too long
-pub next-ahead : (s : List ℕ) → length s ≤ limit.octets → {at : ℕ} {st : State} {es : List Element} → Ahead s at st es → nextOf s at st ≡ outcomeOf at es
+pub next-ahead : (s : List ℕ) → length s ≤ limit.octets → {at : ℕ} {st : State} {es : Elements} → Ahead s at st es → nextOf s at st ≡ outcomeOf es
 unfolding nextOf pick
-next-ahead s short {at} a = rw (le-ltb limit.octets (length s) short) (ap (outcomeOf at) (ahead-is s a))
+next-ahead s short a = rw (le-ltb limit.octets (length s) short) (ap outcomeOf (ahead-is s a))
 
 -- each has an octet at least
-pub few-records : (s : List ℕ) {at : ℕ} {st : State} {es : List Element} → Ahead s at st es → at ≤ length s → at + length (recordsFrom at es) ≤ length s
+pub few-records : (s : List ℕ) {at : ℕ} {st : State} {es : Elements} → Ahead s at st es → at ≤ length s → at + length (recordsFrom es) ≤ length s
 unfolding recordsFrom
 few-records s (ends e) h = omega arith
 few-records s (stops f e) h = omega arith

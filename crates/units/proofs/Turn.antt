@@ -5,12 +5,13 @@ use mathlib.Core.List.{List}
 use Rattle.base.specs.Choice.{from}
 use Rattle.base.specs.Refusal as refusal
 use Rattle.element.specs.Element.{elementOf}
+use Rattle.element.proofs.Sizes.{silent, found}
 use Rattle.state.specs.declared.State.{State}
 use Rattle.state.specs.declared.elements.Part.{Part}
 use Rattle.state.specs.declared.elements.Element.{Element}
 use Rattle.state.specs.declared.elements.Element.the-variants.{End, Refused, Silent, Found}
 use Rattle.grammar.specs.Reading.{size}
-use Rattle.grammar.proofs.Places.{ahead, at-end, at-refused, at-silent, at-found}
+use Rattle.grammar.proofs.Places.{ahead, at-end, at-refused, at-passed}
 use Rattle.units.specs.Records.{recordOf}
 use Rattle.units.specs.Next.{outcomeOf}
 use Rattle.units.specs.declared.Outcome.{Outcome}
@@ -18,21 +19,21 @@ use Rattle.units.specs.declared.Outcome.the-variants.{Gives, Stops}
 
 -- what the elements from a place on give
 abbrev pub outcome : List ℕ → ℕ → State → Outcome
-outcome s at st = outcomeOf at (ahead s at st)
+outcome s at st = outcomeOf (ahead s at st)
 
 module _ (s : List ℕ) (at : ℕ) (st : State) (e : Element) (is : e ≡ elementOf (from at s) st) where
   pub gives-end : e ≡ End → Stops refusal.accepted at ≡ outcome s at st
   unfolding outcomeOf
-  gives-end i = sym (ap (outcomeOf at) (at-end s at st e is i))
+  gives-end i = sym (ap outcomeOf (at-end s at st e is i))
 
   pub gives-refused : {n o : ℕ} → e ≡ Refused n o → Stops n (at + o) ≡ outcome s at st
   unfolding outcomeOf
-  gives-refused i = sym (ap (outcomeOf at) (at-refused s at st e is i))
+  gives-refused i = sym (ap outcomeOf (at-refused s at st e is i))
 
   pub gives-silent : {k : ℕ} {next : State} → e ≡ Silent k next → outcome s (at + k) next ≡ outcome s at st
   unfolding outcomeOf
-  gives-silent i = sym (ap (outcomeOf at) (at-silent s at st e is i))
+  gives-silent i = sym (ap outcomeOf (at-passed s at st e is silent i))
 
   pub gives-found : {p : Part} {next : State} → e ≡ Found p next → Gives (recordOf p at) (at + size p) next ≡ outcome s at st
   unfolding outcomeOf
-  gives-found i = sym (ap (outcomeOf at) (at-found s at st e is i))
+  gives-found i = sym (ap outcomeOf (at-passed s at st e is found i))

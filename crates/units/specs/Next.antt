@@ -1,28 +1,25 @@
 -- The next unit of a string, from a place and a state on.
 use Prim.Native.Nat.{ℕ, _+_}
-use mathlib.Core.List.{List, [], _∷_}
+use mathlib.Core.List.{List}
 use lib.ListN.{length}
 use lib.Dec.{ltb}
 use Rattle.base.specs.Choice.{pick, from}
 use Rattle.base.specs.Limit as limit
 use Rattle.base.specs.Refusal as refusal
 use Rattle.state.specs.declared.State.{State}
-use Rattle.state.specs.declared.elements.Element.{Element}
-use Rattle.state.specs.declared.elements.Element.the-variants.{End, Refused, Silent, Found}
-use Rattle.grammar.specs.Reading.{size, elements}
+use Rattle.grammar.specs.Reading.{Elements, end-at, refused-at, silent-at, found-at, size, elements}
 use Rattle.units.specs.Records.{recordOf}
 use Rattle.units.specs.declared.Outcome.{Outcome}
 use Rattle.units.specs.declared.Outcome.the-variants.{Gives, Stops}
 
--- the first unit of elements that start at a place, with the place and the state after it; or the number and the place of the end or of
--- the refusal that comes first
-unfoldable pub outcomeOf : ℕ → List Element → Outcome
-outcomeOf at [] = Stops refusal.accepted at
-outcomeOf at (End ∷ es) = Stops refusal.accepted at
-outcomeOf at (Refused n o ∷ es) = Stops n (at + o)
-outcomeOf at (Silent k st ∷ es) = outcomeOf (at + k) es
-outcomeOf at (Found p st ∷ es) = Gives (recordOf p at) (at + size p) st
+-- the first unit of elements, with the place and the state after it; or the number and the place of the end or of the refusal that comes
+-- first
+unfoldable pub outcomeOf : Elements → Outcome
+outcomeOf (end-at at) = Stops refusal.accepted at
+outcomeOf (refused-at at n o) = Stops n (at + o)
+outcomeOf (silent-at at k st es) = outcomeOf es
+outcomeOf (found-at at p st es) = Gives (recordOf p at) (at + size p) st
 
 -- "Refusal 1 comes before any unit."
 unfoldable pub nextOf : List ℕ → ℕ → State → Outcome
-nextOf s at st = pick (ltb limit.octets (length s)) (Stops refusal.too-long 0) (outcomeOf at (elements (from at s) 0 st))
+nextOf s at st = pick (ltb limit.octets (length s)) (Stops refusal.too-long 0) (outcomeOf (elements (from at s) 0 at st))

@@ -1,4 +1,4 @@
--- `cursor::or_two` meets its contract. Assumes nothing.
+-- `cursor::or_two` meets its contract, test by test.
 use Rattle.cursor.specs.Cursor.{doubleOf}
 use Rattle.cursor.proofs.Rules.{reading}
 use borrow.Author.Needs.{needs}
@@ -28,11 +28,8 @@ returns-2 : tie.Need-returns-2
 unfolding doubleOf
 returns-2 c = search reading depth 9
 
-set-at-requires : tie.Need-set-at-requires
-set-at-requires c κs = search needs
-
-two-octets-requires : tie.Need-two-octets-requires
-two-octets-requires c κs = search needs
+double-turn-requires : tie.Need-double-turn-requires
+double-turn-requires c κs = search needs
 
 returns-3 : tie.Need-returns-3
 unfolding doubleOf
@@ -56,8 +53,7 @@ or-two-spec =
     shared-slice-read-d
     by-element-requires-2
     returns-2
-    set-at-requires
-    two-octets-requires
+    double-turn-requires
     returns-3
     by-element-requires-3
     returns-4)

@@ -1,4 +1,4 @@
--- `cursor::placed` meets its contract. Assumes nothing.
+-- `cursor::placed` meets its contract: a designation that was found stands within the string.
 use native.Mathlib.Omega.{arith}
 use denote.Ref.{now}
 use Rattle.base.proofs.Ladder.{ladder, on-lt}
@@ -13,12 +13,13 @@ designated-requires c κs = search needs
 
 add-place : tie.Need-add-place
 add-place c =
-    let h = placed-fits (now (c .before .before .before .before .before .before .args .s)) (c .before .before .before .before .before .before .args .c .place) (c .before .before .before .before .before .before .args .d) (c .before .before .before .before .before .before .pre) (c .before .before .before .before .if1 .taken) in
+    let start = c .before .before .before .before .before .before in
+    let h = placed-fits (now (start .args .s)) (start .args .c .place) (start .args .d) (start .pre) (c .before .before .before .before .if1 .taken) in
     omega (arith, h)
 
 returns : tie.Need-returns
 unfolding placedOf
-returns c = on-lt _ _ _ _ _ (c .before .before .before .before .if1 .taken) (rw (c .before .before .before .designated .ensures))
+returns c = on-lt _ _ _ _ _ (c .before .before .before .before .if1 .taken) (rw (c .before .before .designated .ensures))
 
 returns-2 : tie.Need-returns-2
 unfolding placedOf

@@ -1,6 +1,8 @@
--- `cursor::text_or_element` meets its contract. Assumes nothing.
-use Rattle.cursor.specs.Cursor.{quickOf, textTurn}
-use Rattle.cursor.proofs.Rules.{reading}
+-- `cursor::text_or_element` meets its contract, test by test.
+use Rattle.cursor.specs.Cursor.{octetOf, quickOf, textTurn}
+use Rattle.cursor.proofs.Rules.{reading, on-quick, on-text}
+use Rattle.base.proofs.Ladder.{on-lt, on-ge}
+use mathlib.Core.Path.{sym, _∙_}
 use borrow.Author.Needs.{needs}
 use Rattle.cursor.proofs.text_or_element.Statement.{statement}
 use Rattle.cursor.proofs.text_or_element.Tie as tie
@@ -21,19 +23,27 @@ text-octet-requires c κs = search needs
 set-at-requires : tie.Need-set-at-requires
 set-at-requires c κs = search needs
 
-one-octet-requires : tie.Need-one-octet-requires
-one-octet-requires c κs = search needs
+single-turn-requires : tie.Need-single-turn-requires
+single-turn-requires c κs = search needs
 
 returns-2 : tie.Need-returns-2
-unfolding quickOf textTurn
-returns-2 c = search reading depth 9
+unfolding octetOf textTurn
+returns-2 c =
+    let read = c .before .before .before .before .before in
+    on-quick _ _ _ _ _ (read .before .before .before .if1 .left)
+    (on-text _ _ _ _ _ _ _ (sym (read .before .text-octet .ensures) ∙ read .if2 .taken) (c .before .before .set-at .ensures)
+    (on-lt _ _ _ _ _ (c .before .if3 .taken) (c .single-turn .ensures)))
 
 or-two-requires : tie.Need-or-two-requires
 or-two-requires c κs = search needs
 
 returns-3 : tie.Need-returns-3
-unfolding quickOf textTurn
-returns-3 c = search reading depth 9
+unfolding octetOf textTurn
+returns-3 c =
+    let read = c .before .before .before .before .before in
+    on-quick _ _ _ _ _ (read .before .before .before .if1 .left)
+    (on-text _ _ _ _ _ _ _ (sym (read .before .text-octet .ensures) ∙ read .if2 .taken) (c .before .before .set-at .ensures)
+    (on-ge _ _ _ _ _ (c .before .if3 .left) (c .or-two .ensures)))
 
 by-element-requires-2 : tie.Need-by-element-requires-2
 by-element-requires-2 c κs = search needs
@@ -51,7 +61,7 @@ text-or-element-spec =
     shared-slice-read-b
     text-octet-requires
     set-at-requires
-    one-octet-requires
+    single-turn-requires
     returns-2
     or-two-requires
     returns-3

@@ -8,14 +8,17 @@ use Rattle.element.proofs.directed.Tie as tie
 enum-told : tie.Need-enum-told
 enum-told c = search needs
 
-enum-known-e : tie.Need-enum-known-e
-enum-known-e c = search needs
+enum-known-shape : tie.Need-enum-known-shape
+enum-known-shape c = search needs
 
-enum-known-e-2 : tie.Need-enum-known-e-2
-enum-known-e-2 c = search needs
+enum-known-shape-2 : tie.Need-enum-known-shape-2
+enum-known-shape-2 c = search needs
 
-enum-known-e-3 : tie.Need-enum-known-e-3
-enum-known-e-3 c = search needs
+designated-requires : tie.Need-designated-requires
+designated-requires c κs = search needs
+
+enum-known-shape-3 : tie.Need-enum-known-shape-3
+enum-known-shape-3 c = search needs
 
 step-requires : tie.Need-step-requires
 step-requires c κs = search needs
@@ -29,24 +32,25 @@ returns c = rw (c .enum-told .given .1)
 
 returns-2 : tie.Need-returns-2
 unfolding directedOf
-returns-2 c = rw (c .before .e .given .1)
+returns-2 c = rw (c .before .shape .given .1)
 
 returns-3 : tie.Need-returns-3
 unfolding directedOf
-returns-3 c = rw (c .before .e2 .given .1)
+returns-3 c = rw (c .before .before .shape2 .given .1, c .designated .ensures)
 
 returns-4 : tie.Need-returns-4
 unfolding directedOf
-returns-4 c = rw (c .before .before .before .before .before .e3 .given .1) (c .stepped .ensures ∙ ap (steppedOf _ _) (c .before .step .ensures))
+returns-4 c = rw (c .before .before .before .before .shape3 .given .1) (c .stepped .ensures ∙ ap (steppedOf _ _) (c .before .step .ensures))
 
 pub directed-spec : {M : Type 1} → statement M
 directed-spec =
     tie.close
     (tie.spec
     enum-told
-    enum-known-e
-    enum-known-e-2
-    enum-known-e-3
+    enum-known-shape
+    enum-known-shape-2
+    designated-requires
+    enum-known-shape-3
     step-requires
     stepped-requires
     returns

@@ -10,7 +10,7 @@ directed-requires : tie.Need-directed-requires
 directed-requires c κs = search needs
 
 returns : tie.Need-returns
-returns c = cc
+returns c = rw (← (c .before .shape .ensures)) (c .directed .ensures)
 
 pub element-spec : {M : Type 1} → statement M
 element-spec = tie.close (tie.spec shape-requires directed-requires returns)

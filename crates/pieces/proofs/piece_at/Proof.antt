@@ -2,7 +2,8 @@
 use native.Mathlib.Omega.{arith}
 use mathlib.Core.Path.{refl, sym, _∙_}
 use Rattle.pieces.specs.Pieces.{pieceOf}
-use Rattle.pieces.proofs.Step.{silent-fits, found-fits, on-past, as-piece}
+use Rattle.element.proofs.Sizes.{silent, found}
+use Rattle.pieces.proofs.Step.{fits, on-past, as-piece}
 use borrow.Author.Needs.{needs}
 use Rattle.pieces.proofs.piece_at.Statement.{statement}
 use Rattle.pieces.proofs.piece_at.Tie as tie
@@ -35,16 +36,16 @@ enum-known-e-2 : tie.Need-enum-known-e-2
 enum-known-e-2 c = search needs
 
 add-end : tie.Need-add-end
-add-end c = let h = silent-fits _ _ _ (sym (c .before .before .before .element .ensures) ∙ c .before .e2 .given .1) in omega arith
+add-end c = let h = fits _ _ _ silent (sym (c .before .before .before .element .ensures) ∙ c .before .e2 .given .1) in omega arith
 
 enum-known-e-3 : tie.Need-enum-known-e-3
 enum-known-e-3 c = search needs
 
 add-size : tie.Need-add-size
-add-size c = let h = found-fits _ _ _ (sym (c .before .before .before .before .element .ensures) ∙ c .before .before .e3 .given .1) in omega arith
+add-size c = let h = fits _ _ _ found (sym (c .before .before .before .before .element .ensures) ∙ c .before .before .e3 .given .1) in omega arith
 
 add-end-2 : tie.Need-add-end-2
-add-end-2 c = let h = found-fits _ _ _ (sym (c .before .before .before .before .element .ensures) ∙ c .before .before .e3 .given .1) in omega arith
+add-end-2 c = let h = fits _ _ _ found (sym (c .before .before .before .before .element .ensures) ∙ c .before .before .e3 .given .1) in omega arith
 
 piece-kind-requires : tie.Need-piece-kind-requires
 piece-kind-requires c κs = search needs

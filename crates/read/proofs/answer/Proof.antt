@@ -5,20 +5,20 @@ use Rattle.read.specs.Listing.{readAnswer}
 use Rattle.read.proofs.answer.Statement.{statement}
 use Rattle.read.proofs.answer.Tie as tie
 
-check-requires : tie.Need-check-requires
-check-requires c κs = search needs
+answer-requires : tie.Need-answer-requires
+answer-requires c κs = search needs
 
 returns : tie.Need-returns
 unfolding readAnswer
-returns c = rw (← (c .before .before .before .before .check .ensures)) (search ladder)
+returns c = rw (← (c .before .before .before .before .answer .ensures)) (search ladder)
 
 returns-2 : tie.Need-returns-2
 unfolding readAnswer
-returns-2 c = rw (← (c .before .before .before .before .check .ensures)) (search ladder)
+returns-2 c = rw (← (c .before .before .before .before .answer .ensures)) (search ladder)
 
 returns-3 : tie.Need-returns-3
 unfolding readAnswer
-returns-3 c = rw (← (c .before .before .check .ensures)) (search ladder)
+returns-3 c = rw (← (c .before .before .answer .ensures)) (search ladder)
 
 pub answer-spec : {M : Type 1} → statement M
-answer-spec = tie.close (tie.spec check-requires returns returns-2 returns-3)
+answer-spec = tie.close (tie.spec answer-requires returns returns-2 returns-3)

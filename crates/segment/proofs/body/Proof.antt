@@ -38,14 +38,14 @@ returns : tie.Need-returns
 unfolding from
 returns c =
     let a = c .before .before .before .before .before .args in
-    on-body (now (a .s)) (a .at) (a .d) (a .n) (a .st) _ (c .before .before .before .if1 .taken)
+    on-body (now (a .s)) (a .at) (a .d) (a .n) _ (c .before .before .before .if1 .taken)
     (after
-    (ap (λ (k : Name). contentOf (a .d) (a .n) k (a .st))
+    (ap (λ (k : Name). contentOf (a .d) (a .n) k)
     (c .before .name-end .ensures ∙ ap (λ (k : ℕ). nameOf (take k (drop (a .at) (now (a .s)))) 0) (add-sub-cancel-left (a .at) (a .n))))
     (c .content .ensures))
 
 returns-2 : tie.Need-returns-2
-returns-2 c = on-body-short _ _ _ _ _ _ (c .if1 .left) refl
+returns-2 c = on-body-short _ _ _ _ _ (c .if1 .left) refl
 
 pub body-spec : {M : Type 1} → statement M
 body-spec =

@@ -9,7 +9,8 @@ use denote.Ref.{now}
 use Rattle.base.proofs.Ladder.{ladder, on-ge}
 use Rattle.base.specs.declared.Unit.{Unit as UnitRecord}
 use Rattle.state.specs.declared.State.{State}
-use Rattle.grammar.proofs.Places.{refused-within, step-silent, step-found}
+use Rattle.element.proofs.Sizes.{silent, found}
+use Rattle.grammar.proofs.Places.{refused-within, step-passed}
 use Rattle.units.specs.Next.{nextOf}
 use Rattle.units.specs.declared.Outcome.{Outcome}
 use Rattle.units.specs.declared.Outcome.the-variants.{Gives}
@@ -73,7 +74,7 @@ add-at c =
     let s = now (c .before .before .before .before .before .before .before .args .s) in
     let loop = c .before .before .before .before .loop in
     let element = c .before .before .before .element in
-    let step = step-silent s (loop .at) (loop .st) (element .result) (element .ensures) (c .before .e2 .given .1) in
+    let step = step-passed s (loop .at) (loop .st) (element .result) (element .ensures) silent (c .before .e2 .given .1) in
     omega (arith, c .before .before .before .before .before .if1 .left, step .fits)
 
 loop-less : tie.Need-loop-less Inv-loop μ-loop
@@ -81,7 +82,7 @@ loop-less c =
     let s = now (c .before .before .before .before .before .before .before .args .s) in
     let loop = c .before .before .before .before .loop in
     let element = c .before .before .before .element in
-    let step = step-silent s (loop .at) (loop .st) (element .result) (element .ensures) (c .before .e2 .given .1) in
+    let step = step-passed s (loop .at) (loop .st) (element .result) (element .ensures) silent (c .before .e2 .given .1) in
     omega (arith, step .fits, step .some)
 
 loop-again : tie.Need-loop-again Inv-loop μ-loop
@@ -99,7 +100,7 @@ record-requires c κs =
     let s = now (c .before .before .before .before .before .before .before .args .s) in
     let loop = c .before .before .before .before .loop in
     let element = c .before .before .before .element in
-    let step = step-found s (loop .at) (loop .st) (element .result) (element .ensures) (c .before .e3 .given .1) in
+    let step = step-passed s (loop .at) (loop .st) (element .result) (element .ensures) found (c .before .e3 .given .1) in
     omega (arith, c .before .before .before .before .before .if1 .left, step .fits)
 
 add-octets : tie.Need-add-octets Inv-loop μ-loop
@@ -107,7 +108,7 @@ add-octets c =
     let s = now (c .before .before .before .before .before .before .before .before .before .args .s) in
     let loop = c .before .before .before .before .before .before .loop in
     let element = c .before .before .before .before .before .element in
-    let step = step-found s (loop .at) (loop .st) (element .result) (element .ensures) (c .before .before .before .e3 .given .1) in
+    let step = step-passed s (loop .at) (loop .st) (element .result) (element .ensures) found (c .before .before .before .e3 .given .1) in
     omega (arith, c .before .before .before .before .before .before .before .if1 .left, step .fits)
 
 add-after : tie.Need-add-after Inv-loop μ-loop
@@ -115,7 +116,7 @@ add-after c =
     let s = now (c .before .before .before .before .before .before .before .before .before .args .s) in
     let loop = c .before .before .before .before .before .before .loop in
     let element = c .before .before .before .before .before .element in
-    let step = step-found s (loop .at) (loop .st) (element .result) (element .ensures) (c .before .before .before .e3 .given .1) in
+    let step = step-passed s (loop .at) (loop .st) (element .result) (element .ensures) found (c .before .before .before .e3 .given .1) in
     omega (arith, c .before .before .before .before .before .before .before .if1 .left, step .fits)
 
 returns-4 : tie.Need-returns-4 Inv-loop μ-loop

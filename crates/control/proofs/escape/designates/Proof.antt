@@ -1,12 +1,8 @@
 -- `escape::designates` meets its contract, test by test.
 use Rattle.state.proofs.Steps.{steps}
 use Rattle.control.specs.Escape.{designatesOf}
-use borrow.Author.Needs.{needs}
 use Rattle.control.proofs.escape.designates.Statement.{statement}
 use Rattle.control.proofs.escape.designates.Tie as tie
-
-designated-requires : tie.Need-designated-requires
-designated-requires c κs = search needs
 
 returns : tie.Need-returns
 unfolding designatesOf
@@ -21,4 +17,4 @@ unfolding designatesOf
 returns-3 c = search steps depth 12
 
 pub designates-spec : {M : Type 1} → statement M
-designates-spec = tie.close (tie.spec designated-requires returns returns-2 returns-3)
+designates-spec = tie.close (tie.spec returns returns-2 returns-3)

@@ -10,7 +10,7 @@ advance-requires : tie.Need-advance-requires
 advance-requires c κs = search needs
 
 returns : tie.Need-returns
-returns c = rw (c .before .before .advance .ensures)
+returns c = rw (c .before .before .before .advance .ensures)
 
 pub any-unit-spec : {M : Type 1} → statement M
 any-unit-spec =

@@ -16,8 +16,8 @@ returns c = search ladder depth 9
 left-first-requires : tie.Need-left-first-requires
 left-first-requires c κs = search needs
 
-two-octets-requires : tie.Need-two-octets-requires
-two-octets-requires c κs = search needs
+has-two-requires : tie.Need-has-two-requires
+has-two-requires c κs = search needs
 
 returns-2 : tie.Need-returns-2
 unfolding formAt
@@ -31,8 +31,8 @@ returns-4 : tie.Need-returns-4
 unfolding formAt
 returns-4 c = search ladder depth 9
 
-two-octets-requires-2 : tie.Need-two-octets-requires-2
-two-octets-requires-2 c κs = search needs
+has-two-requires-2 : tie.Need-has-two-requires-2
+has-two-requires-2 c κs = search needs
 
 returns-5 : tie.Need-returns-5
 unfolding formAt
@@ -49,10 +49,10 @@ form-at-spec =
     single-requires
     returns
     left-first-requires
-    two-octets-requires
+    has-two-requires
     returns-2
     returns-3
     returns-4
-    two-octets-requires-2
+    has-two-requires-2
     returns-5
     returns-6)

@@ -9,12 +9,12 @@ use Rattle.read.proofs.spans.nth.Tie as tie
 
 add-one : tie.Need-add-one
 add-one c =
-    let h = one-within (c .before .before .before .before .pre) (c .before .if1 .taken) in
+    let h = one-within (c .before .before .before .before .before .before .pre) (c .before .if1 .taken) in
     omega (arith, h)
 
 one-requires : tie.Need-one-requires
 one-requires c κs =
-    let h = one-within (c .before .before .before .before .pre) (c .before .if1 .taken) in
+    let h = one-within (c .before .before .before .before .before .before .pre) (c .before .if1 .taken) in
     omega (arith, h)
 
 returns : tie.Need-returns
@@ -23,17 +23,17 @@ returns c = search ladder depth 9
 
 mul-two : tie.Need-mul-two
 mul-two c =
-    let h = two-within (c .before .before .before .before .before .pre) (omega (arith, c .if2 .taken)) in
+    let h = two-within (c .before .before .before .before .before .before .before .pre) (omega (arith, c .if2 .taken)) in
     record { fits = omega (arith, h) }
 
 add-two : tie.Need-add-two
 add-two c =
-    let h = two-within (c .before .before .before .before .before .before .pre) (omega (arith, c .before .if2 .taken)) in
+    let h = two-within (c .before .before .before .before .before .before .before .before .pre) (omega (arith, c .before .if2 .taken)) in
     omega (arith, h)
 
 two-requires : tie.Need-two-requires
 two-requires c κs =
-    let h = two-within (c .before .before .before .before .before .before .pre) (omega (arith, c .before .if2 .taken)) in
+    let h = two-within (c .before .before .before .before .before .before .before .before .pre) (omega (arith, c .before .if2 .taken)) in
     omega (arith, h)
 
 returns-2 : tie.Need-returns-2
@@ -42,17 +42,17 @@ returns-2 c = search ladder depth 9
 
 mul-two-2 : tie.Need-mul-two-2
 mul-two-2 c =
-    let h = two-within (c .before .before .before .before .before .before .before .pre) (omega (arith, c .if3 .taken)) in
+    let h = two-within (c .before .before .before .before .before .before .before .before .before .pre) (omega (arith, c .if3 .taken)) in
     record { fits = omega (arith, h) }
 
 add-two-2 : tie.Need-add-two-2
 add-two-2 c =
-    let h = two-within (c .before .before .before .before .before .before .before .before .pre) (omega (arith, c .before .if3 .taken)) in
+    let h = two-within (c .before .before .before .before .before .before .before .before .before .before .pre) (omega (arith, c .before .if3 .taken)) in
     omega (arith, h)
 
 two-requires-2 : tie.Need-two-requires-2
 two-requires-2 c κs =
-    let h = two-within (c .before .before .before .before .before .before .before .before .pre) (omega (arith, c .before .if3 .taken)) in
+    let h = two-within (c .before .before .before .before .before .before .before .before .before .before .pre) (omega (arith, c .before .if3 .taken)) in
     omega (arith, h)
 
 returns-3 : tie.Need-returns-3

@@ -1,9 +1,7 @@
 -- `spans::span_at` meets its contract, test by test. Assumes nothing.
 use borrow.Author.Needs.{needs}
-use Rattle.base.proofs.Ladder.{ladder}
-use Prim.Native.Nat.{ℕ}
-use mathlib.Core.Path.{_≡_, ap₂, _∙_}
-use Rattle.read.specs.Spans.{ofForm, byForm, spanOf}
+use Rattle.base.proofs.Ladder.{ladder, on-eq, on-ne, on-lt, on-ge, on-gt}
+use Rattle.read.specs.Spans.{byForm, spanOf}
 use Rattle.read.proofs.spans.span_at.Statement.{statement}
 use Rattle.read.proofs.spans.span_at.Tie as tie
 
@@ -39,17 +37,22 @@ of-form-requires c κs = search needs
 returns-3 : tie.Need-returns-3
 unfolding byForm spanOf
 returns-3 c =
-    let h = c .of-form .ensures
-    ∙ ap₂ (λ (form most : ℕ). ofForm (c .before .before .before .before .before .before .before .before .args .c) form most)
-    (c .before .before .before .before .form-at .ensures) (c .before .lesser .ensures) in
-    search ladder depth 12
+    let form = c .before .before .before .before in
+    on-gt _ _ _ _ _ (form .before .before .before .before .if1 .left)
+    (rw (← (form .form-at .ensures))
+    (on-ne _ _ _ _ _ (c .before .before .before .if2 .left) (on-eq _ _ _ _ _ (c .before .before .if3 .taken) (rw (← (c .before .lesser .ensures)) (c .of-form .ensures)))))
 
 any-unit-requires-3 : tie.Need-any-unit-requires-3
 any-unit-requires-3 c κs = search needs
 
 returns-4 : tie.Need-returns-4
 unfolding byForm spanOf
-returns-4 c = search ladder depth 12
+returns-4 c =
+    let form = c .before .before .before .before in
+    on-gt _ _ _ _ _ (form .before .before .before .before .if1 .left)
+    (rw (← (form .form-at .ensures))
+    (on-ne _ _ _ _ _ (c .before .before .before .if2 .left)
+    (on-ne _ _ _ _ _ (c .before .before .if3 .left) (on-lt _ _ _ _ _ (c .before .if4 .taken) (c .any-unit3 .ensures)))))
 
 lesser-requires-2 : tie.Need-lesser-requires-2
 lesser-requires-2 c κs = search needs
@@ -60,10 +63,12 @@ of-form-requires-2 c κs = search needs
 returns-5 : tie.Need-returns-5
 unfolding byForm spanOf
 returns-5 c =
-    let h = c .of-form2 .ensures
-    ∙ ap₂ (λ (form most : ℕ). ofForm (c .before .before .before .before .before .before .before .before .before .args .c) form most)
-    (c .before .before .before .before .before .form-at .ensures) (c .before .lesser2 .ensures) in
-    search ladder depth 12
+    let form = c .before .before .before .before .before in
+    on-gt _ _ _ _ _ (form .before .before .before .before .if1 .left)
+    (rw (← (form .form-at .ensures))
+    (on-ne _ _ _ _ _ (c .before .before .before .before .if2 .left)
+    (on-ne _ _ _ _ _ (c .before .before .before .if3 .left)
+    (on-ge _ _ _ _ _ (c .before .before .if4 .left) (rw (← (c .before .lesser2 .ensures)) (c .of-form2 .ensures))))))
 
 pub span-at-spec : {M : Type 1} → statement M
 span-at-spec =

@@ -1,9 +1,9 @@
--- `spans::if_graphic` meets its contract, test by test. Assumes nothing.
+-- `octets::if_graphic` meets its contract, test by test. Assumes nothing.
 use Rattle.base.proofs.Ladder.{ladder}
 use borrow.Author.Needs.{needs}
-use Rattle.read.specs.Spans.{ifGraphic}
-use Rattle.read.proofs.spans.if_graphic.Statement.{statement}
-use Rattle.read.proofs.spans.if_graphic.Tie as tie
+use Rattle.cursor.specs.Cursor.{ifGraphic}
+use Rattle.cursor.proofs.octets.if_graphic.Statement.{statement}
+use Rattle.cursor.proofs.octets.if_graphic.Tie as tie
 
 returns : tie.Need-returns
 unfolding ifGraphic

@@ -1,0 +1,15 @@
+-- `check_string::answer` meets its contract, by what `check` ensures.
+use mathlib.Core.Path.{ap}
+use borrow.Author.Needs.{needs}
+use Rattle.check_string.specs.declared.Checked.{Checked}
+use Rattle.check_string.proofs.answer.Statement.{statement}
+use Rattle.check_string.proofs.answer.Tie as tie
+
+check-requires : tie.Need-check-requires
+check-requires c κs = search needs
+
+returns : tie.Need-returns
+returns c = ap (λ (x : Checked). x .answer) (c .before .check .ensures)
+
+pub answer-spec : {M : Type 1} → statement M
+answer-spec = tie.close (tie.spec check-requires returns)

@@ -1,0 +1,220 @@
+-- `check_string::whole` meets its contract: at each turn of the loop what is left answers what the whole string does (`Head`), and the turns are
+-- those of `Turn`.
+use Prim.Native.Nat.{_-_}
+use native.Mathlib.Omega.{arith}
+use mathlib.Core.Path.{_∙_}
+use borrow.Author.Needs.{needs}
+use lib.ListN.{length}
+use Rattle.base.proofs.Ladder.{on-lt, on-ge}
+use Rattle.grammar.specs.Reading.{checkOf}
+use Rattle.check_string.proofs.Turn.{Head, head-first, turn-done, turn-end, turn-short, turn-refused, turn-silent, turn-found, turn-designation, turn-stretch}
+use Rattle.check_string.proofs.whole.Statement.{statement}
+use Rattle.check_string.proofs.whole.Tie as tie
+
+abbrev Inv-loop : tie.InvT-loop
+Inv-loop s at₀ count₀ st₀ at count st = Head s at count st
+
+abbrev μ-loop : tie.MeasureT-loop
+μ-loop s at₀ count₀ st₀ at count st = length s - at
+
+refused-requires : tie.Need-refused-requires Inv-loop μ-loop
+refused-requires c κs = search needs
+
+returns : tie.Need-returns Inv-loop μ-loop
+unfolding checkOf
+returns c = on-lt _ _ _ _ _ (c .before .if1 .taken) (c .refused .ensures)
+
+loop-holds : tie.Need-loop-holds Inv-loop μ-loop
+loop-holds c = head-first _
+
+shared-slice-read-if2 : tie.Need-shared-slice-read-if2 Inv-loop μ-loop
+shared-slice-read-if2 c = search needs
+
+designation-at-requires : tie.Need-designation-at-requires Inv-loop μ-loop
+designation-at-requires c κs = search needs
+
+add-at : tie.Need-add-at Inv-loop μ-loop
+add-at c =
+    let head = c .before .before .before .before .before .before .loop .inv in
+    let h = turn-designation _ _ _ _ head _ (c .before .before .designation-at .ensures) (c .before .if3 .taken) in
+    omega (arith, h .fits)
+
+designated-requires : tie.Need-designated-requires Inv-loop μ-loop
+designated-requires c κs = search needs
+
+loop-less : tie.Need-loop-less Inv-loop μ-loop
+loop-less c =
+    let head = c .before .before .before .before .before .before .before .loop .inv in
+    let h = turn-designation _ _ _ _ head _ (c .before .before .before .designation-at .ensures) (c .before .before .if3 .taken) in
+    omega (arith, h .fits, h .some)
+
+loop-again : tie.Need-loop-again Inv-loop μ-loop
+loop-again c =
+    let head = c .before .before .before .before .before .before .before .loop .inv in
+    let h = turn-designation _ _ _ _ head _ (c .before .before .before .designation-at .ensures) (c .before .before .if3 .taken) in
+    rw (c .designated .ensures) (h .head)
+
+stretch-at-requires : tie.Need-stretch-at-requires Inv-loop μ-loop
+stretch-at-requires c κs = search needs
+
+add-at-2 : tie.Need-add-at-2 Inv-loop μ-loop
+add-at-2 c =
+    let head = c .before .before .before .before .before .loop .inv in
+    let h = turn-stretch _ _ _ _ head _ (c .before .stretch-at .ensures) (c .if4 .taken) in
+    omega (arith, h .fits)
+
+add-count : tie.Need-add-count Inv-loop μ-loop
+add-count c =
+    let head = c .before .before .before .before .before .before .loop .inv in
+    let h = turn-stretch _ _ _ _ head _ (c .before .before .stretch-at .ensures) (c .before .if4 .taken) in
+    omega (arith, h .head .few, h .fits)
+
+loop-less-2 : tie.Need-loop-less-2 Inv-loop μ-loop
+loop-less-2 c =
+    let head = c .before .before .before .before .before .before .loop .inv in
+    let h = turn-stretch _ _ _ _ head _ (c .before .before .stretch-at .ensures) (c .before .if4 .taken) in
+    omega (arith, h .fits, h .some)
+
+loop-again-2 : tie.Need-loop-again-2 Inv-loop μ-loop
+loop-again-2 c =
+    let head = c .before .before .before .before .before .before .loop .inv in
+    let h = turn-stretch _ _ _ _ head _ (c .before .before .stretch-at .ensures) (c .before .if4 .taken) in
+    h .head
+
+element-requires : tie.Need-element-requires Inv-loop μ-loop
+element-requires c κs = search needs
+
+enum-told : tie.Need-enum-told Inv-loop μ-loop
+enum-told c = search needs
+
+accepted-requires : tie.Need-accepted-requires Inv-loop μ-loop
+accepted-requires c κs = search needs
+
+returns-2 : tie.Need-returns-2 Inv-loop μ-loop
+unfolding checkOf
+returns-2 c =
+    let head = c .before .before .before .before .before .before .before .loop .inv in
+    let end = turn-end _ _ _ _ _ (c .before .before .before .element .ensures) head (c .before .enum-told .given .1) in
+    on-ge _ _ _ _ _ (c .before .before .before .before .before .before .before .before .if1 .left) (c .accepted .ensures ∙ end)
+
+enum-known-e : tie.Need-enum-known-e Inv-loop μ-loop
+enum-known-e c = search needs
+
+add-place : tie.Need-add-place Inv-loop μ-loop
+add-place c =
+    let head = c .before .before .before .before .before .before .before .loop .inv in
+    let h = turn-short _ _ _ _ _ (c .before .before .before .element .ensures) head (c .before .e .given .1) in
+    omega (arith, h, head .within)
+
+refused-requires-2 : tie.Need-refused-requires-2 Inv-loop μ-loop
+refused-requires-2 c κs = search needs
+
+returns-3 : tie.Need-returns-3 Inv-loop μ-loop
+unfolding checkOf
+returns-3 c =
+    let head = c .before .before .before .before .before .before .before .before .loop .inv in
+    let refused = turn-refused _ _ _ _ _ (c .before .before .before .before .element .ensures) head (c .before .before .e .given .1) in
+    on-ge _ _ _ _ _ (c .before .before .before .before .before .before .before .before .before .if1 .left) (c .refused2 .ensures ∙ refused)
+
+enum-known-e-2 : tie.Need-enum-known-e-2 Inv-loop μ-loop
+enum-known-e-2 c = search needs
+
+add-at-3 : tie.Need-add-at-3 Inv-loop μ-loop
+add-at-3 c =
+    let head = c .before .before .before .before .before .before .before .loop .inv in
+    let h = turn-silent _ _ _ _ _ (c .before .before .before .element .ensures) head (c .before .e2 .given .1) in
+    omega (arith, h .fits)
+
+loop-less-3 : tie.Need-loop-less-3 Inv-loop μ-loop
+loop-less-3 c =
+    let head = c .before .before .before .before .before .before .before .loop .inv in
+    let h = turn-silent _ _ _ _ _ (c .before .before .before .element .ensures) head (c .before .e2 .given .1) in
+    omega (arith, h .fits, h .some)
+
+loop-again-3 : tie.Need-loop-again-3 Inv-loop μ-loop
+loop-again-3 c =
+    let head = c .before .before .before .before .before .before .before .loop .inv in
+    let h = turn-silent _ _ _ _ _ (c .before .before .before .element .ensures) head (c .before .e2 .given .1) in
+    h .head
+
+enum-known-e-3 : tie.Need-enum-known-e-3 Inv-loop μ-loop
+enum-known-e-3 c = search needs
+
+add-at-4 : tie.Need-add-at-4 Inv-loop μ-loop
+add-at-4 c =
+    let head = c .before .before .before .before .before .before .before .before .loop .inv in
+    let h = turn-found _ _ _ _ _ (c .before .before .before .before .element .ensures) head (c .before .before .e3 .given .1) in
+    omega (arith, h .fits)
+
+add-at-5 : tie.Need-add-at-5 Inv-loop μ-loop
+add-at-5 c =
+    let head = c .before .before .before .before .before .before .before .before .loop .inv in
+    let h = turn-found _ _ _ _ _ (c .before .before .before .before .element .ensures) head (c .before .before .e3 .given .1) in
+    omega (arith, h .fits)
+
+add-count-2 : tie.Need-add-count-2 Inv-loop μ-loop
+add-count-2 c =
+    let head = c .before .before .before .before .before .before .before .before .loop .inv in
+    omega (arith, head .few, head .within)
+
+loop-less-4 : tie.Need-loop-less-4 Inv-loop μ-loop
+loop-less-4 c =
+    let head = c .before .before .before .before .before .before .before .before .loop .inv in
+    let h = turn-found _ _ _ _ _ (c .before .before .before .before .element .ensures) head (c .before .before .e3 .given .1) in
+    omega (arith, h .fits, h .some)
+
+loop-again-4 : tie.Need-loop-again-4 Inv-loop μ-loop
+loop-again-4 c =
+    let head = c .before .before .before .before .before .before .before .before .loop .inv in
+    let h = turn-found _ _ _ _ _ (c .before .before .before .before .element .ensures) head (c .before .before .e3 .given .1) in
+    h .head
+
+accepted-requires-2 : tie.Need-accepted-requires-2 Inv-loop μ-loop
+accepted-requires-2 c κs = search needs
+
+returns-4 : tie.Need-returns-4 Inv-loop μ-loop
+unfolding checkOf
+returns-4 c =
+    let done = turn-done _ _ _ _ (c .before .before .loop .inv) (c .before .loop-test .left) in
+    on-ge _ _ _ _ _ (c .before .before .before .if1 .left) (c .accepted2 .ensures ∙ done)
+
+pub whole-spec : {M : Type 1} → statement M
+whole-spec =
+    tie.close
+    (tie.spec
+    Inv-loop
+    μ-loop
+    refused-requires
+    returns
+    loop-holds
+    shared-slice-read-if2
+    designation-at-requires
+    add-at
+    designated-requires
+    loop-less
+    loop-again
+    stretch-at-requires
+    add-at-2
+    add-count
+    loop-less-2
+    loop-again-2
+    element-requires
+    enum-told
+    accepted-requires
+    returns-2
+    enum-known-e
+    add-place
+    refused-requires-2
+    returns-3
+    enum-known-e-2
+    add-at-3
+    loop-less-3
+    loop-again-3
+    enum-known-e-3
+    add-at-4
+    add-at-5
+    add-count-2
+    loop-less-4
+    loop-again-4
+    accepted-requires-2
+    returns-4)
