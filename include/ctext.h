@@ -254,10 +254,10 @@ ctext_reader ctext_open(void);
    A reader made by hand is read on by the rules from where it stands, and its
    count goes on from its own; one whose place lies past the string, with a set
    on a side it may not use, or whose depth is over 16, gives CTEXT_BAD_UNIT
-   at 0. No other reader is refused for what it holds: one that contradicts
-   itself or the string (a direction open and marked 0, a place inside a
-   character, a count of other units) is taken by its word, field by field.
-   Reads s, touches nothing. */
+   at 0. No other reader is refused for what it holds: where its fields
+   contradict each other or the string (a direction open and marked 0, a place
+   inside a character, a count of other units), each is used as it is. Reads s,
+   touches nothing. */
 ctext_step ctext_next(const uint8_t *s, size_t n, ctext_reader reader);
 
 /* ---- Writing ----------------------------------------------------------- */
