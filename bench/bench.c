@@ -1,7 +1,7 @@
 // Measures the proved library beside the yardstick.
 //
-//   bench table CORPUS..    for each corpus and each function: the median time of a string, and the ratios to the yardstick
-//   bench ladder CORPUS..   for each length of the strings of each corpus: the time to check, read and write one
+//   bench table CORPUS..              for each corpus and each function: the median time of a string, and the ratios to the yardstick
+//   bench ladder FUNCTION CORPUS ..   for each length of the strings of the corpus: the time that the function takes for one
 //
 // Times are of the thread's processor clock. Each repetition goes through all corpora and measures every function in turn, and each
 // function directly after the yardstick: a ratio is the median of the ratios within a repetition, so that what slows the whole machine
@@ -32,10 +32,11 @@ static uint8_t work[WORK_ROOM], out[CTEXT_MOST_OCTETS];
 
 static struct corpus corpus;
 
-// What is prepared for each string before the times are taken: its units, and its text in UTF-8.
+// What is prepared for each string before the times are taken: its units, how many runs it has, and its text in UTF-8.
 struct prepared {
     ctext_unit *units;
-    size_t count;
+    size_t count, runs;
+    ctext_reader end; // the reader that has handed out the last unit
     char *utf8;
 };
 
@@ -58,6 +59,52 @@ static ctext_answer write_note(size_t i)
 
 static size_t run_write(size_t i) { return write_note(i).count; }
 
+// A name of so many octets, which each unit of a list has: as many units as the string has octets, over a limit that is looked at after them.
+enum { SHARED_NAME = 255 };
+
+static size_t run_write_shared(size_t i)
+{
+    static ctext_unit shared[CTEXT_MOST_UNITS];
+    static uint8_t name[SHARED_NAME + 1];
+    if (!name[0]) {
+        memset(name, 'a', SHARED_NAME);
+        name[SHARED_NAME] = 2;
+        for (size_t k = 0; k < CTEXT_MOST_UNITS; k++) shared[k] = (ctext_unit){CTEXT_KIND_SEGMENT, 0, 0x31, 0, sizeof name};
+    }
+    return ctext_write(shared, corpus.notes[i].length, name, sizeof name, work, sizeof work, out, sizeof out).place;
+}
+
+// The last run, by its number: all that `ctext_run` does at most.
+static size_t run_run(size_t i)
+{
+    size_t last = prepared[i].runs ? prepared[i].runs - 1 : 0;
+    return ctext_run(corpus.notes[i].octets, corpus.notes[i].length, last).end;
+}
+
+// All units, one by one.
+static size_t run_next(size_t i)
+{
+    struct note n = corpus.notes[i];
+    ctext_step step = ctext_next(n.octets, n.length, (ctext_reader){.gr = CTEXT_SET_ISO8859_1_RIGHT});
+    while (step.given) step = ctext_next(n.octets, n.length, step.reader);
+    return step.reader.count;
+}
+
+// One call more, at the end.
+static size_t run_next_at_end(size_t i) { return ctext_next(corpus.notes[i].octets, corpus.notes[i].length, prepared[i].end).answer.place; }
+
+#ifdef WITH_NEXT_RUN
+// All runs, one after the other.
+static size_t run_next_run(size_t i)
+{
+    struct note n = corpus.notes[i];
+    size_t runs = 0;
+    ctext_run_step step = ctext_next_run(n.octets, n.length, ctext_first_run());
+    for (; step.run.answer.number == CTEXT_ACCEPTED; runs++) step = ctext_next_run(n.octets, n.length, step.position);
+    return runs;
+}
+#endif
+
 static size_t run_x11_read(size_t i) { return x11_read(corpus.notes[i].octets, corpus.notes[i].length); }
 
 static size_t run_x11_write(size_t i) { return x11_write(prepared[i].utf8); }
@@ -68,13 +115,17 @@ struct function {
     size_t turns; // how often the whole corpus is gone through in a slice
 };
 
-enum { YARDSTICK, LIMIT, CHECK, READ, WRITE, X11_READ, X11_WRITE, FUNCTIONS };
+enum { YARDSTICK, LIMIT, CHECK, READ, WRITE, RUN, NEXT, NEXT_RUN, X11_READ, X11_WRITE, FUNCTIONS };
 
 static struct function functions[FUNCTIONS] = {
-    [YARDSTICK] = {"yardstick", run_yardstick, 0}, [LIMIT] = {"limit_table", NULL, 0},          [CHECK] = {"check", run_check, 0},
-    [READ] = {"read", run_read, 0},                [WRITE] = {"write", run_write, 0},           [X11_READ] = {"libX11 read", run_x11_read, 0},
+    [YARDSTICK] = {"yardstick", run_yardstick, 0}, [LIMIT] = {"limit_table", NULL, 0},    [CHECK] = {"check", run_check, 0},
+    [READ] = {"read", run_read, 0},                [WRITE] = {"write", run_write, 0},     [RUN] = {"run", run_run, 0},
+    [NEXT] = {"next", run_next, 0},                [NEXT_RUN] = {"next_run", NULL, 0},    [X11_READ] = {"libX11 read", run_x11_read, 0},
     [X11_WRITE] = {"libX11 write", run_x11_write, 0},
 };
+
+// What a ladder alone has.
+static struct function others[] = {{"next at the end", run_next_at_end, 0}, {"write of one name", run_write_shared, 0}};
 
 // ---- what has to hold before anything is measured
 
@@ -96,6 +147,44 @@ static void prepare_read(const char *path, size_t i)
     prepared[i].units = malloc((a.count + 1) * sizeof *units);
     if (!prepared[i].units) abort();
     memcpy(prepared[i].units, units, a.count * sizeof *units);
+}
+
+// How many runs the units of a string make: stretches of characters and spaces that follow each other on one side.
+static size_t runs_of(struct note n, const ctext_unit *list, size_t count)
+{
+    size_t runs = 0, end = 0;
+    int side = -1;
+    for (size_t k = 0; k < count; k++) {
+        bool text = list[k].kind <= CTEXT_KIND_SPACE;
+        int own = text ? n.octets[list[k].start] / 128 : -1;
+        runs += text && (own != side || list[k].start != end);
+        side = own;
+        end = list[k].start + list[k].length;
+    }
+    return runs;
+}
+
+static void prepare_runs(const char *path, size_t i)
+{
+    struct note n = corpus.notes[i];
+    size_t runs = prepared[i].runs = runs_of(n, prepared[i].units, prepared[i].count);
+    require(ctext_run(n.octets, n.length, runs).answer.number == CTEXT_BAD_UNIT, "it has more runs", path, i);
+    require(!runs || ctext_run(n.octets, n.length, runs - 1).answer.number == 0, "it has fewer runs", path, i);
+#ifdef WITH_NEXT_RUN
+    require(run_next_run(i) == runs, "next_run gives another number of runs", path, i);
+#endif
+}
+
+static void prepare_next(const char *path, size_t i)
+{
+    struct note n = corpus.notes[i];
+    ctext_step step = ctext_next(n.octets, n.length, (ctext_reader){.gr = CTEXT_SET_ISO8859_1_RIGHT});
+    for (size_t k = 0; step.given; k++) {
+        require(k < prepared[i].count && same_unit(&step.unit, &prepared[i].units[k]), "next gives another unit", path, i);
+        step = ctext_next(n.octets, n.length, step.reader);
+    }
+    require(step.answer.number == 0 && step.answer.count == prepared[i].count, "next gives another answer", path, i);
+    prepared[i].end = step.reader;
 }
 
 static void prepare_write(const char *path, size_t i)
@@ -123,6 +212,8 @@ static void load(const char *path, bool with_x11)
         }
         if (functions[READ].run) prepare_read(path, i);
         if (functions[WRITE].run) prepare_write(path, i);
+        if (functions[RUN].run) prepare_runs(path, i);
+        if (functions[NEXT].run) prepare_next(path, i);
         if (with_x11) prepared[i].utf8 = x11_text(n.octets, n.length);
     }
 }
@@ -291,14 +382,25 @@ static void climb(struct function f, struct step *steps, size_t count, const cha
     }
 }
 
-static void ladder(const char *path)
+static struct function named(const char *name)
 {
+    for (int k = CHECK; k < X11_READ; k++)
+        if (!strcmp(functions[k].name, name)) return functions[k];
+    for (size_t k = 0; k < sizeof others / sizeof *others; k++)
+        if (!strcmp(others[k].name, name)) return others[k];
+    fprintf(stderr, "bench: there is no function %s\n", name);
+    exit(2);
+}
+
+static void ladder(const char *name, const char *path)
+{
+    struct function f = named(name);
+    if (!f.run) return;
     load(path, false);
     struct step *steps = malloc(corpus.count * sizeof *steps);
     if (!steps) abort();
     size_t count = steps_of_corpus(steps);
-    for (int k = CHECK; k <= WRITE; k++)
-        if (functions[k].run) climb(functions[k], steps, count, path);
+    climb(f, steps, count, path);
     free(steps);
     fflush(stdout);
 }
@@ -307,7 +409,7 @@ int main(int count, char **words)
 {
     bool wants_table = count > 2 && !strcmp(words[1], "table"), wants_ladder = count > 2 && !strcmp(words[1], "ladder");
     if (!wants_table && !wants_ladder) {
-        fprintf(stderr, "usage: bench table|ladder CORPUS..\n");
+        fprintf(stderr, "usage: bench table CORPUS.. | bench ladder FUNCTION CORPUS ..\n");
         return 2;
     }
 #ifdef WITH_LIMIT
@@ -316,9 +418,15 @@ int main(int count, char **words)
     if (!ctext_check) functions[CHECK].run = NULL;
     if (!ctext_check || !ctext_read) functions[READ].run = NULL;
     if (!functions[READ].run || !ctext_write) functions[WRITE].run = NULL;
+    if (!functions[READ].run || !ctext_run) functions[RUN].run = NULL;
+    if (!functions[READ].run || !ctext_next) functions[NEXT].run = NULL;
+    if (!functions[WRITE].run || !functions[NEXT].run) others[0].run = others[1].run = NULL;
+#ifdef WITH_NEXT_RUN
+    functions[NEXT_RUN].run = functions[RUN].run ? run_next_run : NULL;
+#endif
     if (wants_table) x11_open();
     if (wants_table) table((size_t)count - 2, words + 2);
     else
-        for (int i = 2; i < count; i++) ladder(words[i]);
+        for (int i = 3; i < count; i += 2) ladder(words[i - 1], words[i]);
     return 0;
 }

@@ -214,6 +214,49 @@ static void segments(struct string *s, size_t length)
     while (s->length < length) put(s, 0x0A);
 }
 
+// ---- strings that are hostile to one function
+
+static void repeated(struct string *s, size_t length, const char *octets)
+{
+    size_t n = strlen(octets);
+    while (s->length + n <= length) put_all(s, octets);
+    while (s->length < length) put(s, 0x0A);
+}
+
+// A run for each octet, and for each unit another set than for the one before: run, write.
+static void alternating(struct string *s, size_t length) { repeated(s, length, "A\xE9"); }
+
+// A run for each unit, of one octet and of two: run, write.
+static void kanji_ascii(struct string *s, size_t length)
+{
+    need(s, "\x1B$)B");
+    repeated(s, length, "\xB0\xA1" "A");
+}
+
+// Designations after the last unit: next at the end.
+static void trailing(struct string *s, size_t length)
+{
+    while (s->length < length % 3) put(s, 0x09);
+    while (s->length < length) put_all(s, "\x1B(B");
+}
+
+// Direction marks alone, the smallest elements that are no text: check, read, next.
+static void marks(struct string *s, size_t length) { repeated(s, length, "\x9B" "2]\x9B]"); }
+
+// Extended segments that are all name, which is read octet by octet: check, read, next.
+static void names(struct string *s, size_t length)
+{
+    while (s->length + 8 <= length) {
+        size_t left = length - s->length - 6, n = left < 16383 ? left : 16383;
+        put_all(s, "\x1B%/1");
+        put(s, 0x80 + (int)(n / 128));
+        put(s, 0x80 + (int)(n % 128));
+        for (size_t k = 1; k < n; k++) put(s, 'a');
+        put(s, 0x02);
+    }
+    while (s->length < length) put(s, 0x0A);
+}
+
 // ---- files
 
 static struct string text;
@@ -307,11 +350,21 @@ int main(int count, char **words)
     strings("katakana", 1, LONGEST, katakana);
     strings("directions", 1, LONGEST, directions);
     strings("segments", 1, LONGEST, segments);
+    strings("alternating", 1, LONGEST, alternating);
+    strings("kanji-ascii", 1, LONGEST, kanji_ascii);
+    strings("trailing", 1, LONGEST, trailing);
+    strings("marks", 1, LONGEST, marks);
+    strings("names", 1, LONGEST, names);
     ladder("notes", notes);
     ladder("ascii", ascii);
     ladder("kanji", kanji);
     ladder("designations", designations);
     ladder("directions", directions);
     ladder("segments", segments);
+    ladder("alternating", alternating);
+    ladder("kanji-ascii", kanji_ascii);
+    ladder("trailing", trailing);
+    ladder("marks", marks);
+    ladder("names", names);
     return 0;
 }

@@ -14,7 +14,8 @@ from pathlib import Path
 import plot
 
 ROOM, DOCS = Path(sys.argv[1]), Path(sys.argv[2])
-FUNCTIONS = ["check", "read", "write", "libX11 read", "libX11 write"]
+FUNCTIONS = ["check", "read", "write", "run", "next", "next_run", "libX11 read", "libX11 write"]
+PLOTTED = ["notes", "ascii", "kanji", "designations", "directions", "segments"]
 
 
 def rows(name):
@@ -61,7 +62,8 @@ def ratios(corpora, base):
     lines = []
     for c in corpora:
         time = c.functions[base]["time"]
-        lines.append([c.name, f"{c.strings:,}", f"{c.octets:,}", f"{c.units:,}" if c.units else "", number(time, 0), *(number(c.ratio(f, base)) for f in present)])
+        sizes = [f"{c.strings:,}", f"{c.octets:,}", f"{c.units:,}" if c.units else ""]
+        lines.append([c.name, *sizes, number(time, 0), *(number(c.ratio(f, base)) for f in present)])
     return table(head, lines)
 
 
@@ -74,6 +76,7 @@ TARGETS = [
     ("read", "check", 3.0, ["notes", "designations"]),
     ("read", "check", 3.0, None),
     ("write", "base", 4.5, ["notes"]),
+    ("next_run", "check", 3.0, ["notes", "alternating", "kanji-ascii"]),
 ]
 
 
@@ -95,7 +98,7 @@ def targets(corpora, base):
 
 
 def ladders():
-    """For each function and kind of string: the sizes (octets for a reader, units for the writer) and the times."""
+    """For each function and kind of string: the sizes and the times. Sizes are octets, for the writer units; the list of one name has a unit for each octet."""
     found = defaultdict(list)
     for path, function, octets, units, time in rows("ladder.tsv"):
         kind = Path(path).stem.removeprefix("ladder-")
@@ -190,7 +193,8 @@ def page(corpora):
         "## Times",
         "Each figure is a ratio: the processor time of a function on all strings of a corpus, to that of the yardstick on the same strings in the "
         "same run (the median over the repetitions of the ratio in each). `check`, `read` (into a list) and `write` (checking the units, planning "
-        "and writing) are the proved library's, with one list and one work room used again. The yardstick is `bench/yardstick.c`, which answers "
+        "and writing) are the proved library's, with one list and one work room used again; `run` is the last run asked for by its number, `next` all "
+        "units one by one, `next_run` all runs one after the other. The yardstick is `bench/yardstick.c`, which answers "
         "the number and the place of a refusal alone. libX11's functions convert to and from UTF-8; where nothing stands, libX11 does not convert "
         "the corpus, or is not installed.",
         ratios(corpora, "yardstick"),
@@ -203,11 +207,14 @@ def page(corpora):
             "## Straight lines",
             "Strings of each kind, of lengths in sixteen equal steps. The line is that of least squares; a deviation is a part of the line's value. "
             "A work room of many units, 72 octets each, is larger than a processor's nearer caches, and a unit costs more from there on: where little "
-            "is computed for a unit (ascii, kanji) the writer's line has two slopes, one for each side.",
+            "is computed for a unit (ascii, kanji) the writer's line has two slopes, one for each side.\n\n"
+            "alternating (`41 E9`), kanji-ascii, trailing (designations alone), marks and names (segments that are all name) are hostile to one function or "
+            "another. `next at the end` is one further call of a reader at its end; `write of one name` is a list whose units all name one part of 256 octets, "
+            "and its name is read for each.",
             "![Time against size](benchmark.svg)",
             straightness(found),
         ]
-        (DOCS / "benchmark.svg").write_text(plot.svg(found))
+        (DOCS / "benchmark.svg").write_text(plot.svg({key: points for key, points in found.items() if key[1] in PLOTTED}))
     parts += [
         "## Stack",
         "Octets of stack: what each function, with the call from C, changed of a stack that was filled before, on the corpora and on strings and "

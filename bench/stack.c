@@ -34,17 +34,27 @@ static void run_next(void)
     while (step.given);
 }
 
+#ifdef WITH_NEXT_RUN
+static void run_next_run(void)
+{
+    static ctext_run_step step;
+    step = ctext_next_run(text, length, ctext_first_run());
+    while (step.run.answer.number == CTEXT_ACCEPTED) step = ctext_next_run(text, length, step.position);
+}
+#endif
+
 struct function {
     const char *name;
     void (*run)(void);
     size_t most;
 };
 
-enum { NOTHING, CHECK, READ, WRITE, RUN, NEXT, FUNCTIONS };
+enum { NOTHING, CHECK, READ, WRITE, RUN, NEXT, NEXT_RUN, FUNCTIONS };
 
 static struct function functions[FUNCTIONS] = {
     [NOTHING] = {"nothing", run_nothing, 0},   [CHECK] = {"ctext_check", run_check, 0}, [READ] = {"ctext_read", run_read, 0},
     [WRITE] = {"ctext_write", run_write, 0}, [RUN] = {"ctext_run", run_run, 0},       [NEXT] = {"ctext_next", run_next, 0},
+    [NEXT_RUN] = {"ctext_next_run", NULL, 0},
 };
 
 // The octets of the stack that a function changes.
@@ -111,6 +121,9 @@ int main(int n, char **words)
     if (!ctext_read || !ctext_write) functions[WRITE].run = NULL;
     if (!ctext_run) functions[RUN].run = NULL;
     if (!ctext_next) functions[NEXT].run = NULL;
+#ifdef WITH_NEXT_RUN
+    functions[NEXT_RUN].run = run_next_run;
+#endif
     for (int i = 1; i < n; i++) {
         struct corpus c = corpus_load(words[i]);
         for (size_t k = 0; k < c.count && k < 40; k++) {

@@ -97,7 +97,8 @@ static void print_note(const uint8_t *note, size_t n)
 }
 
 /* A reader hands out the units one by one, also those of a refused note that
-   stand before the offending element. */
+   stand before the offending element. Its end is told by given alone: beside a
+   unit the answer is all 0, which would be taken for accepted. */
 static void print_steps(const uint8_t *note, size_t n)
 {
     ctext_step step = ctext_next(note, n, ctext_open());

@@ -16,6 +16,9 @@
    Nothing else is left to the caller. Any octets, records, readers and
    lengths may be passed, and what is lent for an answer may hold anything.
 
+   The structs below may have octets after their fields that mean nothing:
+   compare them field by field, never by memcmp.
+
    Octets are written in hexadecimal below. */
 
 #ifndef CTEXT_H
@@ -34,7 +37,11 @@
 #define CTEXT_MOST_OPEN 16
 
 /* The octets of work room that ctext_write needs for a list of n units. */
+#ifdef __cplusplus
+#define CTEXT_WORK_ROOM(n) (72 * (static_cast<size_t>(n) + 1))
+#else
 #define CTEXT_WORK_ROOM(n) (72 * ((size_t)(n) + 1))
+#endif
 
 #ifdef __cplusplus
 extern "C" {
@@ -64,7 +71,7 @@ enum ctext_refusal {
     CTEXT_NOT_APPROVED = 5,         /* set not approved for that form */
     CTEXT_VERSION_SEQUENCE = 6,     /* version sequence, 1B 23 */
     CTEXT_BAD_SEGMENT = 7,          /* bad extended segment, or a unit's over 16,383 octets */
-    CTEXT_DIRECTION = 8,            /* direction rule */
+    CTEXT_BAD_DIRECTION = 8,        /* direction rule */
     CTEXT_TOO_DEEP = 9,             /* a seventeenth open direction */
     CTEXT_NO_ROOM = 10,             /* list or output too short; count is what is needed */
     CTEXT_BAD_UNIT = 11,            /* bad unit; no such run; no such reader */
@@ -83,9 +90,9 @@ static inline const char *ctext_refusal_text(unsigned number)
     case CTEXT_NOT_APPROVED: return "set not approved for that form";
     case CTEXT_VERSION_SEQUENCE: return "version sequence";
     case CTEXT_BAD_SEGMENT: return "bad extended segment";
-    case CTEXT_DIRECTION: return "direction rule";
+    case CTEXT_BAD_DIRECTION: return "direction rule";
     case CTEXT_TOO_DEEP: return "too many directions open";
-    case CTEXT_NO_ROOM: return "output too short";
+    case CTEXT_NO_ROOM: return "list or output too short";
     case CTEXT_BAD_UNIT: return "bad unit, or no such run or reader";
     case CTEXT_NO_WORK_ROOM: return "work room too short";
     default: return "no number of refusal";
@@ -176,8 +183,10 @@ typedef struct ctext_run_bounds {
 /* The run of number k, from 0, of the n octets at s. A run is a longest stretch
    of GL or of GR octets of characters and spaces, unbroken by any other octet.
    Shown: 0, n and the run's octets. A refused string: its refusal. Past the
-   last run: CTEXT_BAD_UNIT at 0. Beside a refusal all else is 0. Reads s from
-   its start at every call, touches nothing. */
+   last run: CTEXT_BAD_UNIT at 0. Beside a refusal all else is 0. Reads s,
+   touches nothing. Each call checks the whole string and reads it from its
+   start up to the run: the runs 0, 1, 2, .. of a string of many, asked for by
+   number, cost the square of its length. */
 ctext_run_bounds ctext_run(const uint8_t *s, size_t n, size_t k);
 
 /* The run's octets, end - start of them, where they stand in the string. */
@@ -189,7 +198,7 @@ static inline const uint8_t *ctext_run_octets(const uint8_t *s, ctext_run_bounds
 /* ---- A reader that steps ----------------------------------------------- */
 
 /* Where a reader stands. The caller keeps it, and the string. It may be copied,
-   stored, and made by hand.
+   stored, and made by hand; two of them are compared field by field.
    levels  the open directions, a binary digit for each: the last opened lowest,
            1 for right-to-left; digits from depth upwards mean nothing
    place   the next octet
@@ -212,7 +221,9 @@ typedef struct ctext_reader {
 
 /* given 1: unit is the next unit, and reader stands after it; answer is all 0.
    given 0: there is none, answer says why, and reader stands where it stood
-   (marked and texted written as 0 or 1); unit is all 0. */
+   (marked and texted written as 0 or 1); unit is all 0.
+   The end is told by given alone: beside a unit the answer's number is 0 too,
+   which is CTEXT_ACCEPTED. */
 typedef struct ctext_step {
     ctext_reader reader;
     ctext_answer answer;
@@ -227,10 +238,26 @@ ctext_reader ctext_open(void);
    same octets, hands out exactly the units before the end or the offending
    element; the answer is then that of ctext_check, and every further step
    repeats it. A string over 65,535 octets gives CTEXT_TOO_LONG and no unit,
-   whatever the reader. A reader made by hand is read on by the rules from where
-   it stands, and its count goes on from its own; one whose place lies past the
-   string, with a set on a side it may not use, or whose depth is over 16, gives
-   CTEXT_BAD_UNIT at 0. Reads s, touches nothing. */
+   whatever the reader. All units of a string:
+
+       ctext_step step = ctext_next(s, n, ctext_open());
+       while (step.given) {
+           .. step.unit ..
+           step = ctext_next(s, n, step.reader);
+       }
+       .. step.answer says why there is no further unit ..
+
+   That costs what reading the string once does. At its end a reader stays
+   where it is: each further call passes the designations after the last unit
+   again, or looks at the offending element again.
+
+   A reader made by hand is read on by the rules from where it stands, and its
+   count goes on from its own; one whose place lies past the string, with a set
+   on a side it may not use, or whose depth is over 16, gives CTEXT_BAD_UNIT
+   at 0. No other reader is refused for what it holds: where its fields
+   contradict each other or the string (a direction open and marked 0, a place
+   inside a character, a count of other units), each is used as it is. Reads s,
+   touches nothing. */
 ctext_step ctext_next(const uint8_t *s, size_t n, ctext_reader reader);
 
 /* ---- Writing ----------------------------------------------------------- */
@@ -249,7 +276,11 @@ ctext_step ctext_next(const uint8_t *s, size_t n, ctext_reader reader);
    out stays as it was. Refused, in this order: 1 for the list; the first
    offending unit (11, 7, 8, 9); 12; 1 for the writing; CTEXT_NO_ROOM with the
    octets needed. Then out is not touched. Whatever is answered, work may hold
-   anything afterwards. units and segments are only read. */
+   anything afterwards. units and segments are only read.
+
+   The time is in proportion to the units, the output, and the octets of the
+   names of all extended segments together: a name that many units share is
+   read for each of them, 65,535 times 16,382 octets at most. */
 ctext_answer ctext_write(const ctext_unit *units, size_t count,
                          const uint8_t *segments, size_t m,
                          uint8_t *work, size_t w,
