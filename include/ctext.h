@@ -27,7 +27,7 @@
 #include <stddef.h>
 #include <stdint.h>
 
-#define CTEXT_VERSION "1.0"
+#define CTEXT_VERSION "1.1"
 
 /* The most octets of a string, units of a list, octets of an extended
    segment, and directions open at once. */
@@ -291,6 +291,88 @@ typedef char ctext_layout[sizeof(ctext_answer) == 24 && sizeof(ctext_unit) == 12
                           && sizeof(ctext_run_bounds) == 48
                           && sizeof(ctext_reader) == 32 && sizeof(ctext_step) == 72
                           ? 1 : -1];
+
+/* ---- Names for people --------------------------------------------------- */
+
+/* The text of a kind, a set or a direction: a constant string, never null. */
+static inline const char *ctext_kind_text(unsigned kind)
+{
+    static const char *const texts[] = {
+        "character", "space", "tab", "newline",
+        "left-to-right", "right-to-left", "revert", "extended segment"
+    };
+    return kind < sizeof texts / sizeof texts[0] ? texts[kind] : "no kind";
+}
+
+static inline const char *ctext_set_text(unsigned set)
+{
+    static const char *const texts[] = {
+        "ASCII", "JIS X0201 right", "JIS X0201 left", "ISO 8859-1 right",
+        "ISO 8859-2 right", "ISO 8859-3 right", "ISO 8859-4 right", "ISO 8859-7 right",
+        "ISO 8859-6 right", "ISO 8859-8 right", "ISO 8859-5 right", "ISO 8859-9 right",
+        "GB 2312", "JIS X0208", "KS C5601"
+    };
+    return set < sizeof texts / sizeof texts[0] ? texts[set] : "no set";
+}
+
+static inline const char *ctext_direction_text(unsigned direction)
+{
+    static const char *const texts[] = { "no direction", "left-to-right", "right-to-left" };
+    return direction < sizeof texts / sizeof texts[0] ? texts[direction] : "not a direction";
+}
+
+/* The CharSet name of the standard's Font Names section, with which the name of
+   a font for the set ends; never null. None is registered for ASCII, which is
+   the left half of ISO8859-1. In such a font a character's index is its code,
+   of a right half (sets 1 and 3 to 11) its code + 80. */
+static inline const char *ctext_set_charset(unsigned set)
+{
+    static const char *const names[] = {
+        "ISO8859-1", "JISX0201.1976-0", "JISX0201.1976-0", "ISO8859-1",
+        "ISO8859-2", "ISO8859-3", "ISO8859-4", "ISO8859-7",
+        "ISO8859-6", "ISO8859-8", "ISO8859-5", "ISO8859-9",
+        "GB2312.1980-0", "JISX0208.1983-0", "KSC5601.1987-0"
+    };
+    return set < sizeof names / sizeof names[0] ? names[set] : "no set";
+}
+
+/* ---- The parts of an extended segment ----------------------------------- */
+
+/* Where the name of its encoding and its text stand in the string. */
+typedef struct ctext_segment {
+    uint32_t name_start;
+    uint32_t name_length;
+    uint32_t text_start;
+    uint32_t text_length;
+} ctext_segment;
+
+/* The parts of the unit in the n octets at s: the name ends at the first 02, the
+   text follows it. All 0 where the unit is no extended segment, does not lie
+   wholly in those octets, or holds no 02; the name of a unit of ctext_read or
+   ctext_next is never empty. Reads s, touches nothing. */
+static inline ctext_segment ctext_segment_parts(const uint8_t *s, size_t n, ctext_unit unit)
+{
+    ctext_segment parts = { 0, 0, 0, 0 };
+    uint32_t i;
+    if (unit.kind != CTEXT_KIND_SEGMENT || unit.start > n || unit.length > n - unit.start)
+        return parts;
+    for (i = 0; i < unit.length; i++) {
+        if (s[unit.start + i] == 0x02) {
+            parts.name_start = unit.start;
+            parts.name_length = i;
+            parts.text_start = unit.start + i + 1;
+            parts.text_length = unit.length - i - 1;
+            return parts;
+        }
+    }
+    return parts;
+}
+
+/* ---- Version ------------------------------------------------------------ */
+
+/* The CTEXT_VERSION of the library that runs: a constant string. It stands in
+   the libraries that lib/build installs, beside the proved functions. */
+const char *ctext_version(void);
 
 #ifdef __cplusplus
 }

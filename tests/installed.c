@@ -1,0 +1,74 @@
+/* installed.c: a program, C and C++, that knows the installed header alone: what
+   tests/c does not call, the names for people, the parts of a segment, and the
+   version. Says what is wrong; the exit status is 0 where nothing is. */
+
+#include <ctext.h>
+#include <stdio.h>
+#include <string.h>
+
+static int failures;
+
+static void same(const char *what, const char *given, const char *wanted)
+{
+    if (given != NULL && strcmp(given, wanted) == 0)
+        return;
+    printf("installed: %s is '%s', not '%s'\n", what, given == NULL ? "null" : given, wanted);
+    failures++;
+}
+
+static void parts_are(const char *what, ctext_segment given, unsigned name_start,
+                      unsigned name_length, unsigned text_start, unsigned text_length)
+{
+    if (given.name_start == name_start && given.name_length == name_length
+        && given.text_start == text_start && given.text_length == text_length)
+        return;
+    printf("installed: the parts of %s\n", what);
+    failures++;
+}
+
+static void try_names(void)
+{
+    same("a kind", ctext_kind_text(CTEXT_KIND_CHARACTER), "character");
+    same("the last kind", ctext_kind_text(CTEXT_KIND_SEGMENT), "extended segment");
+    same("no kind", ctext_kind_text(8), "no kind");
+    same("a set", ctext_set_text(CTEXT_SET_ISO8859_6_RIGHT), "ISO 8859-6 right");
+    same("the last set", ctext_set_text(CTEXT_SET_KSC5601), "KS C5601");
+    same("no set", ctext_set_text(15), "no set");
+    same("a charset", ctext_set_charset(CTEXT_SET_ISO8859_7_RIGHT), "ISO8859-7");
+    same("the charset of ASCII", ctext_set_charset(CTEXT_SET_ASCII), "ISO8859-1");
+    same("the last charset", ctext_set_charset(CTEXT_SET_KSC5601), "KSC5601.1987-0");
+    same("no charset", ctext_set_charset(255), "no set");
+    same("a direction", ctext_direction_text(2), "right-to-left");
+    same("none", ctext_direction_text(0), "no direction");
+    same("not a direction", ctext_direction_text(3), "not a direction");
+    same("a refusal", ctext_refusal_text(CTEXT_CUT), "end inside an element");
+    same("no refusal", ctext_refusal_text(13), "no number of refusal");
+    same("the version", ctext_version(), CTEXT_VERSION);
+}
+
+static void try_parts(void)
+{
+    static const uint8_t note[] = { 'A', 0x1B, 0x25, 0x2F, 0x31, 0x80, 0x84, 'a', 'b', 0x02, 0xFF };
+    ctext_unit units[2];
+    ctext_answer a = ctext_read(note, sizeof note, units, 2);
+    if (a.number != CTEXT_ACCEPTED || a.count != 2) {
+        printf("installed: the note is not read\n");
+        failures++;
+        return;
+    }
+    parts_are("a segment", ctext_segment_parts(note, sizeof note, units[1]), 7, 2, 10, 1);
+    parts_are("a character", ctext_segment_parts(note, sizeof note, units[0]), 0, 0, 0, 0);
+    parts_are("a cut one", ctext_segment_parts(note, sizeof note - 1, units[1]), 0, 0, 0, 0);
+    units[1].length = 2;
+    parts_are("one without 02", ctext_segment_parts(note, sizeof note, units[1]), 0, 0, 0, 0);
+    units[1].start = UINT32_MAX;
+    parts_are("one elsewhere", ctext_segment_parts(note, sizeof note, units[1]), 0, 0, 0, 0);
+    parts_are("nothing", ctext_segment_parts(NULL, 0, units[0]), 0, 0, 0, 0);
+}
+
+int main(void)
+{
+    try_names();
+    try_parts();
+    return failures != 0;
+}
