@@ -7,13 +7,13 @@ use mathlib.Core.List.{List}
 use mathlib.Core.Option.{none, some, Option·none-ne-some, Option·some-injective}
 use lib.Dec.{eqb, leb, ltb}
 use lib.ListN.{length, set, take, drop}
-use borrow.Author.Tests.{eqb-true, eqb-false, lt-ltb, ltb-true, ltb-false, leb-true, not-true}
+use borrow.Author.Tests.{eqb-true, eqb-false, ne-eqb, lt-ltb, le-ltb, lt-leb, ltb-true, ltb-false, leb-true, not-true}
 use Rattle.base.specs.Choice.{pick}
 use Rattle.base.specs.Kind as kind
 use Rattle.base.specs.declared.Unit.{Unit as UnitRecord}
 use Rattle.charset.specs.Charsets.{form-96, form-94x94, formOf}
 use Rattle.text.specs.Text.{graphicOf}
-use Rattle.grammar.specs.Units.{TextUnit, char, space, tab, newline, ltr, rtl, revert, ext, unitOf, codeUsed, segment, good}
+use Rattle.grammar.specs.Units.{TextUnit, char, space, control, ext, controlOf, unitOf, codeUsed, segment, good}
 use Rattle.grammar.proofs.Complete.{and-left, and-right}
 use Rattle.grammar.proofs.Sound.{graphic-low}
 use Rattle.grammar.specs.Records.{readable, unitRead}
@@ -134,12 +134,6 @@ module _ (o : List ℕ) (r : UnitRecord) (u : TextUnit) (g : good u ≡ true) wh
           (let z : 27 + (r .code - 27) ≡ r .code = omega (arith, lo) in z) (let z : countOf (r .length / 256) (r .length % 256) ≡ r .length = omega (arith, few) in z)
           ∙ s
 
-  past-six : (r .kind ≡ 0 → ⊥) → (r .kind ≡ 1 → ⊥) → (r .kind ≡ 2 → ⊥) → 3 ≤ r .kind
-  past-six a b c = omega arith
-
-  seven : 3 ≤ r .kind → (r .kind ≡ 3 → ⊥) → (r .kind ≡ 4 → ⊥) → (r .kind ≡ 5 → ⊥) → (r .kind ≡ 6 → ⊥) → 7 ≤ r .kind
-  seven h a b c d = omega arith
-
   pub fits : unitRead o r ≡ some u → Fits o r u
   unfolding unitRead readable unitOf tagOf numberOf pick unitTagged
   fits e = start (readable o r) refl e
@@ -147,28 +141,33 @@ module _ (o : List ℕ) (r : UnitRecord) (u : TextUnit) (g : good u ≡ true) wh
       xs : List ℕ
       xs = take (r .length) (drop (r .start) o)
 
+      -- kinds 2 to 6
+      fits-control : (r .kind ≡ 0 → ⊥) → (r .kind ≡ 1 → ⊥) → r .kind < 7 → control (controlOf (r .kind)) ≡ u → Fits o r u
+      fits-control n m h s =
+          let k : 14 + r .kind - 14 ≡ r .kind = omega arith in
+          fits-plain (r .kind) (control (controlOf (r .kind))) refl h
+          (rw (ne-eqb (r .kind) 0 n, ne-eqb (r .kind) 7 (λ e. omega arith)))
+          (rw (
+            le-ltb (14 + r .kind) 12 (omega arith),
+            le-ltb (14 + r .kind) 15 (omega arith),
+            ne-eqb (14 + r .kind) 15 (λ e. omega arith),
+            lt-leb 21 (14 + r .kind) (omega arith),
+            k,
+          ))
+          s
+
       last : (b : Bool) → eqb (r .kind) 7 ≡ b → 7 ≤ r .kind → cond b (leb (r .start + r .length) (length o)) (ltb (r .kind) 7) ≡ true → ext (r .code) xs ≡ u → Fits o r u
       last true q n h s = fits-segment (eqb-true (r .kind) 7 q) (leb-true (r .start + r .length) (length o) h) s
       last false q n h s = absurd (let l = ltb-true (r .kind) 7 h in omega arith)
 
-      go : (b0 b1 b2 b3 b4 b5 b6 : Bool) → eqb (r .kind) 0 ≡ b0 → eqb (r .kind) 1 ≡ b1 → eqb (r .kind) 2 ≡ b2 → eqb (r .kind) 3 ≡ b3 → eqb (r .kind) 4 ≡ b4
-          → eqb (r .kind) 5 ≡ b5 → eqb (r .kind) 6 ≡ b6 → readable o r ≡ true
-          → cond b0 (char (r .set) (r .code)) (cond b1 space (cond b2 tab (cond b3 newline (cond b4 ltr (cond b5 rtl (cond b6 revert (ext (r .code) xs))))))) ≡ u
-          → Fits o r u
-      go true b1 b2 b3 b4 b5 b6 q0 q1 q2 q3 q4 q5 q6 h s = fits-character (eqb-true (r .kind) 0 q0) s
-      go false true b2 b3 b4 b5 b6 q0 q1 q2 q3 q4 q5 q6 h s = let q = eqb-true (r .kind) 1 q1 in fits-plain 1 space q (omega arith) (rw q) refl s
-      go false false true b3 b4 b5 b6 q0 q1 q2 q3 q4 q5 q6 h s = let q = eqb-true (r .kind) 2 q2 in fits-plain 2 tab q (omega arith) (rw q) refl s
-      go false false false true b4 b5 b6 q0 q1 q2 q3 q4 q5 q6 h s = let q = eqb-true (r .kind) 3 q3 in fits-plain 3 newline q (omega arith) (rw q) refl s
-      go false false false false true b5 b6 q0 q1 q2 q3 q4 q5 q6 h s = let q = eqb-true (r .kind) 4 q4 in fits-plain 4 ltr q (omega arith) (rw q) refl s
-      go false false false false false true b6 q0 q1 q2 q3 q4 q5 q6 h s = let q = eqb-true (r .kind) 5 q5 in fits-plain 5 rtl q (omega arith) (rw q) refl s
-      go false false false false false false true q0 q1 q2 q3 q4 q5 q6 h s = let q = eqb-true (r .kind) 6 q6 in fits-plain 6 revert q (omega arith) (rw q) refl s
-      go false false false false false false false q0 q1 q2 q3 q4 q5 q6 h s =
-          last (eqb (r .kind) 7) refl
-          (seven (past-six (eqb-false (r .kind) 0 q0) (eqb-false (r .kind) 1 q1) (eqb-false (r .kind) 2 q2)) (eqb-false (r .kind) 3 q3) (eqb-false (r .kind) 4 q4) (eqb-false (r .kind) 5 q5) (eqb-false (r .kind) 6 q6))
-          h s
+      go : (b0 b1 b2 : Bool) → eqb (r .kind) 0 ≡ b0 → eqb (r .kind) 1 ≡ b1 → ltb (r .kind) 7 ≡ b2 → readable o r ≡ true
+          → cond b0 (char (r .set) (r .code)) (cond b1 space (cond b2 (control (controlOf (r .kind))) (ext (r .code) xs))) ≡ u → Fits o r u
+      go true b1 b2 q0 q1 q2 h s = fits-character (eqb-true (r .kind) 0 q0) s
+      go false true b2 q0 q1 q2 h s = let q = eqb-true (r .kind) 1 q1 in fits-plain 1 space q (omega arith) (rw q) refl s
+      go false false true q0 q1 q2 h s = fits-control (eqb-false (r .kind) 0 q0) (eqb-false (r .kind) 1 q1) (ltb-true (r .kind) 7 q2) s
+      go false false false q0 q1 q2 h s = last (eqb (r .kind) 7) refl (ltb-false (r .kind) 7 q2) h s
 
       start : (b : Bool) → readable o r ≡ b → cond b (some (unitOf (r .kind) (r .set) (r .code) xs)) none ≡ some u → Fits o r u
       start false q s = absurd (Option·none-ne-some u s)
       start true q s =
-          go (eqb (r .kind) 0) (eqb (r .kind) 1) (eqb (r .kind) 2) (eqb (r .kind) 3) (eqb (r .kind) 4) (eqb (r .kind) 5) (eqb (r .kind) 6) refl refl refl refl refl refl refl q
-          (Option·some-injective (unitOf (r .kind) (r .set) (r .code) xs) u s)
+          go (eqb (r .kind) 0) (eqb (r .kind) 1) (ltb (r .kind) 7) refl refl refl q (Option·some-injective (unitOf (r .kind) (r .set) (r .code) xs) u s)

@@ -24,7 +24,7 @@ use Rattle.element.specs.Element.{shapeOf}
 use Rattle.state.specs.declared.State.{State}
 use Rattle.state.specs.declared.elements.Part.{Part}
 use Rattle.state.specs.declared.elements.Element.the-variants.{Silent, Found}
-use Rattle.grammar.specs.Units.{TextUnit, char, space, tab, newline, ltr, rtl, revert, ext, kindOf, textOctets, counts, unitOf, wide, top, shown, octets, designation, codeUsed, segment, good}
+use Rattle.grammar.specs.Units.{TextUnit, char, space, control, tab, newline, ltr, rtl, revert, ext, kindOf, controlOctets, textOctets, counts, unitOf, wide, top, shown, octets, designation, codeUsed, segment, good}
 use Rattle.grammar.specs.Grammar.{Shows}
 use Rattle.grammar.specs.Reading.{unitAt}
 use Rattle.grammar.proofs.Segment.{content}
@@ -199,41 +199,25 @@ module _ (st : State) where
 abbrev setIn : TextUnit → ℕ
 setIn (char c k) = c
 setIn space = 0
-setIn tab = 0
-setIn newline = 0
-setIn ltr = 0
-setIn rtl = 0
-setIn revert = 0
+setIn (control x) = 0
 setIn (ext e xs) = 0
 
 abbrev codeIn : TextUnit → ℕ
 codeIn (char c k) = k
 codeIn space = 0
-codeIn tab = 0
-codeIn newline = 0
-codeIn ltr = 0
-codeIn rtl = 0
-codeIn revert = 0
+codeIn (control x) = 0
 codeIn (ext e xs) = e
 
 abbrev skipIn : TextUnit → ℕ
 skipIn (char c k) = 0
 skipIn space = 0
-skipIn tab = 0
-skipIn newline = 0
-skipIn ltr = 0
-skipIn rtl = 0
-skipIn revert = 0
+skipIn (control x) = 0
 skipIn (ext e xs) = 6
 
 abbrev ownIn : TextUnit → ℕ
 ownIn (char c k) = cond (wide c) 2 1
 ownIn space = 1
-ownIn tab = 1
-ownIn newline = 1
-ownIn ltr = 3
-ownIn rtl = 3
-ownIn revert = 2
+ownIn (control x) = length (controlOctets x)
 ownIn (ext e xs) = length xs
 
 abbrev pub partOf : TextUnit → Part
@@ -244,11 +228,11 @@ pub starts-unit : (st : State) (l : Legal (st .sets)) (u : TextUnit) (d : Side) 
 unfolding good octets wide shapeOf csiOf beginOf textOf next pick
 starts-unit st l (char c k) d t g h = starts-char st l d c k t (and-right (ltb c 15) (codeUsed (formOf c) k) g) h
 starts-unit st l space d t g h = rw h
-starts-unit st l tab d t g h = refl
-starts-unit st l newline d t g h = refl
-starts-unit st l ltr d t g h = refl
-starts-unit st l rtl d t g h = refl
-starts-unit st l revert d t g h = refl
+starts-unit st l (control tab) d t g h = refl
+starts-unit st l (control newline) d t g h = refl
+starts-unit st l (control ltr) d t g h = refl
+starts-unit st l (control rtl) d t g h = refl
+starts-unit st l (control revert) d t g h = refl
 starts-unit st l (ext e xs) d t g h = starts-ext st e xs t g
 
 pub part-size : (u : TextUnit) (d : Side) → length (octets d u) ≡ partOf u .skip + partOf u .octets
@@ -259,11 +243,7 @@ part-size (char c k) d = go (wide c)
     go true = refl
     go false = refl
 part-size space d = refl
-part-size tab d = refl
-part-size newline d = refl
-part-size ltr d = refl
-part-size rtl d = refl
-part-size revert d = refl
+part-size (control x) d = omega arith
 part-size (ext e xs) d = omega arith
 
 pub part-some : (u : TextUnit) → 1 ≤ partOf u .skip + partOf u .octets
@@ -273,11 +253,11 @@ part-some (char c k) = go (wide c)
     go true = omega arith
     go false = omega arith
 part-some space = omega arith
-part-some tab = omega arith
-part-some newline = omega arith
-part-some ltr = omega arith
-part-some rtl = omega arith
-part-some revert = omega arith
+part-some (control tab) = omega arith
+part-some (control newline) = omega arith
+part-some (control ltr) = omega arith
+part-some (control rtl) = omega arith
+part-some (control revert) = omega arith
 part-some (ext e xs) = omega arith
 
 -- the part's unit is the unit
@@ -285,9 +265,9 @@ pub part-unit : (u : TextUnit) (d : Side) (t : List ℕ) → unitAt (partOf u) (
 unfolding unitAt unitOf octets
 part-unit (char c k) d t = refl
 part-unit space d t = refl
-part-unit tab d t = refl
-part-unit newline d t = refl
-part-unit ltr d t = refl
-part-unit rtl d t = refl
-part-unit revert d t = refl
+part-unit (control tab) d t = refl
+part-unit (control newline) d t = refl
+part-unit (control ltr) d t = refl
+part-unit (control rtl) d t = refl
+part-unit (control revert) d t = refl
 part-unit (ext e xs) d t = ap (ext e) (take-append-seam xs t)

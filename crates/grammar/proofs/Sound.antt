@@ -27,7 +27,7 @@ use Rattle.state.specs.declared.State.{State}
 use Rattle.state.specs.declared.elements.Part.{Part}
 use Rattle.state.specs.declared.elements.Element.{Element}
 use Rattle.state.specs.declared.elements.Element.the-variants.{Refused, Silent, Found}
-use Rattle.grammar.specs.Units.{TextUnit, char, space, tab, newline, ltr, rtl, revert, ext, kindOf, textOctets, counts, unitOf, wide, top, octets, lead, designation, codeUsed, segment, good}
+use Rattle.grammar.specs.Units.{TextUnit, char, space, control, tab, newline, ltr, rtl, revert, ext, kindOf, textOctets, counts, unitOf, wide, top, octets, lead, designation, codeUsed, segment, good}
 use Rattle.grammar.specs.Grammar.{Shows}
 use Rattle.grammar.specs.Reading.{Octets, unitAt}
 use Rattle.grammar.proofs.Segment.{content}
@@ -131,9 +131,9 @@ module _ (st : State) where
   unfolding csiOf next octets good unitOf unitAt
   sound-csi [] = no
   sound-csi (x ∷ t) =
-      test (eqb x 0x5D) (λ e. plain {p = part 6 0 0 0 2 false} revert t (ap (λ (y : ℕ). 0x9B ∷ y ∷ t) (eqb-true x 0x5D e)) refl refl refl tt refl refl)
-      (λ _. test (eqb x 0x31) (λ e. rw (eqb-true x 0x31 e) (sound-begin ltr 4 0x31 t refl (λ _. refl) refl tt refl refl))
-      (λ _. test (eqb x 0x32) (λ e. rw (eqb-true x 0x32 e) (sound-begin rtl 5 0x32 t refl (λ _. refl) refl tt refl refl)) (λ _. no)))
+      test (eqb x 0x5D) (λ e. plain {p = part 6 0 0 0 2 false} (control revert) t (ap (λ (y : ℕ). 0x9B ∷ y ∷ t) (eqb-true x 0x5D e)) refl refl refl tt refl refl)
+      (λ _. test (eqb x 0x31) (λ e. rw (eqb-true x 0x31 e) (sound-begin (control ltr) 4 0x31 t refl (λ _. refl) refl tt refl refl))
+      (λ _. test (eqb x 0x32) (λ e. rw (eqb-true x 0x32 e) (sound-begin (control rtl) 5 0x32 t refl (λ _. refl) refl tt refl refl)) (λ _. no)))
 
   -- ---- designations
 
@@ -285,8 +285,8 @@ module _ (st : State) where
     sound b t o =
         test (eqb b 0x1B) (λ e. rw (eqb-true b 0x1B e) (sound-escape t (λ i. o (suc i))))
         (λ _. test (eqb b 0x9B) (λ e. rw (eqb-true b 0x9B e) (sound-csi t))
-        (λ _. test (eqb b 0x09) (λ e. plain {p = part 2 0 0 0 1 false} tab t (ap (λ (x : ℕ). x ∷ t) (eqb-true b 0x09 e)) refl refl refl tt refl refl)
-        (λ _. test (eqb b 0x0A) (λ e. plain {p = part 3 0 0 0 1 false} newline t (ap (λ (x : ℕ). x ∷ t) (eqb-true b 0x0A e)) refl refl refl tt refl refl)
+        (λ _. test (eqb b 0x09) (λ e. plain {p = part 2 0 0 0 1 false} (control tab) t (ap (λ (x : ℕ). x ∷ t) (eqb-true b 0x09 e)) refl refl refl tt refl refl)
+        (λ _. test (eqb b 0x0A) (λ e. plain {p = part 3 0 0 0 1 false} (control newline) t (ap (λ (x : ℕ). x ∷ t) (eqb-true b 0x0A e)) refl refl refl tt refl refl)
         (λ _. test (ltb b 0x20) (λ _. no)
         (λ g. test (eqb b 0x7F) (λ _. no)
         (λ _. test (ltb b 0x80)

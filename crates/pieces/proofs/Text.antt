@@ -14,7 +14,7 @@ use Rattle.base.proofs.Ladder.{on-lt, on-ge}
 use Rattle.charset.specs.Charsets.{form-94x94, no-set, formOf}
 use Rattle.charset.specs.declared.Side.{Side}
 use Rattle.charset.specs.declared.Side.the-variants.{GL, GR}
-use Rattle.grammar.specs.Units.{TextUnit, char, space, tab, newline, ltr, rtl, revert, ext, kindOf, wide, top, shown, octets, codeUsed, good}
+use Rattle.grammar.specs.Units.{Control, TextUnit, char, space, control, tab, newline, ltr, rtl, revert, ext, controlKind, kindOf, wide, top, shown, octets, codeUsed, good}
 use Rattle.grammar.specs.Reading.{direct}
 use Rattle.grammar.proofs.Complete.{and-left, and-right}
 use Rattle.grammar.proofs.Sound.{graphic-low}
@@ -54,16 +54,19 @@ char-side true f d k t e g =
     let y = graphic-low (k % 256) (and-right (graphicOf (k / 256)) (graphicOf (k % 256)) h) in
     two-octets (top d + k / 256) (top d + k % 256) t (top-side d (k % 256) (k / 256) (omega arith) (omega arith))
 
+no-text : (x : Control) → controlKind x < 2 → ⊥
+no-text tab h = omega arith
+no-text newline h = omega arith
+no-text ltr h = omega arith
+no-text rtl h = omega arith
+no-text revert h = omega arith
+
 -- the octets of a character or a space
 pub text-side : (d : Side) (u : TextUnit) (t : List ℕ) → good u ≡ true → kindOf u < 2 → OneSide (octets d u) t
 unfolding octets good wide
 text-side d (char c k) t g h = char-side (eqb (formOf c) form-94x94) (formOf c) d k t refl (and-right (ltb c no-set) (codeUsed (formOf c) k) g)
 text-side d space t g h = one-octet 0x20 t
-text-side d tab t g h = absurd (omega arith)
-text-side d newline t g h = absurd (omega arith)
-text-side d ltr t g h = absurd (omega arith)
-text-side d rtl t g h = absurd (omega arith)
-text-side d revert t g h = absurd (omega arith)
+text-side d (control x) t g h = absurd (no-text x h)
 text-side d (ext e xs) t g h = absurd (omega arith)
 
 -- ---- what is in force
@@ -85,9 +88,5 @@ written-keeps k d next e = written-by (d .marked) (eqb (d .depth) 0) d next e
 pub text-keeps : (u : TextUnit) (d next : Directions) → kindOf u < 2 → direct d u ≡ Goes next → inForceOf next ≡ inForceOf d
 text-keeps (char c k) d next h e = written-keeps kind.character d next e
 text-keeps space d next h e = written-keeps kind.space d next e
-text-keeps tab d next h e = absurd (omega arith)
-text-keeps newline d next h e = absurd (omega arith)
-text-keeps ltr d next h e = absurd (omega arith)
-text-keeps rtl d next h e = absurd (omega arith)
-text-keeps revert d next h e = absurd (omega arith)
+text-keeps (control x) d next h e = absurd (no-text x h)
 text-keeps (ext x xs) d next h e = absurd (omega arith)

@@ -9,14 +9,14 @@ use mathlib.Core.Option.{none, some}
 use mathlib.Core.Logic.{_⊎_, inl, inr, ⊎-elim}
 use lib.ListN.{length, take, drop, length-take, length-drop}
 use lib.Dec.{eqb, leb, ltb}
-use borrow.Author.Tests.{eqb-true, eqb-false, ltb-true, ltb-false, leb-true, leb-false, le-ltb, le-leb, lt-leb, ne-eqb}
+use borrow.Author.Tests.{eqb-true, eqb-false, ltb-true, ltb-false, leb-true, leb-false, lt-ltb, le-ltb, le-leb, lt-leb, ne-eqb}
 use Rattle.base.specs.Kind as kind
 use Rattle.base.specs.Refusal as refusal
 use Rattle.base.specs.declared.Unit.{Unit as UnitRecord}
 use Rattle.charset.specs.Charsets.{no-set, formOf}
 use Rattle.state.specs.declared.directions.Directions.{Directions}
 use Rattle.state.specs.declared.directions.Step.the-variants.{Stops}
-use Rattle.grammar.specs.Units.{TextUnit, char, space, tab, newline, ltr, rtl, revert, ext, unitOf, codeUsed, segment, mostOfSegment, good}
+use Rattle.grammar.specs.Units.{TextUnit, char, space, control, ext, controlOf, unitOf, codeUsed, segment, mostOfSegment, good}
 use Rattle.grammar.specs.Reading.{direct}
 use Rattle.grammar.specs.Records.{readable, unitRead}
 use Rattle.shortest.specs.Records.{own, fault}
@@ -109,23 +109,17 @@ module _ (o : List ℕ) (r : UnitRecord) where
   -- a kind that uses no field
   judge-plain : kind.space ≤ r .kind → r .kind < kind.segment → Stands
   unfolding unitRead readable unitOf good
-  judge-plain h l =
-      go (eqb (r .kind) 1) (eqb (r .kind) 2) (eqb (r .kind) 3) (eqb (r .kind) 4) (eqb (r .kind) 5) refl refl refl refl refl
+  judge-plain h l = go (eqb (r .kind) kind.space) refl
     where
-      go : (a b c d e : Bool) → eqb (r .kind) 1 ≡ a → eqb (r .kind) 2 ≡ b → eqb (r .kind) 3 ≡ c → eqb (r .kind) 4 ≡ d → eqb (r .kind) 5 ≡ e → Stands
-      go true b c d e p q s t v = (space, rw (eqb-true (r .kind) 1 p), refl)
-      go false true c d e p q s t v = (tab, rw (eqb-true (r .kind) 2 q), refl)
-      go false false true d e p q s t v = (newline, rw (eqb-true (r .kind) 3 s), refl)
-      go false false false true e p q s t v = (ltr, rw (eqb-true (r .kind) 4 t), refl)
-      go false false false false true p q s t v = (rtl, rw (eqb-true (r .kind) 5 v), refl)
-      go false false false false false p q s t v =
-          let n1 : r .kind ≡ 1 → ⊥ = eqb-false (r .kind) 1 p in
-          let n2 : r .kind ≡ 2 → ⊥ = eqb-false (r .kind) 2 q in
-          let n3 : r .kind ≡ 3 → ⊥ = eqb-false (r .kind) 3 s in
-          let n4 : r .kind ≡ 4 → ⊥ = eqb-false (r .kind) 4 t in
-          let n5 : r .kind ≡ 5 → ⊥ = eqb-false (r .kind) 5 v in
-          let k : r .kind ≡ 6 = omega arith in
-          (revert, rw k, refl)
+      go : (b : Bool) → eqb (r .kind) kind.space ≡ b → Stands
+      go true e = (space, rw (eqb-true (r .kind) kind.space e), refl)
+      go false e =
+          let n : r .kind ≡ kind.character → ⊥ = λ q. omega arith in
+          let m : r .kind ≡ kind.segment → ⊥ = λ q. omega arith in (
+            control (controlOf (r .kind)),
+            rw (ne-eqb (r .kind) kind.segment m, ne-eqb (r .kind) kind.character n, e, lt-ltb (r .kind) kind.segment l),
+            refl,
+          )
 
   judge-char : r .kind ≡ kind.character → Judged
   unfolding good

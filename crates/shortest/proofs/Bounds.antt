@@ -17,7 +17,7 @@ use lib.Dec.{eqb, leb, ltb}
 use borrow.Author.Tests.{eqb-true, eq-eqb, ltb-true}
 use Rattle.charset.specs.declared.Side.{Side}
 use Rattle.charset.specs.declared.Side.the-variants.{GL, GR}
-use Rattle.grammar.specs.Units.{wide, TextUnit, char, space, tab, newline, ltr, rtl, revert, ext, octets, designation, good, codeUsed}
+use Rattle.grammar.specs.Units.{wide, TextUnit, char, space, control, ext, octets, designation, good, codeUsed}
 use Rattle.shortest.proofs.Sets.{space-sets, some-side}
 use Rattle.grammar.proofs.Complete.{and-left}
 use Rattle.state.specs.declared.Sets.{Sets}
@@ -39,11 +39,7 @@ shows-met (char c k) d s l h = go d h (allowed GL c) (allowed GR c) refl refl
     go GR e true true p q = ap (λ (t : Bool). eqb (s .gl) c || t) (eq-eqb (s .gr) c e) ∙ or-true (eqb (s .gl) c)
     go GR e false true p q = ap (λ (t : Bool). t || eqb (s .gr) c) (eq-eqb (s .gr) c e)
 shows-met space d s l h = space-sets (s .gl) (l .left) h
-shows-met tab d s l h = refl
-shows-met newline d s l h = refl
-shows-met ltr d s l h = refl
-shows-met rtl d s l h = refl
-shows-met revert d s l h = refl
+shows-met (control x) d s l h = refl
 shows-met (ext e xs) d s l h = refl
 
 -- no string of a reading is shorter than its cost
@@ -88,11 +84,7 @@ need-legal (char c k) g = go (allowed GL c) (allowed GR c) refl refl (good-side 
     go true false p q e = (p, p)
     go false y p q e = (q ∙ e, q ∙ e)
 need-legal space g = (refl, refl)
-need-legal tab g = tt
-need-legal newline g = tt
-need-legal ltr g = tt
-need-legal rtl g = tt
-need-legal revert g = tt
+need-legal (control x) g = tt
 need-legal (ext e xs) g = tt
 
 -- a unit whose need is met may be shown on the side it is used on
@@ -109,11 +101,7 @@ met-shows (char c k) s e = go (allowed GL c) (allowed GR c) e
     go true false q = pick GL GL (eqb (s .gl) c) refl q
     go false y q = pick GR GR (eqb (s .gr) c) refl q
 met-shows space s e = ⊎-elim (λ q. ap wide (eqb-true (s .gl) 0 q)) (λ q. ap wide (eqb-true (s .gl) 2 q)) (or-cases (eqb (s .gl) 0) (eqb (s .gl) 2) e)
-met-shows tab s e = tt
-met-shows newline s e = tt
-met-shows ltr s e = tt
-met-shows rtl s e = tt
-met-shows revert s e = tt
+met-shows (control x) s e = tt
 met-shows (ext d xs) s e = tt
 
 abbrev pub Every : (TextUnit → Type 0) → List TextUnit → Type 0

@@ -16,7 +16,7 @@ use Rattle.charset.specs.declared.Side.the-variants.{GL, GR}
 use Rattle.charset.specs.Charsets.{allowed, mayUse}
 use Rattle.state.specs.State.{Standing, on, put}
 use Rattle.state.specs.declared.Sets.{Sets}
-use Rattle.grammar.specs.Units.{TextUnit, char, space, tab, newline, ltr, rtl, revert, ext, octets, good}
+use Rattle.grammar.specs.Units.{TextUnit, char, space, control, ext, octets, good}
 use Rattle.grammar.specs.Grammar.{Shows, Reads, done, designate, show}
 use Rattle.grammar.proofs.Sound.{Legal}
 use Rattle.grammar.proofs.Agrees.{put-legal}
@@ -63,11 +63,7 @@ split (char c k) g = go (allowed GL c) (allowed GR c) refl refl (good-side c k g
 split space g =
     two-serve (refl, inl refl) (refl, inr refl) (λ p h. ⊎-elim (λ e. inl (same-standing p GL 0 (h .0) e)) (λ e. inr (same-standing p GL 2 (h .0) e)) (h .1))
     (inr (refl, refl))
-split tab g = none-serves (λ p h. h)
-split newline g = none-serves (λ p h. h)
-split ltr g = none-serves (λ p h. h)
-split rtl g = none-serves (λ p h. h)
-split revert g = none-serves (λ p h. h)
+split (control x) g = none-serves (λ p h. h)
 split (ext e xs) g = none-serves (λ p h. h)
 
 -- ---- lazy strings read as the units
@@ -77,11 +73,7 @@ unfolding allowed mayUse
 serves-allowed (char c k) p h = h .1
 serves-allowed space p h =
     ⊎-elim (λ e. ap₂ (λ d c. allowed d c) (h .0) e) (λ e. ap₂ (λ d c. allowed d c) (h .0) e) (h .1)
-serves-allowed tab p h = absurd h
-serves-allowed newline p h = absurd h
-serves-allowed ltr p h = absurd h
-serves-allowed rtl p h = absurd h
-serves-allowed revert p h = absurd h
+serves-allowed (control x) p h = absurd h
 serves-allowed (ext e xs) p h = absurd h
 
 after-legal : (u : TextUnit) (s : Sets) (o : Option Standing) → MayPrecede u s o → Legal s → Legal (after o s)
@@ -221,11 +213,7 @@ used-left (char c k) s m l = λ e. go e (allowed GL c) (allowed GR c) refl
     go e true false q = ap (λ (t : Bool). cond t GL GL) (eq-eqb (s .gl) c e)
     go e false y q = absurd (true≢false (sym (subst (λ (n : ℕ). allowed GL n ≡ true) e (l .left)) ∙ q))
 used-left space s m l = tt
-used-left tab s m l = tt
-used-left newline s m l = tt
-used-left ltr s m l = tt
-used-left rtl s m l = tt
-used-left revert s m l = tt
+used-left (control x) s m l = tt
 used-left (ext e xs) s m l = tt
 
 pub writing-lazy : (us : List TextUnit) (s : Sets) → Legal s → Good us → Lazy s us (choices us s) (writing us s)
@@ -263,16 +251,8 @@ same-octets (char c k) GL GR s x y f g = ap (λ (d : Side). octets d (char c k))
 same-octets (char c k) GR GL s x y f g = ap (λ (d : Side). octets d (char c k)) (f y)
 same-octets space GL GR s x y f g = refl
 same-octets space GR GL s x y f g = refl
-same-octets tab GL GR s x y f g = refl
-same-octets tab GR GL s x y f g = refl
-same-octets newline GL GR s x y f g = refl
-same-octets newline GR GL s x y f g = refl
-same-octets ltr GL GR s x y f g = refl
-same-octets ltr GR GL s x y f g = refl
-same-octets rtl GL GR s x y f g = refl
-same-octets rtl GR GL s x y f g = refl
-same-octets revert GL GR s x y f g = refl
-same-octets revert GR GL s x y f g = refl
+same-octets (control n) GL GR s x y f g = refl
+same-octets (control n) GR GL s x y f g = refl
 same-octets (ext n xs) GL GR s x y f g = refl
 same-octets (ext n xs) GR GL s x y f g = refl
 
@@ -286,11 +266,7 @@ not-both (char c k) a b p q =
     let z : _≡_ {A = ℕ} 0 1 = cc (p .0, q .1) in
     omega arith
 not-both space a b p q = omega (arith, p .0, q .1)
-not-both tab a b p q = p
-not-both newline a b p q = p
-not-both ltr a b p q = p
-not-both rtl a b p q = p
-not-both revert a b p q = p
+not-both (control x) a b p q = p
 not-both (ext n xs) a b p q = p
 
 one-way : {us : List TextUnit} {os ps : List (Option Standing)} → Before us os ps → Before us ps os → ⊥

@@ -17,7 +17,7 @@ use Rattle.state.specs.Directions.{undirected, writtenOf, deeperOf, begunOf, re
 use Rattle.state.specs.declared.directions.Directions.{Directions}
 use Rattle.state.specs.declared.directions.Step.{Step}
 use Rattle.state.specs.declared.directions.Step.the-variants.{Goes, Stops}
-use Rattle.grammar.specs.Units.{TextUnit, char, space, tab, newline, ltr, rtl, revert, ext, good}
+use Rattle.grammar.specs.Units.{TextUnit, char, space, control, ext, good}
 use Rattle.grammar.specs.Reading.{direct}
 use Rattle.grammar.specs.Records.{unitRead}
 use Rattle.shortest.specs.Records.{own, fault, Checked, fine, faulty, onStep, checkRecords}
@@ -155,11 +155,7 @@ Number n = (n ≡ refusal.bad-unit) ⊎ (n ≡ refusal.bad-segment) ⊎ (n ≡ r
 own-number : (u : TextUnit) → Number (own u)
 own-number (char c k) = inl refl
 own-number space = inl refl
-own-number tab = inl refl
-own-number newline = inl refl
-own-number ltr = inl refl
-own-number rtl = inl refl
-own-number revert = inl refl
+own-number (control x) = inl refl
 own-number (ext e xs) = go (leb 0x30 e && leb e 0x34)
   where
     go : (b : Bool) → Number (cond b refusal.bad-segment refusal.bad-unit)

@@ -9,7 +9,7 @@ use mathlib.Core.List.{List, [], _∷_}
 use mathlib.Core.Option.{Option, none, some, Option·none-ne-some, Option·some-injective}
 use mathlib.Core.Logic.{_↔_}
 use lib.ListN.{length, take, drop}
-use lib.Dec.{eqb}
+use lib.Dec.{eqb, ltb}
 use Rattle.base.specs.Kind as kind
 use Rattle.base.specs.Limit as limit
 use Rattle.base.specs.declared.Unit.{Unit as UnitRecord}
@@ -18,7 +18,7 @@ use Rattle.state.specs.Directions.{undirected}
 use Rattle.state.specs.declared.directions.Directions.{Directions}
 use Rattle.state.specs.declared.directions.Step.{Step}
 use Rattle.state.specs.declared.directions.Step.the-variants.{Goes, Stops}
-use Rattle.grammar.specs.Units.{TextUnit, char, space, tab, newline, ltr, rtl, revert, ext, unitOf, good}
+use Rattle.grammar.specs.Units.{TextUnit, char, space, control, ext, controlOf, unitOf, good}
 use Rattle.grammar.specs.Reading.{direct, Octets, ReadAs}
 use Rattle.grammar.proofs.Rule.{directed, passes, direction-rule}
 use Rattle.shortest.specs.Writing.{cost, writing}
@@ -124,10 +124,7 @@ unfolding unitOf
 unit-contents k c code xs o =
     go (eqb k kind.character) (char c code) _ tt
     (go (eqb k kind.space) space _ tt
-    (go (eqb k kind.tab) tab _ tt
-    (go (eqb k kind.newline) newline _ tt
-    (go (eqb k kind.left-to-right) ltr _ tt
-    (go (eqb k kind.right-to-left) rtl _ tt (go (eqb k kind.revert) revert (ext code xs) tt o))))))
+    (go (ltb k kind.segment) (control (controlOf k)) (ext code xs) tt o))
   where
     go : (b : Bool) (u v : TextUnit) → Contents u → Contents v → Contents (cond b u v)
     go true u v x y = x

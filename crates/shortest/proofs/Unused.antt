@@ -9,22 +9,17 @@ use mathlib.Core.Option.{Option, none, some}
 use mathlib.Core.Logic.{inl, inr}
 use lib.ListN.{length, take, drop}
 use lib.Dec.{eqb, leb, ltb}
-use borrow.Author.Tests.{eqb-true, eqb-false, ltb-true}
+use borrow.Author.Tests.{eqb-true, ltb-true, ltb-false}
 use Rattle.base.specs.Kind as kind
 use Rattle.base.specs.declared.Unit.{Unit as UnitRecord}
 use Rattle.state.specs.Directions.{undirected}
 use Rattle.state.specs.declared.directions.Directions.{Directions}
 use Rattle.state.specs.declared.directions.Step.{Step}
 use Rattle.state.specs.declared.directions.Step.the-variants.{Goes, Stops}
-use Rattle.grammar.specs.Units.{TextUnit, char, space, tab, newline, revert, ext, unitOf}
+use Rattle.grammar.specs.Units.{TextUnit, char, ext, unitOf}
 use Rattle.grammar.specs.Records.{readable, unitRead, prepend, listReading}
 use Rattle.shortest.specs.Records.{fault, onStep, checkRecords, writerAnswer, writerOutput}
 use Rattle.shortest.specs.Unused.{Alike, AllAlike, none, more}
-
-above : (k n : ℕ) → n ≤ k → eqb k n ≡ false → suc n ≤ k
-above k n h e =
-    let q : k ≡ n → ⊥ = eqb-false k n e in
-    omega arith
 
 -- the unit of a kind, by what the kind uses
 unit-same : (k c c′ x x′ : ℕ) (xs xs′ : List ℕ) → k ≤ kind.segment → (k ≡ kind.character → c ≡ c′) → (k ≡ kind.character → x ≡ x′) → (k ≡ kind.segment → x ≡ x′)
@@ -33,21 +28,14 @@ unfolding unitOf
 unit-same k c c′ x x′ xs xs′ h a b d e =
     by (eqb k kind.character) (λ q. let z = eqb-true k kind.character q in ap₂ char (a z) (b z))
     (λ n0. by (eqb k kind.space) (λ q. refl)
-    (λ n1. by (eqb k kind.tab) (λ q. refl)
-    (λ n2. by (eqb k kind.newline) (λ q. refl)
-    (λ n3. by (eqb k kind.left-to-right) (λ q. refl)
-    (λ n4. by (eqb k kind.right-to-left) (λ q. refl)
-    (λ n5. by (eqb k kind.revert) (λ q. refl)
-    (λ n6. let z : k ≡ kind.segment = last n0 n1 n2 n3 n4 n5 n6 in ap₂ ext (d z) (e z))))))))
+    (λ n1. by (ltb k kind.segment) (λ q. refl)
+    (λ n2. let l = ltb-false k kind.segment n2 in
+    let z : k ≡ kind.segment = omega arith in
+    ap₂ ext (d z) (e z))))
   where
     by : {u u′ v v′ : TextUnit} (t : Bool) → (t ≡ true → u ≡ u′) → (t ≡ false → v ≡ v′) → cond t u v ≡ cond t u′ v′
     by true f g = f refl
     by false f g = g refl
-
-    last : eqb k 0 ≡ false → eqb k 1 ≡ false → eqb k 2 ≡ false → eqb k 3 ≡ false → eqb k 4 ≡ false → eqb k 5 ≡ false → eqb k 6 ≡ false → k ≡ kind.segment
-    last n0 n1 n2 n3 n4 n5 n6 =
-        let l : 7 ≤ k = above k 6 (above k 5 (above k 4 (above k 3 (above k 2 (above k 1 (above k 0 (omega arith) n0) n1) n2) n3) n4) n5) n6 in
-        omega arith
 
 module _ (o : List ℕ) where
   -- "a part outside its octets" is looked at of a segment alone

@@ -15,7 +15,7 @@ use Rattle.charset.specs.Charsets.{Row, no-set, form-96, form-94x94, row, rows,
 use Rattle.state.specs.State.{Standing}
 use Rattle.text.specs.Text.{graphicOf}
 use Rattle.state.specs.declared.Sets.{Sets}
-use Rattle.grammar.specs.Units.{TextUnit, char, space, tab, newline, ltr, rtl, revert, ext, wide, top, shown, octets, lead, designation, codeUsed, segment, mostOfSegment, good}
+use Rattle.grammar.specs.Units.{TextUnit, char, space, control, tab, newline, ltr, rtl, revert, ext, wide, top, shown, octets, lead, designation, codeUsed, segment, mostOfSegment, good}
 use Rattle.grammar.specs.Grammar.{Reads, done, designate, show}
 use Rattle.grammar.specs.Reading.{Octets}
 use Rattle.grammar.proofs.Sound.{graphic-low}
@@ -95,22 +95,18 @@ char-octets d c k u = go (eqb (formOf c) form-94x94) (eqb (formOf c) form-96) u
 abbrev pub Contents : TextUnit → Type 0
 Contents (char c k) = Unit {0}
 Contents space = Unit {0}
-Contents tab = Unit {0}
-Contents newline = Unit {0}
-Contents ltr = Unit {0}
-Contents rtl = Unit {0}
-Contents revert = Unit {0}
+Contents (control x) = Unit {0}
 Contents (ext e xs) = Octets xs
 
 unit-octets : (u : TextUnit) (d : Side) → good u ≡ true → Contents u → Octets (octets d u)
 unfolding octets good
 unit-octets (char c k) d g o = char-octets d c k (and-right (ltb c no-set) (codeUsed (formOf c) k) g)
 unit-octets space d g o = small (0x20 ∷ []) (omega arith, tt)
-unit-octets tab d g o = small (0x09 ∷ []) (omega arith, tt)
-unit-octets newline d g o = small (0x0A ∷ []) (omega arith, tt)
-unit-octets ltr d g o = small (0x9B ∷ 0x31 ∷ 0x5D ∷ []) (omega arith, (omega arith, (omega arith, tt)))
-unit-octets rtl d g o = small (0x9B ∷ 0x32 ∷ 0x5D ∷ []) (omega arith, (omega arith, (omega arith, tt)))
-unit-octets revert d g o = small (0x9B ∷ 0x5D ∷ []) (omega arith, (omega arith, tt))
+unit-octets (control tab) d g o = small (0x09 ∷ []) (omega arith, tt)
+unit-octets (control newline) d g o = small (0x0A ∷ []) (omega arith, tt)
+unit-octets (control ltr) d g o = small (0x9B ∷ 0x31 ∷ 0x5D ∷ []) (omega arith, (omega arith, (omega arith, tt)))
+unit-octets (control rtl) d g o = small (0x9B ∷ 0x32 ∷ 0x5D ∷ []) (omega arith, (omega arith, (omega arith, tt)))
+unit-octets (control revert) d g o = small (0x9B ∷ 0x5D ∷ []) (omega arith, (omega arith, tt))
 unit-octets (ext e xs) d g o =
     let h = and-left (leb 0x30 e && leb e 0x34 && leb (length xs) mostOfSegment) (segment e 0 xs) g in
     let a = leb-true e 0x34 (and-right (leb 0x30 e) (leb e 0x34) (and-left (leb 0x30 e && leb e 0x34) (leb (length xs) mostOfSegment) h)) in
@@ -125,11 +121,7 @@ unit-contents : (u : TextUnit) (d : Side) → Octets (octets d u) → Contents u
 unfolding octets
 unit-contents (char c k) d o = tt
 unit-contents space d o = tt
-unit-contents tab d o = tt
-unit-contents newline d o = tt
-unit-contents ltr d o = tt
-unit-contents rtl d o = tt
-unit-contents revert d o = tt
+unit-contents (control x) d o = tt
 unit-contents (ext e xs) d o = λ i. o (suc (suc (suc (suc (suc (suc i))))))
 
 pub reads-contents : {s : Sets} {t : List ℕ} {us : List TextUnit} → Reads s t us → Octets t → Every Contents us

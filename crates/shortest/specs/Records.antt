@@ -15,7 +15,7 @@ use Rattle.state.specs.Directions.{undirected}
 use Rattle.state.specs.declared.directions.Directions.{Directions}
 use Rattle.state.specs.declared.directions.Step.{Step}
 use Rattle.state.specs.declared.directions.Step.the-variants.{Goes, Stops}
-use Rattle.grammar.specs.Units.{TextUnit, char, space, tab, newline, ltr, rtl, revert, ext, unitOf, good}
+use Rattle.grammar.specs.Units.{TextUnit, char, space, control, ext, unitOf, good}
 use Rattle.grammar.specs.Reading.{direct}
 use Rattle.grammar.specs.Records.{readable, unitRead, prepend, listReading}
 use Rattle.shortest.specs.Demand.{writeAnswer, outputAfter}
@@ -25,11 +25,7 @@ use Rattle.shortest.specs.Demand.{writeAnswer, outputAfter}
 abbrev pub own : TextUnit → ℕ
 own (char c k) = refusal.bad-unit
 own space = refusal.bad-unit
-own tab = refusal.bad-unit
-own newline = refusal.bad-unit
-own ltr = refusal.bad-unit
-own rtl = refusal.bad-unit
-own revert = refusal.bad-unit
+own (control x) = refusal.bad-unit
 own (ext e xs) = cond (leb 0x30 e && leb e 0x34) refusal.bad-segment refusal.bad-unit
 
 -- "the first offending unit (11, 7, 8, 9)": its own refusal before the direction rule's

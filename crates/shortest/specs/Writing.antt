@@ -10,7 +10,7 @@ use Rattle.charset.specs.declared.Side.the-variants.{GL, GR}
 use Rattle.charset.specs.Charsets.{allowed}
 use Rattle.state.specs.State.{Standing, on, get, put}
 use Rattle.state.specs.declared.Sets.{Sets}
-use Rattle.grammar.specs.Units.{TextUnit, char, space, tab, newline, ltr, rtl, revert, ext, octets, designation}
+use Rattle.grammar.specs.Units.{TextUnit, char, space, control, ext, octets, designation}
 
 -- a set stands on a side already
 unfoldable pub stands : Standing → Sets → Bool
@@ -40,11 +40,7 @@ placesOf false r c = either (on GR c) (on GR c)
 unfoldable pub need : TextUnit → Need
 need (char c k) = placesOf (allowed GL c) (allowed GR c) c
 need space = either (on GL 0) (on GL 2)
-need tab = free
-need newline = free
-need ltr = free
-need rtl = free
-need revert = free
+need (control x) = free
 need (ext e xs) = free
 
 -- the least cost of a need and what follows it, where f is the least cost of what follows: no designation where the need is met
