@@ -11,13 +11,12 @@ use borrow.Author.Tests.{eqb-true, eqb-false, ne-eqb, lt-ltb, le-ltb, lt-leb, lt
 use Rattle.base.specs.Choice.{pick}
 use Rattle.base.specs.Kind as kind
 use Rattle.base.specs.declared.Unit.{Unit as UnitRecord}
+use Rattle.base.proofs.Bools.{and-left, and-right, up-to}
 use Rattle.charset.specs.Charsets.{form-96, form-94x94, formOf}
 use Rattle.text.specs.Text.{graphicOf}
 use Rattle.grammar.specs.Units.{TextUnit, char, space, control, ext, controlOf, unitOf, codeUsed, segment, good}
-use Rattle.grammar.proofs.Complete.{and-left, and-right}
 use Rattle.grammar.proofs.Sound.{graphic-low}
 use Rattle.grammar.specs.Records.{readable, unitRead}
-use Rattle.shortest.proofs.Sets.{up-to}
 use Rattle.rows.specs.Rows.{countOf, unitTagged, tagOf, numberOf}
 use Rattle.rows.proofs.Units.{unit-segment}
 use Rattle.check_list.specs.Row.{Stowable}

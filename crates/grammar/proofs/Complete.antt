@@ -3,13 +3,14 @@ use Prim.Native.Nat.{ℕ, zero, suc, _+_, _*_, _-_, _/_, _%_, _≤_, _<_}
 use native.Mathlib.Omega.{arith}
 use native.Mathlib.Nat.{not-suc-le-zero, le-of-suc-le-suc}
 use mathlib.Core.Path.{_≡_, refl, sym, ap, _∙_, subst}
-use mathlib.Core.Bool.{Bool, true, false, cond, _&&_, false≢true, true≢false}
-use mathlib.Core.List.{List, [], _∷_, _++_}
+use mathlib.Core.Bool.{Bool, true, false, cond, _&&_, true≢false}
+use mathlib.Core.List.{List, _∷_, _++_}
 use lib.Dec.{eqb, leb, ltb}
 use lib.ListN.{length, length-append}
 use lib.Seq.{take-append-seam}
 use borrow.Author.Tests.{eqb-true, leb-true, lt-ltb, le-ltb, le-leb, ne-eqb, eq-eqb}
 use Rattle.base.specs.Choice.{pick}
+use Rattle.base.proofs.Bools.{and-left, and-right, off}
 use Rattle.charset.specs.declared.Side.{Side}
 use Rattle.charset.specs.declared.Side.the-variants.{GL, GR}
 use Rattle.charset.specs.Charsets.{mayUse, allowed, formOf, fitsOf, find, setOf}
@@ -30,14 +31,6 @@ use Rattle.grammar.specs.Reading.{unitAt}
 use Rattle.grammar.proofs.Segment.{content}
 use Rattle.grammar.proofs.Sound.{Legal, graphic-low}
 
-pub and-left : (a b : Bool) → (a && b) ≡ true → a ≡ true
-and-left true b e = refl
-and-left false b e = e
-
-pub and-right : (a b : Bool) → (a && b) ≡ true → b ≡ true
-and-right true b e = e
-and-right false b e = absurd (false≢true e)
-
 -- a rule of the first n numbers, one by one
 abbrev Each : ℕ → (ℕ → Type 0) → Type 0
 Each zero P = Unit {0}
@@ -46,9 +39,6 @@ Each (suc n) P = P 0 × Each n (λ c. P (suc c))
 infixr 20 _&_
 _&_ : {A B : Type 0} → A → B → A × B
 _&_ a b = (a, b)
-
-off : {A : Type 0} → false ≡ true → A
-off e = absurd (false≢true e)
 
 each : (n : ℕ) (P : ℕ → Type 0) → Each n P → (c : ℕ) → c < n → P c
 each zero P a c h = absurd (not-suc-le-zero h)

@@ -2,7 +2,7 @@
 -- of text say (`Like`), and a unit may follow exactly where its step goes on (`After`).
 use Prim.Native.Nat.{ℕ, _+_, _-_, _≤_, _<_}
 use native.Mathlib.Omega.{arith}
-use mathlib.Core.Path.{_≡_, refl, sym, _∙_}
+use mathlib.Core.Path.{_≡_, refl}
 use mathlib.Core.Bool.{Bool, true, false, false≢true, true≢false}
 use mathlib.Core.List.{List, [], _∷_}
 use mathlib.Core.Logic.{_↔_, _⊎_, inl, inr, ⊎-elim}
@@ -11,6 +11,7 @@ use borrow.Author.Tests.{eqb-true, eqb-false, ltb-true, ltb-false}
 use Rattle.base.specs.Choice.{pick}
 use Rattle.state.specs.Directions.{directions, undirected, writtenOf, deeperOf, begunOf, revertedOf, stepOf}
 use Rattle.base.specs.Limit as limit
+use Rattle.base.proofs.Bools.{off}
 use Rattle.state.specs.declared.directions.Directions.{Directions}
 use Rattle.state.specs.declared.directions.Step.{Step}
 use Rattle.state.specs.declared.directions.Step.the-variants.{Goes, Stops}
@@ -101,9 +102,6 @@ follow us (stops n) k = (λ e. absurd (false≢true e), λ p. absurd (n (p .0)))
 likewise : {O P : Type 0} {b r t : ℕ} {x : Step} → (O → P) → (P → O) → After O b r t x → After P b r t x
 likewise f g (goes o l) = goes (f o) l
 likewise f g (stops n) = stops (λ o. n (g o))
-
-off : {A : Type 0} → false ≡ true → A
-off e = absurd (false≢true e)
 
 module _ (d : Directions) (b r t : ℕ) (l : Like d b r t) where
   step : (u : TextUnit) → After (May u b r t) (addIf (begins u) b) (addIf (reverts u) r) (addIf (counts u) t) (direct d u)

@@ -11,12 +11,12 @@ use Rattle.base.specs.Choice.{pick}
 use Rattle.base.specs.Kind as kind
 use Rattle.base.specs.Refusal as refusal
 use Rattle.base.proofs.Ladder.{on-lt, on-ge}
+use Rattle.base.proofs.Bools.{and-left, and-right}
 use Rattle.charset.specs.Charsets.{form-94x94, no-set, formOf}
 use Rattle.charset.specs.declared.Side.{Side}
 use Rattle.charset.specs.declared.Side.the-variants.{GL, GR}
 use Rattle.grammar.specs.Units.{Control, TextUnit, char, space, control, tab, newline, ltr, rtl, revert, ext, controlKind, kindOf, wide, top, shown, octets, codeUsed, good}
 use Rattle.grammar.specs.Reading.{direct}
-use Rattle.grammar.proofs.Complete.{and-left, and-right}
 use Rattle.grammar.proofs.Sound.{graphic-low}
 use Rattle.state.specs.Directions.{directions, writtenOf, stepOf, inForceOf}
 use Rattle.state.specs.declared.directions.Directions.{Directions}

@@ -3,7 +3,7 @@
 use Prim.Native.Nat.{ℕ, _+_, _≤_, _<_}
 use native.Mathlib.Omega.{arith}
 use mathlib.Core.Path.{_≡_, refl, sym, ap, ap₂, _∙_, subst}
-use mathlib.Core.Bool.{Bool, true, false, cond, _&&_, true≢false}
+use mathlib.Core.Bool.{Bool, true, false, cond, _&&_}
 use mathlib.Core.List.{List}
 use mathlib.Core.Option.{none, some}
 use mathlib.Core.Logic.{_⊎_, inl, inr, ⊎-elim}
@@ -13,6 +13,7 @@ use borrow.Author.Tests.{eqb-true, eqb-false, ltb-true, ltb-false, leb-true, leb
 use Rattle.base.specs.Kind as kind
 use Rattle.base.specs.Refusal as refusal
 use Rattle.base.specs.declared.Unit.{Unit as UnitRecord}
+use Rattle.base.proofs.Bools.{and-first, and-second}
 use Rattle.charset.specs.Charsets.{no-set, formOf}
 use Rattle.state.specs.declared.directions.Directions.{Directions}
 use Rattle.state.specs.declared.directions.Step.the-variants.{Stops}
@@ -21,14 +22,6 @@ use Rattle.grammar.specs.Reading.{direct}
 use Rattle.grammar.specs.Records.{readable, unitRead}
 use Rattle.shortest.specs.Records.{own, fault}
 use Rattle.shortest.specs.Offence.{Placed, Bad, bad-kind, bad-set, bad-code, bad-part, bad-d, bad-length, bad-content}
-
-and-first : (a b : Bool) → a ≡ false → (a && b) ≡ false
-and-first true b e = absurd (true≢false e)
-and-first false b e = refl
-
-and-second : (a b : Bool) → b ≡ false → (a && b) ≡ false
-and-second true b e = e
-and-second false b e = refl
 
 module _ (o : List ℕ) (r : UnitRecord) where
   abbrev text : List ℕ

@@ -2,13 +2,14 @@
 -- price and a unit that is shown has its need met. The writing reads as the units (`upper`): what it designates may stand there, and
 -- once a need is met its unit may be shown on the side that is used.
 use mathlib.Core.Path.{_≡_, refl, sym, ap, _∙_, subst}
-use mathlib.Core.Bool.{Bool, true, false, cond, _||_, true≢false}
+use mathlib.Core.Bool.{Bool, true, false, cond, _||_, true≢false, or-true}
 use mathlib.Core.List.{List, [], _∷_, _++_}
 use mathlib.Core.Option.{Option, none, some}
 use mathlib.Core.Logic.{_⊎_, ⊎-elim}
 use Prim.Native.Nat.{ℕ, _+_, _≤_}
 use native.Mathlib.Omega.{arith}
 use lib.ListN.{length, length-append}
+use Rattle.base.proofs.Bools.{and-left, or-cases}
 use Rattle.charset.specs.Charsets.{no-set, formOf, allowed, mayUse}
 use Rattle.grammar.specs.Grammar.{Shows, Reads, done, designate, show}
 use Rattle.grammar.proofs.Sound.{Legal}
@@ -19,11 +20,10 @@ use Rattle.charset.specs.declared.Side.{Side}
 use Rattle.charset.specs.declared.Side.the-variants.{GL, GR}
 use Rattle.grammar.specs.Units.{wide, TextUnit, char, space, control, ext, octets, designation, good, codeUsed}
 use Rattle.shortest.proofs.Sets.{space-sets, some-side}
-use Rattle.grammar.proofs.Complete.{and-left}
 use Rattle.state.specs.declared.Sets.{Sets}
 use Rattle.state.specs.State.{Standing, put, get}
 use Rattle.shortest.specs.Writing.{Need, free, either, stands, met, price, choose, after, need, placesOf, cost, used, designated, writing}
-use Rattle.shortest.proofs.Needs.{least-met, chosen-met, or-cases, or-true}
+use Rattle.shortest.proofs.Needs.{least-met, chosen-met}
 use Rattle.shortest.proofs.Costs.{designation-length, size-side, cost-steady}
 
 -- a unit that may be shown has its need met

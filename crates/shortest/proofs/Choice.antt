@@ -11,6 +11,7 @@ use mathlib.Core.Logic.{_⊎_, inl, inr, ⊎-elim}
 use lib.ListN.{length, length-append}
 use lib.Dec.{leb}
 use borrow.Author.Tests.{leb-false, eq-eqb}
+use Rattle.base.proofs.Bools.{or-none}
 use Rattle.charset.specs.declared.Side.{Side}
 use Rattle.charset.specs.declared.Side.the-variants.{GL, GR}
 use Rattle.charset.specs.Charsets.{allowed, mayUse}
@@ -22,7 +23,7 @@ use Rattle.grammar.proofs.Sound.{Legal}
 use Rattle.grammar.proofs.Agrees.{put-legal}
 use Rattle.shortest.specs.Writing.{Need, free, either, stands, met, price, least, choose, after, designated, size, need, placesOf, used, cost, writing}
 use Rattle.shortest.specs.Choice.{Serves, MayPrecede, LeftFirst, Lazy, nil, next, Preferred, Before, here, later, Chosen}
-use Rattle.shortest.proofs.Needs.{spent, or-none, chosen-met}
+use Rattle.shortest.proofs.Needs.{spent, chosen-met}
 use Rattle.shortest.proofs.Costs.{spent-length, size-side, writing-length}
 use Rattle.shortest.proofs.Bounds.{Good, good-side, shows-met, met-shows, lower}
 

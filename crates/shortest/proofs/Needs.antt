@@ -4,11 +4,12 @@
 use Prim.Native.Nat.{ℕ, _+_, _≤_, min}
 use native.Mathlib.Omega.{arith}
 use mathlib.Core.Path.{_≡_, refl, sym, ap, _∙_, subst}
-use mathlib.Core.Bool.{Bool, true, false, cond, _||_, true≢false}
-use mathlib.Core.Logic.{_⊎_, inl, inr, ⊎-elim}
+use mathlib.Core.Bool.{Bool, true, false, cond, _||_, or-true}
+use mathlib.Core.Logic.{_⊎_, ⊎-elim}
 use mathlib.Core.Option.{Option, none, some}
 use lib.Dec.{eqb, leb}
 use borrow.Author.Tests.{eqb-true, eqb-false, eq-eqb, leb-true, leb-false}
+use Rattle.base.proofs.Bools.{or-cases, or-none}
 use Rattle.charset.specs.declared.Side.{Side}
 use Rattle.charset.specs.declared.Side.the-variants.{GL, GR}
 use Rattle.state.specs.State.{Standing, get, put, put′}
@@ -54,18 +55,6 @@ put-over f st a p s = go (a .side) (p .side) refl
     go GR GR y = omega arith
     go GL GR y = subst (λ (e : Side). f (put′ GL (a .set) s) ≤ price p + f (put′ e (p .set) (put′ GL (a .set) s))) y (st p (put′ GL (a .set) s))
     go GR GL y = subst (λ (e : Side). f (put′ GR (a .set) s) ≤ price p + f (put′ e (p .set) (put′ GR (a .set) s))) y (st p (put′ GR (a .set) s))
-
-pub or-true : (a : Bool) → (a || true) ≡ true
-or-true true = refl
-or-true false = refl
-
-pub or-cases : (a b : Bool) → (a || b) ≡ true → (a ≡ true) ⊎ (b ≡ true)
-or-cases true b e = inl refl
-or-cases false b e = inr e
-
-pub or-none : (a b : Bool) → (a || b) ≡ false → (a ≡ false) × (b ≡ false)
-or-none true b e = absurd (true≢false e)
-or-none false b e = (refl, e)
 
 -- a need before what f says keeps that
 pub least-steady : (n : Need) (f : Sets → ℕ) → Steady f → Steady (least n f)

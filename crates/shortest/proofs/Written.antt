@@ -9,6 +9,7 @@ use mathlib.Core.Option.{Option, none, some}
 use lib.Dec.{eqb, leb, ltb}
 use lib.ListN.{length, List·getD-eq-default}
 use borrow.Author.Tests.{ltb-true, ltb-false, leb-true}
+use Rattle.base.proofs.Bools.{and-left, and-right, up-to}
 use Rattle.charset.specs.declared.Side.{Side}
 use Rattle.charset.specs.declared.Side.the-variants.{GL, GR}
 use Rattle.charset.specs.Charsets.{Row, no-set, form-96, form-94x94, row, rows, rowOf, formOf}
@@ -19,8 +20,6 @@ use Rattle.grammar.specs.Units.{TextUnit, char, space, control, tab, newline, l
 use Rattle.grammar.specs.Grammar.{Reads, done, designate, show}
 use Rattle.grammar.specs.Reading.{Octets}
 use Rattle.grammar.proofs.Sound.{graphic-low}
-use Rattle.grammar.proofs.Complete.{and-left, and-right}
-use Rattle.shortest.proofs.Sets.{up-to}
 use Rattle.shortest.specs.Writing.{need, cost, choose, after, designated, used, writing}
 use Rattle.shortest.proofs.Bounds.{Every, Good}
 

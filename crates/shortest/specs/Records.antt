@@ -1,12 +1,11 @@
 -- The writer over unit records: their reading, the refusals in their order, the answer and the output.
 use Prim.Native.Nat.{ℕ, suc, _+_, _*_}
-use mathlib.Core.Bool.{Bool, cond, _&&_}
+use mathlib.Core.Bool.{cond, _&&_}
 use mathlib.Core.List.{List, [], _∷_}
 use mathlib.Core.Option.{Option, none, some}
-use lib.ListN.{length, take, drop}
+use lib.ListN.{length}
 use lib.Dec.{eqb, leb, ltb}
 use Rattle.base.specs.Answers.{refusedAt}
-use Rattle.base.specs.Kind as kind
 use Rattle.base.specs.Limit as limit
 use Rattle.base.specs.Refusal as refusal
 use Rattle.base.specs.declared.Answer.{Answer}
@@ -15,9 +14,9 @@ use Rattle.state.specs.Directions.{undirected}
 use Rattle.state.specs.declared.directions.Directions.{Directions}
 use Rattle.state.specs.declared.directions.Step.{Step}
 use Rattle.state.specs.declared.directions.Step.the-variants.{Goes, Stops}
-use Rattle.grammar.specs.Units.{TextUnit, char, space, control, ext, unitOf, good}
+use Rattle.grammar.specs.Units.{TextUnit, char, space, control, ext, good}
 use Rattle.grammar.specs.Reading.{direct}
-use Rattle.grammar.specs.Records.{readable, unitRead, prepend, listReading}
+use Rattle.grammar.specs.Records.{unitRead, listReading}
 use Rattle.shortest.specs.Demand.{writeAnswer, outputAfter}
 
 -- the refusal of a unit by itself: 11 for "kind, set, code not used in its set, d outside 30-34, or a part outside its octets", 7 for a
