@@ -9,21 +9,20 @@ use mathlib.Core.List.{List, [], _∷_, _++_}
 use mathlib.Core.Option.{Option, none, some}
 use mathlib.Core.Logic.{_⊎_, inl, inr, ⊎-elim}
 use lib.ListN.{length, length-append}
-use lib.Dec.{leb}
-use borrow.Author.Tests.{leb-false, eq-eqb}
+use borrow.Author.Tests.{eq-eqb}
 use Rattle.base.proofs.Bools.{or-none}
 use Rattle.charset.specs.declared.Side.{Side}
 use Rattle.charset.specs.declared.Side.the-variants.{GL, GR}
 use Rattle.charset.specs.Charsets.{allowed, mayUse}
-use Rattle.state.specs.State.{Standing, on, put}
+use Rattle.state.specs.State.{Standing, on}
 use Rattle.state.specs.declared.Sets.{Sets}
 use Rattle.grammar.specs.Units.{TextUnit, char, space, control, ext, octets, good}
 use Rattle.grammar.specs.Grammar.{Shows, Reads, done, designate, show}
 use Rattle.grammar.proofs.Sound.{Legal}
 use Rattle.grammar.proofs.Agrees.{put-legal}
-use Rattle.shortest.specs.Writing.{Need, free, either, stands, met, price, least, choose, after, designated, size, need, placesOf, used, cost, writing}
+use Rattle.shortest.specs.Writing.{Need, free, either, stands, met, via, least, choose, after, designated, size, need, placesOf, used, cost, writing}
 use Rattle.shortest.specs.Choice.{Serves, MayPrecede, LeftFirst, Lazy, nil, next, Preferred, Before, here, later, Chosen}
-use Rattle.shortest.proofs.Needs.{spent, chosen-met}
+use Rattle.shortest.proofs.Needs.{spent, Chose, nothing, the-first, the-second, chose, chosen-met}
 use Rattle.shortest.proofs.Costs.{spent-length, size-side, writing-length}
 use Rattle.shortest.proofs.Bounds.{Good, good-side, shows-met, met-shows, lower}
 
@@ -131,9 +130,7 @@ least-permitted free f s (some q) p = absurd p
 least-permitted (either a b) f s none p = rw p (omega arith)
 least-permitted (either a b) f s (some q) p =
     rw (p .0)
-    (⊎-elim
-    (λ e. let h = ap (λ (r : Standing). price r + f (put r s)) e in omega arith)
-    (λ e. let h = ap (λ (r : Standing). price r + f (put r s)) e in omega arith) (p .1))
+    (⊎-elim (λ e. omega (arith, ap (λ (r : Standing). via r f s) e)) (λ e. omega (arith, ap (λ (r : Standing). via r f s) e)) (p .1))
 
 one-length : (t : List ℕ) (u : TextUnit) (d : Side) (o : Option Standing) → length (designated o ++ (octets d u ++ t)) ≡ spent o + (size u + length t)
 one-length t u d o = omega (arith, length-append (designated o) (octets d u ++ t), length-append (octets d u) t, spent-length o, size-side d u)
@@ -148,23 +145,18 @@ unfolding choose least
 best u free f s none z p e = inl refl
 best u free f s (some q) z p e = absurd p
 best u (either a b) f s none z p e = inl (rw p)
-best u (either a b) f s (some q) (two-serve sa sb k z) p e = go (leb (price a + f (put a s)) (price b + f (put b s))) refl (p .1) z
+best u (either a b) f s (some q) (two-serve sa sb k z) p e = go (chose a b f s) (p .1) z
   where
-    e′ : min (price a + f (put a s)) (price b + f (put b s)) ≡ price q + f (put q s)
-    e′ = rw (p .0) at e
+    least-q : min (via a f s) (via b f s) ≡ via q f s
+    least-q = rw (p .0) at e
 
-    chosen : (t : Bool) → leb (price a + f (put a s)) (price b + f (put b s)) ≡ t → choose (either a b) f s ≡ cond t (some a) (some b)
-    chosen t x = rw (p .0, x)
-
-    go : (t : Bool) → leb (price a + f (put a s)) (price b + f (put b s)) ≡ t → (q ≡ a) ⊎ (q ≡ b) → (a ≡ b) ⊎ Preferred u a b → Best u (choose (either a b) f s) (some q)
-    go true x (inl y) z = inl (ap some y ∙ sym (chosen true x))
-    go true x (inr y) (inl z) = inl (ap some (y ∙ sym z) ∙ sym (chosen true x))
-    go true x (inr y) (inr z) = inr (a, b, z, chosen true x, ap some y)
-    go false x (inr y) z = inl (ap some y ∙ sym (chosen false x))
-    go false x (inl y) z =
-        let l = leb-false (price a + f (put a s)) (price b + f (put b s)) x in
-        let h = ap (λ (r : Standing). price r + f (put r s)) y in
-        absurd (omega (arith, e′))
+    go : {o : Option Standing} → Chose a b f s o → (q ≡ a) ⊎ (q ≡ b) → (a ≡ b) ⊎ Preferred u a b → Best u o (some q)
+    go (nothing m) y z = absurd (true≢false (sym m ∙ p .0))
+    go (the-first m l) (inl y) z = inl (ap some y)
+    go (the-first m l) (inr y) (inl z) = inl (ap some (y ∙ sym z))
+    go (the-first m l) (inr y) (inr z) = inr (a, b, z, refl, ap some y)
+    go (the-second m l) (inr y) z = inl (ap some y)
+    go (the-second m l) (inl y) z = absurd (omega (arith, least-q, l, ap (λ (r : Standing). via r f s) y))
 
 -- what the writer designates before each unit
 unfoldable pub choices : List TextUnit → Sets → List (Option Standing)
@@ -197,12 +189,12 @@ first {s} l (next {us = us} {os = os} {t = t} u o d g m h f r) e =
 choose-permitted : (n : Need) (f : Sets → ℕ) (s : Sets) → Permitted n s (choose n f s)
 unfolding choose met
 choose-permitted free f s = refl
-choose-permitted (either a b) f s = go (met (either a b) s) refl (leb (price a + f (put a s)) (price b + f (put b s)))
+choose-permitted (either a b) f s = go (chose a b f s)
   where
-    go : (x : Bool) → met (either a b) s ≡ x → (y : Bool) → Permitted (either a b) s (cond x none (cond y (some a) (some b)))
-    go true e y = e
-    go false e true = (e, inl refl)
-    go false e false = (e, inr refl)
+    go : {o : Option Standing} → Chose a b f s o → Permitted (either a b) s o
+    go (nothing e) = e
+    go (the-first e l) = (e, inl refl)
+    go (the-second e l) = (e, inr refl)
 
 -- a unit is written in GL where its set stands there
 used-left : (u : TextUnit) (s : Sets) → met (need u) s ≡ true → Legal s → LeftFirst u (used (need u) s) s

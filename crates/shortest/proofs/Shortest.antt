@@ -24,7 +24,8 @@ use Rattle.shortest.specs.Writing.{cost, writing}
 use Rattle.shortest.specs.Demand.{writeAnswer, outputAfter, Least, Demand3}
 use Rattle.shortest.specs.Offence.{Grammatical}
 use Rattle.shortest.proofs.Costs.{writing-length}
-use Rattle.shortest.proofs.Bounds.{lower, upper, Every, Good}
+use Rattle.shortest.proofs.Bounds.{lower, Every, Good}
+use Rattle.shortest.proofs.Choice.{lazy-reads, writing-lazy}
 use Rattle.shortest.proofs.Written.{Contents, reads-contents, writing-octets}
 
 pub good-all : {s : Sets} {t : List ℕ} {us : List TextUnit} → Reads s t us → Good us
@@ -44,7 +45,7 @@ accepted {t} {us} r = agrees t us (r .octets) .0 r
 -- the writing is of the grammar and reads as the units, its length aside
 pub writing-grammatical : (us : List TextUnit) → Good us → Every Contents us → Lawful us 0 0 0 → Grammatical (writing us (fresh .sets)) us
 writing-grammatical us g c l =
-    record { octets = writing-octets us (fresh .sets) g c; reads = upper us (fresh .sets) fresh-legal g; rule = l }
+    record { octets = writing-octets us (fresh .sets) g c; reads = lazy-reads (writing-lazy us (fresh .sets) fresh-legal g); rule = l }
 
 -- within the limit it is accepted
 pub within-limit : {t : List ℕ} {us : List TextUnit} → Grammatical t us → length t ≤ limit.octets → ReadAs t us

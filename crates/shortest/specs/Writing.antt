@@ -43,10 +43,14 @@ need space = either (on GL 0) (on GL 2)
 need (control x) = free
 need (ext e xs) = free
 
--- the least cost of a need and what follows it, where f is the least cost of what follows: no designation where the need is met
+-- what a designation costs, and what follows it, where f is the least cost of what follows
+abbrev pub via : Standing → (Sets → ℕ) → Sets → ℕ
+via p f s = price p + f (put p s)
+
+-- the least cost of a need and what follows it: no designation where the need is met
 unfoldable pub least : Need → (Sets → ℕ) → Sets → ℕ
 least free f s = f s
-least (either a b) f s = cond (met (either a b) s) (f s) (min (price a + f (put a s)) (price b + f (put b s)))
+least (either a b) f s = cond (met (either a b) s) (f s) (min (via a f s) (via b f s))
 
 -- the octets of a unit, the same on either side
 unfoldable pub size : TextUnit → ℕ
@@ -60,8 +64,7 @@ cost (u ∷ us) s = size u + least (need u) (cost us) s
 -- what to designate for a need: nothing where it is met, and the preferred one where it costs no more
 unfoldable pub choose : Need → (Sets → ℕ) → Sets → Option Standing
 choose free f s = none
-choose (either a b) f s =
-    cond (met (either a b) s) none (cond (leb (price a + f (put a s)) (price b + f (put b s))) (some a) (some b))
+choose (either a b) f s = cond (met (either a b) s) none (cond (leb (via a f s) (via b f s)) (some a) (some b))
 
 -- the sets in force after it
 abbrev pub after : Option Standing → Sets → Sets
