@@ -1,18 +1,20 @@
 -- The number and the index that `checkRecords` gives are those of the first record that offends after those before it (`offence`), and
--- it gives none exactly where no record offends (`no-offence`): by induction on the list, with the directions in force. An offence has
--- the number 11, 7, 8 or 9 (`numbers`).
+-- it gives none exactly where no record offends (`no-offence`): both from what it gives (`verdict`), by induction on the list with the
+-- directions in force, and since the first is one. An offence has the number 11, 7, 8 or 9 (`numbers`).
 use Prim.Native.Nat.{ℕ, zero, suc, _+_, _<_}
 use native.Mathlib.Omega.{arith}
-use mathlib.Core.Path.{_≡_, refl, sym, ap, _∙_, subst}
+use mathlib.Core.Path.{_≡_, refl, sym, ap, ap₂, _∙_, subst}
 use mathlib.Core.Bool.{Bool, true, false, cond, _&&_}
 use mathlib.Core.List.{List, [], _∷_}
 use mathlib.Core.Option.{Option, none, some}
 use mathlib.Core.Logic.{_↔_, _⊎_, inl, inr}
 use lib.ListN.{getD, take}
-use lib.Dec.{leb}
+use lib.Dec.{leb, ltb}
+use borrow.Author.Tests.{ltb-true, ltb-false}
 use Rattle.base.specs.Choice.{pick}
 use Rattle.base.specs.Refusal as refusal
 use Rattle.base.specs.declared.Unit.{Unit as UnitRecord}
+use Rattle.base.proofs.Bools.{test}
 use Rattle.state.specs.Directions.{undirected, writtenOf, deeperOf, begunOf, revertedOf, stepOf}
 use Rattle.state.specs.declared.directions.Directions.{Directions}
 use Rattle.state.specs.declared.directions.Step.{Step}
@@ -47,86 +49,61 @@ module _ (o : List ℕ) (r : UnitRecord) (rs : List UnitRecord) (d : Directions)
       go zero h m q = never (fault (unitRead o r) d) e q
       go (suc j) h m q = f .before j (omega arith) m (sym (fault-next e j) ∙ q)
 
-  first-less : {next : Directions} {n i : ℕ} → fault (unitRead o r) d ≡ Goes next → FirstFrom o (r ∷ rs) d n (suc i) → FirstFrom o rs next n i
-  first-less {next} {n} {i} e f =
-      record {
-        inside = omega (arith, f .inside);
-        offends = sym (fault-next e i) ∙ f .offends;
-        before = λ j h m q. f .before (suc j) (omega arith) m (fault-next e j ∙ q);
-      }
+-- the check of records that are counted from k: none offends, or the first that does is record i of them
+data Verdict (o : List ℕ) (rs : List UnitRecord) (d : Directions) (k : ℕ) : Checked → Type 0 where
+  no-one : NoneFrom o rs d → Verdict o rs d k fine
+  the-first : {n m : ℕ} (i : ℕ) → m ≡ k + i → FirstFrom o rs d n i → Verdict o rs d k (faulty n m)
 
--- what is faulty is the first that offends
-told : (o : List ℕ) (rs : List UnitRecord) (k : ℕ) (d : Directions) (n m : ℕ) → checkRecords o rs k d ≡ faulty n m → (i : ℕ) × (m ≡ k + i) × FirstFrom o rs d n i
-unfolding checkRecords
-told o [] k d n m e =
-    let z : _≡_ {A = ℕ} 0 1 = cc in
-    absurd (omega arith)
-told o (r ∷ rs) k d n m e = go (fault (unitRead o r) d) refl e (λ next q. told o rs (suc k) next n m q)
-  where
-    go : (x : Step) → fault (unitRead o r) d ≡ x → onStep x k (λ next. checkRecords o rs (suc k) next) ≡ faulty n m
-        → ((next : Directions) → checkRecords o rs (suc k) next ≡ faulty n m → (i : ℕ) × (m ≡ suc k + i) × FirstFrom o rs next n i)
-        → (i : ℕ) × (m ≡ k + i) × FirstFrom o (r ∷ rs) d n i
-    go (Stops x) q e f =
-        let a : x ≡ n = cc in
-        let b : k ≡ m = cc in
-        (0, omega arith, first-here o r rs d (q ∙ ap Stops a))
-    go (Goes next) q e f =
-        let w = f next e in
-        let h : m ≡ suc k + w .0 = w .1 in
-        (suc (w .0), omega arith, first-later o r rs d q (w .2))
-
--- the first that offends is faulty
-tells : (o : List ℕ) (rs : List UnitRecord) (k : ℕ) (d : Directions) (n i : ℕ) → FirstFrom o rs d n i → checkRecords o rs k d ≡ faulty n (k + i)
+verdict : (o : List ℕ) (rs : List UnitRecord) (d : Directions) (k : ℕ) → Verdict o rs d k (checkRecords o rs k d)
 unfolding checkRecords faultAt directionsAfter
-tells o [] k d n i f = absurd (omega (arith, f .inside))
-tells o (r ∷ rs) k d n i f = go (fault (unitRead o r) d) refl i f (λ next j g. tells o rs (suc k) next n j g)
+verdict o [] d k = no-one (λ i h. absurd (omega arith))
+verdict o (r ∷ rs) d k = go (fault (unitRead o r) d) refl (λ next. verdict o rs next (suc k))
   where
-    go : (x : Step) → fault (unitRead o r) d ≡ x → (i : ℕ) → FirstFrom o (r ∷ rs) d n i
-        → ((next : Directions) (j : ℕ) → FirstFrom o rs next n j → checkRecords o rs (suc k) next ≡ faulty n (suc k + j))
-        → onStep x k (λ next. checkRecords o rs (suc k) next) ≡ faulty n (k + i)
-    go (Stops x) q zero f g =
-        let a : Stops x ≡ Stops n = sym q ∙ f .offends in
-        let b : x ≡ n = cc in
-        let c : k ≡ k + 0 = omega arith in
-        cc
-    go (Stops x) q (suc i) f g = absurd (f .before 0 (omega arith) x q)
-    go (Goes next) q zero f g = absurd (never (fault (unitRead o r) d) q (f .offends))
-    go (Goes next) q (suc i) f g =
-        let c : suc k + i ≡ k + suc i = omega arith in
-        g next i (first-less o r rs d q f) ∙ ap (faulty n) c
+    later : {next : Directions} {c : Checked} → fault (unitRead o r) d ≡ Goes next → Verdict o rs next (suc k) c → Verdict o (r ∷ rs) d k c
+    later {next} q (no-one f) = no-one none
+      where
+        none : NoneFrom o (r ∷ rs) d
+        none zero h n w = never (fault (unitRead o r) d) q w
+        none (suc i) h n w = f i (omega arith) n (sym (fault-next o r rs d q i) ∙ w)
+    later q (the-first {n} {m} i e f) = the-first {n = n} {m = m} (suc i) (omega (arith, e)) (first-later o r rs d q f)
+
+    go : (x : Step) → fault (unitRead o r) d ≡ x → ((next : Directions) → Verdict o rs next (suc k) (checkRecords o rs (suc k) next))
+        → Verdict o (r ∷ rs) d k (onStep x k (λ next. checkRecords o rs (suc k) next))
+    go (Stops n) q f = the-first {n = n} {m = k} 0 (omega arith) (first-here o r rs d q)
+    go (Goes next) q f = later q (f next)
+
+-- the first that offends is one
+one-first : {o : List ℕ} {rs : List UnitRecord} {d : Directions} {n m i j : ℕ} → FirstFrom o rs d n i → FirstFrom o rs d m j → (n ≡ m) × (i ≡ j)
+one-first {o} {rs} {d} {n} {m} {i} {j} f g = (cc (f .offends, g .offends, same), same)
+  where
+    same : i ≡ j
+    same =
+        test (ltb i j) (λ e. absurd (g .before i (ltb-true i j e) n (f .offends)))
+        (λ e. test (ltb j i) (λ l. absurd (f .before j (ltb-true j i l) m (g .offends))) (λ l. omega (arith, ltb-false i j e, ltb-false j i l)))
 
 -- the place of an offending unit
 pub offence : (o : List ℕ) (rs : List UnitRecord) (n i : ℕ) → (checkRecords o rs 0 undirected ≡ faulty n i) ↔ FirstOffends o rs n i
-offence o rs n i = (
-  λ e. let w = told o rs 0 undirected n i e in
-      let h : i ≡ 0 + w .0 = w .1 in
-      let q : w .0 ≡ i = omega arith in
-      subst (FirstFrom o rs undirected n) q (w .2),
-  λ f. let q : 0 + i ≡ i = omega arith in tells o rs 0 undirected n i f ∙ ap (faulty n) q,
-)
-
-none-here : (o : List ℕ) (rs : List UnitRecord) (k : ℕ) (d : Directions) → checkRecords o rs k d ≡ fine → NoneFrom o rs d
-unfolding checkRecords faultAt directionsAfter
-none-here o [] k d e = λ i h. absurd (omega arith)
-none-here o (r ∷ rs) k d e = go (fault (unitRead o r) d) refl e (λ next f. none-here o rs (suc k) next f)
+offence o rs n i = (λ e. told (subst (Verdict o rs undirected 0) e (verdict o rs undirected 0)), λ f. tells f (verdict o rs undirected 0))
   where
-    go : (x : Step) → fault (unitRead o r) d ≡ x → onStep x k (λ next. checkRecords o rs (suc k) next) ≡ fine
-        → ((next : Directions) → checkRecords o rs (suc k) next ≡ fine → NoneFrom o rs next) → NoneFrom o (r ∷ rs) d
-    go (Stops x) q e f i h n w =
-        let z : _≡_ {A = ℕ} 0 1 = cc in
-        absurd (omega arith)
-    go (Goes next) q e f zero h n w = never (fault (unitRead o r) d) q w
-    go (Goes next) q e f (suc i) h n w = f next e i (omega arith) n (sym (fault-next o r rs d q i) ∙ w)
+    told : {i : ℕ} → Verdict o rs undirected 0 (faulty n i) → FirstOffends o rs n i
+    told (the-first j e f) = subst (FirstFrom o rs undirected n) (let q : j ≡ _ = omega (arith, e) in q) f
+
+    tells : {c : Checked} → FirstOffends o rs n i → Verdict o rs undirected 0 c → c ≡ faulty n i
+    tells f (no-one h) = absurd (h i (f .inside) n (f .offends))
+    tells f (the-first {m = k} j e g) =
+        let s = one-first g f in
+        ap₂ faulty (s .0) (let q : k ≡ i = omega (arith, e, s .1) in q)
 
 -- no record offends
 pub no-offence : (o : List ℕ) (rs : List UnitRecord) → (checkRecords o rs 0 undirected ≡ fine) ↔ NoneOffends o rs
-no-offence o rs = (none-here o rs 0 undirected, λ h. go h (checkRecords o rs 0 undirected) refl)
+no-offence o rs = (λ e. told (subst (Verdict o rs undirected 0) e (verdict o rs undirected 0)), λ h. tells h (verdict o rs undirected 0))
   where
-    go : NoneOffends o rs → (c : Checked) → checkRecords o rs 0 undirected ≡ c → c ≡ fine
-    go h fine e = refl
-    go h (faulty n i) e =
-        let f = offence o rs n i .0 e in
-        absurd (h i (f .inside) n (f .offends))
+    told : Verdict o rs undirected 0 fine → NoneOffends o rs
+    told (no-one h) = h
+
+    tells : {c : Checked} → NoneOffends o rs → Verdict o rs undirected 0 c → c ≡ fine
+    tells h (no-one _) = refl
+    tells h (the-first {n} i e f) = absurd (h i (f .inside) n (f .offends))
 
 -- ---- the numbers of an offence
 

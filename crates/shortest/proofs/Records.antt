@@ -31,17 +31,30 @@ use Rattle.shortest.proofs.Written.{Contents}
 use Rattle.shortest.proofs.Shortest.{good-all, accepted, writing-grammatical, within-limit, no-shorter, units-within}
 use Rattle.shortest.proofs.Offence.{no-offence}
 
+-- where a list has a reading, its first record stands for a unit and the rest has a reading
+record FirstRead (o : List ℕ) (r : UnitRecord) (rs : List UnitRecord) (us : List TextUnit) : Type 0 where
+  unit : TextUnit
+  rest : List TextUnit
+  first : unitRead o r ≡ some unit
+  others : listReading o rs ≡ some rest
+  whole : unit ∷ rest ≡ us
+
+first-read : (o : List ℕ) (r : UnitRecord) (rs : List UnitRecord) (us : List TextUnit) → listReading o (r ∷ rs) ≡ some us → FirstRead o r rs us
+unfolding listReading
+first-read o r rs us e = go (unitRead o r) (listReading o rs) refl refl e
+  where
+    go : (x : Option TextUnit) (y : Option (List TextUnit)) → unitRead o r ≡ x → listReading o rs ≡ y → prepend x y ≡ some us → FirstRead o r rs us
+    go none y p q e = absurd (Option·none-ne-some us e)
+    go (some u) none p q e = absurd (Option·none-ne-some us e)
+    go (some u) (some vs) p q e = record { unit = u; rest = vs; first = p; others = q; whole = Option·some-injective (u ∷ vs) us e }
+
 -- a reading has a unit for each record
 pub reading-length : (o : List ℕ) (rs : List UnitRecord) (us : List TextUnit) → listReading o rs ≡ some us → length us ≡ length rs
 unfolding listReading
 reading-length o [] us e = ap length (sym (Option·some-injective [] us e))
-reading-length o (r ∷ rs) us e = go (unitRead o r) (listReading o rs) refl e (λ vs q. reading-length o rs vs q)
-  where
-    go : (x : Option TextUnit) (y : Option (List TextUnit)) → listReading o rs ≡ y → prepend x y ≡ some us
-        → ((vs : List TextUnit) → listReading o rs ≡ some vs → length vs ≡ length rs) → length us ≡ suc (length rs)
-    go none y q e k = absurd (Option·none-ne-some us e)
-    go (some u) none q e k = absurd (Option·none-ne-some us e)
-    go (some u) (some vs) q e k = ap length (sym (Option·some-injective (u ∷ vs) us e)) ∙ ap suc (k vs q)
+reading-length o (r ∷ rs) us e =
+    let w = first-read o r rs us e in
+    ap length (sym (w .whole)) ∙ ap suc (reading-length o rs (w .rest) (w .others))
 
 -- ---- good units that keep the direction rule, and lists with no offending record
 
@@ -49,23 +62,16 @@ pub units-fine : (o : List ℕ) (rs : List UnitRecord) (us : List TextUnit) (i :
     → directed us d ≡ true → checkRecords o rs i d ≡ fine
 unfolding checkRecords listReading directed
 units-fine o [] us i d e g h = refl
-units-fine o (r ∷ rs) us i d e g h = go (unitRead o r) (listReading o rs) refl e (λ vs next q gs f. units-fine o rs vs (suc i) next q gs f)
+units-fine o (r ∷ rs) us i d e g h =
+    let w = first-read o r rs us e in
+    let g′ : Good (w .unit ∷ w .rest) = subst Good (sym (w .whole)) g in
+    let h′ : directed (w .unit ∷ w .rest) d ≡ true = subst (λ (us : List TextUnit). directed us d ≡ true) (sym (w .whole)) h in
+    rw (w .first, g′ .0) (go (w .rest) (direct d (w .unit)) h′ (λ next f. units-fine o rs (w .rest) (suc i) next (w .others) (g′ .1) f))
   where
-    turn : (vs : List TextUnit) (x : Step) → passes x (λ next. directed vs next) ≡ true
+    go : (vs : List TextUnit) (x : Step) → passes x (λ next. directed vs next) ≡ true
         → ((next : Directions) → directed vs next ≡ true → checkRecords o rs (suc i) next ≡ fine) → onStep x i (λ next. checkRecords o rs (suc i) next) ≡ fine
-    turn vs (Stops n) h k = absurd (false≢true h)
-    turn vs (Goes next) h k = k next h
-
-    go : (x : Option TextUnit) (y : Option (List TextUnit)) → listReading o rs ≡ y → prepend x y ≡ some us
-        → ((vs : List TextUnit) (next : Directions) → listReading o rs ≡ some vs → Good vs → directed vs next ≡ true → checkRecords o rs (suc i) next ≡ fine)
-        → onStep (fault x d) i (λ next. checkRecords o rs (suc i) next) ≡ fine
-    go none y q e k = absurd (Option·none-ne-some us e)
-    go (some u) none q e k = absurd (Option·none-ne-some us e)
-    go (some u) (some vs) q e k =
-        let s = Option·some-injective (u ∷ vs) us e in
-        let g′ : Good (u ∷ vs) = subst Good (sym s) g in
-        let h′ : passes (direct d u) (λ next. directed vs next) ≡ true = subst (λ (w : List TextUnit). directed w d ≡ true) (sym s) h in
-        rw (g′ .0) (turn vs (direct d u) h′ (λ next f. k vs next q (g′ .1) f))
+    go vs (Stops n) h k = absurd (false≢true h)
+    go vs (Goes next) h k = k next h
 
 -- the units of a list with no offending record
 pub record Fine (o : List ℕ) (rs : List UnitRecord) (d : Directions) : Type 0 where
@@ -130,23 +136,25 @@ unit-contents k c code xs o =
     go true u v x y = x
     go false u v x y = y
 
-pub list-contents : (o : List ℕ) (rs : List UnitRecord) (us : List TextUnit) → Octets o → listReading o rs ≡ some us → Every Contents us
-unfolding listReading unitRead
-list-contents o [] us h e = subst (Every Contents) (Option·some-injective [] us e) tt
-list-contents o (r ∷ rs) us h e = go (readable o r) (listReading o rs) refl e (λ vs q. list-contents o rs vs h q)
+read-contents : (o : List ℕ) (r : UnitRecord) (u : TextUnit) → Octets o → unitRead o r ≡ some u → Contents u
+unfolding unitRead
+read-contents o r u h e = go (readable o r) e
   where
-    u : TextUnit
-    u = unitOf (r .kind) (r .set) (r .code) (take (r .length) (drop (r .start) o))
+    xs : List ℕ
+    xs = take (r .length) (drop (r .start) o)
 
-    go : (b : Bool) (y : Option (List TextUnit)) → listReading o rs ≡ y → prepend (cond b (some u) none) y ≡ some us
-        → ((vs : List TextUnit) → listReading o rs ≡ some vs → Every Contents vs) → Every Contents us
-    go false y q e k = absurd (Option·none-ne-some us e)
-    go true none q e k = absurd (Option·none-ne-some us e)
-    go true (some vs) q e k =
-        subst (Every Contents) (Option·some-injective (u ∷ vs) us e) (
-          unit-contents (r .kind) (r .set) (r .code) (take (r .length) (drop (r .start) o)) (take-octets (r .length) (drop (r .start) o) (drop-octets (r .start) o h)),
-          k vs q,
-        )
+    go : (b : Bool) → cond b (some (unitOf (r .kind) (r .set) (r .code) xs)) none ≡ some u → Contents u
+    go true e =
+        subst Contents (Option·some-injective (unitOf (r .kind) (r .set) (r .code) xs) u e)
+        (unit-contents (r .kind) (r .set) (r .code) xs (take-octets (r .length) (drop (r .start) o) (drop-octets (r .start) o h)))
+    go false e = absurd (Option·none-ne-some u e)
+
+pub list-contents : (o : List ℕ) (rs : List UnitRecord) (us : List TextUnit) → Octets o → listReading o rs ≡ some us → Every Contents us
+unfolding listReading
+list-contents o [] us h e = subst (Every Contents) (Option·some-injective [] us e) tt
+list-contents o (r ∷ rs) us h e =
+    let w = first-read o r rs us e in
+    subst (Every Contents) (w .whole) (read-contents o r (w .unit) h (w .first), list-contents o rs (w .rest) h (w .others))
 
 -- ---- the theorems
 
