@@ -18,7 +18,7 @@ use Rattle.base.proofs.Bools.{pick-both, up-to, upTo}
 use Rattle.charset.specs.Charsets.{row, rows, rowOf, mayUse, allowed, fitsOf, find, setOf, formOf}
 
 -- past the table there is no set
-row-past : (n : ℕ) → 15 ≤ n → rowOf n ≡ row 0 0 false false
+pub row-past : (n : ℕ) → 15 ≤ n → rowOf n ≡ row 0 0 false false
 row-past n h = List·getD-eq-default rows (row 0 0 false false) h
 
 -- a row that fits has the designation's form, side and final octet
@@ -97,7 +97,7 @@ allowed-below d c e = go (ltb c 15) refl
 -- ---- the code's comparisons
 
 -- a test that holds of the fifteen, and past them, holds of each number
-by-rows : (f : ℕ → Bool) → upTo 15 f ≡ true → ((n : ℕ) → 15 ≤ n → f n ≡ true) → (n : ℕ) → f n ≡ true
+pub by-rows : (f : ℕ → Bool) → upTo 15 f ≡ true → ((n : ℕ) → 15 ≤ n → f n ≡ true) → (n : ℕ) → f n ≡ true
 by-rows f t past n = go (ltb n 15) refl
   where
     go : (b : Bool) → ltb n 15 ≡ b → f n ≡ true

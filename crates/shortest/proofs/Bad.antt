@@ -13,7 +13,7 @@ use borrow.Author.Tests.{eqb-true, eqb-false, ltb-true, ltb-false, leb-true, leb
 use Rattle.base.specs.Kind as kind
 use Rattle.base.specs.Refusal as refusal
 use Rattle.base.specs.declared.Unit.{Unit as UnitRecord}
-use Rattle.base.proofs.Bools.{and-first, and-second}
+use Rattle.base.proofs.Bools.{test, and-first, and-second}
 use Rattle.charset.specs.Charsets.{no-set, formOf}
 use Rattle.state.specs.declared.directions.Directions.{Directions}
 use Rattle.state.specs.declared.directions.Step.the-variants.{Stops}
@@ -26,6 +26,10 @@ use Rattle.shortest.specs.Offence.{Placed, Bad, bad-kind, bad-set, bad-c
 module _ (o : List ℕ) (r : UnitRecord) where
   abbrev text : List ℕ
   text = take (r .length) (drop (r .start) o)
+
+  -- the part of a segment lies in its octets
+  abbrev inside : Bool
+  inside = leb (r .start + r .length) (length o)
 
   -- ---- the unit of a record
 
@@ -73,14 +77,12 @@ module _ (o : List ℕ) (r : UnitRecord) where
   bad-stops d (bad-set e h) = stops-read d (read-char e) (and-first (ltb (r .set) no-set) (codeUsed (formOf (r .set)) (r .code)) (le-ltb (r .set) no-set h)) refl
   bad-stops d (bad-code e h) = stops-read d (read-char e) (and-second (ltb (r .set) no-set) (codeUsed (formOf (r .set)) (r .code)) h) refl
   bad-stops d (bad-part e h) = stops-none d (read-outside e h)
-  bad-stops d (bad-d e h) = go (leb (r .start + r .length) (length o)) refl
-    where
-      go : (b : Bool) → leb (r .start + r .length) (length o) ≡ b → fault (unitRead o r) d ≡ Stops refusal.bad-unit
-      go true q =
-          stops-read d (read-segment e (leb-true (r .start + r .length) (length o) q))
-          (ap (λ (b : Bool). b && leb (length text) mostOfSegment && segment (r .code) 0 text) (d-wrong h))
-          (ap (λ (b : Bool). cond b refusal.bad-segment refusal.bad-unit) (d-wrong h))
-      go false q = stops-none d (read-outside e (leb-false (r .start + r .length) (length o) q))
+  bad-stops d (bad-d e h) =
+      test inside
+      (λ q. stops-read d (read-segment e (leb-true (r .start + r .length) (length o) q))
+      (ap (λ (b : Bool). b && leb (length text) mostOfSegment && segment (r .code) 0 text) (d-wrong h))
+      (ap (λ (b : Bool). cond b refusal.bad-segment refusal.bad-unit) (d-wrong h)))
+      (λ q. stops-none d (read-outside e (leb-false (r .start + r .length) (length o) q)))
   bad-stops d (bad-length p h) =
       let l : mostOfSegment < length text = subst (λ (n : ℕ). mostOfSegment < n) (sym (text-length (p .inside))) h in
       stops-read d (read-segment (p .kinds) (p .inside))
@@ -102,63 +104,61 @@ module _ (o : List ℕ) (r : UnitRecord) where
   -- a kind that uses no field
   judge-plain : kind.space ≤ r .kind → r .kind < kind.segment → Stands
   unfolding unitRead readable unitOf good
-  judge-plain h l = go (eqb (r .kind) kind.space) refl
-    where
-      go : (b : Bool) → eqb (r .kind) kind.space ≡ b → Stands
-      go true e = (space, rw (eqb-true (r .kind) kind.space e), refl)
-      go false e =
-          let n : r .kind ≡ kind.character → ⊥ = λ q. omega arith in
-          let m : r .kind ≡ kind.segment → ⊥ = λ q. omega arith in (
-            control (controlOf (r .kind)),
-            rw (ne-eqb (r .kind) kind.segment m, ne-eqb (r .kind) kind.character n, e, lt-ltb (r .kind) kind.segment l),
-            refl,
-          )
+  judge-plain h l =
+      let n : r .kind ≡ kind.character → ⊥ = λ q. omega arith in
+      let m : r .kind ≡ kind.segment → ⊥ = λ q. omega arith in
+      test (eqb (r .kind) kind.space) (λ e. (space, rw (eqb-true (r .kind) kind.space e), refl))
+      (λ e. (
+        control (controlOf (r .kind)),
+        rw (ne-eqb (r .kind) kind.segment m, ne-eqb (r .kind) kind.character n, e, lt-ltb (r .kind) kind.segment l),
+        refl,
+      ))
 
   judge-char : r .kind ≡ kind.character → Judged
   unfolding good
-  judge-char k = go (ltb (r .set) no-set) (codeUsed (formOf (r .set)) (r .code)) refl refl
-    where
-      go : (a b : Bool) → ltb (r .set) no-set ≡ a → codeUsed (formOf (r .set)) (r .code) ≡ b → Judged
-      go false b p q = inl (refusal.bad-unit, bad-set k (ltb-false (r .set) no-set p))
-      go true false p q = inl (refusal.bad-unit, bad-code k q)
-      go true true p q = inr (char (r .set) (r .code), read-char k, ap₂ _&&_ p q)
+  judge-char k =
+      test (ltb (r .set) no-set)
+      (λ p. test (codeUsed (formOf (r .set)) (r .code)) (λ q. inr (char (r .set) (r .code), read-char k, ap₂ _&&_ p q))
+      (λ q. inl (refusal.bad-unit, bad-code k q)))
+      (λ p. inl (refusal.bad-unit, bad-set k (ltb-false (r .set) no-set p)))
+
+  judge-placed : Placed o r → Judged
+  unfolding good
+  judge-placed p =
+      test (leb (r .length) mostOfSegment)
+      (λ t. test (segment (r .code) 0 text)
+      (λ v. inr (
+        ext (r .code) text,
+        read-segment (p .kinds) (p .inside),
+        ap₂ _&&_ (ap₂ _&&_ (d-right p) (ap (λ (n : ℕ). leb n mostOfSegment) (text-length (p .inside)) ∙ t)) v,
+      ))
+      (λ v. inl (refusal.bad-segment, bad-content p v)))
+      (λ t. inl (refusal.bad-segment, bad-length p (leb-false (r .length) mostOfSegment t)))
 
   judge-segment : r .kind ≡ kind.segment → Judged
-  unfolding good
   judge-segment k =
-      go (leb (r .start + r .length) (length o)) (leb 0x30 (r .code)) (leb (r .code) 0x34) (leb (r .length) mostOfSegment) (segment (r .code) 0 text) refl refl refl refl refl
-    where
-      go : (a b c d e : Bool) → leb (r .start + r .length) (length o) ≡ a → leb 0x30 (r .code) ≡ b → leb (r .code) 0x34 ≡ c → leb (r .length) mostOfSegment ≡ d
-          → segment (r .code) 0 text ≡ e → Judged
-      go false b c d e p q s t v = inl (refusal.bad-unit, bad-part k (leb-false (r .start + r .length) (length o) p))
-      go true false c d e p q s t v = inl (refusal.bad-unit, bad-d k (inl (leb-false 0x30 (r .code) q)))
-      go true true false d e p q s t v = inl (refusal.bad-unit, bad-d k (inr (leb-false (r .code) 0x34 s)))
-      go true true true d e p q s t v =
-          let i = leb-true (r .start + r .length) (length o) p in
-          last d e i (record { kinds = k; inside = i; low = leb-true 0x30 (r .code) q; high = leb-true (r .code) 0x34 s }) t v
-        where
-          last : (d e : Bool) → r .start + r .length ≤ length o → Placed o r → leb (r .length) mostOfSegment ≡ d → segment (r .code) 0 text ≡ e → Judged
-          last false e i p t v = inl (refusal.bad-segment, bad-length p (leb-false (r .length) mostOfSegment t))
-          last true false i p t v = inl (refusal.bad-segment, bad-content p v)
-          last true true i p t v =
-              inr (
-                ext (r .code) text,
-                read-segment k i,
-                ap₂ _&&_ (ap₂ _&&_ (d-right p) (ap (λ (n : ℕ). leb n mostOfSegment) (text-length i) ∙ t)) v,
-              )
+      test inside
+      (λ i. test (leb 0x30 (r .code))
+      (λ l. test (leb (r .code) 0x34)
+      (λ h. judge-placed (record {
+        kinds = k;
+        inside = leb-true (r .start + r .length) (length o) i;
+        low = leb-true 0x30 (r .code) l;
+        high = leb-true (r .code) 0x34 h;
+      }))
+      (λ h. inl (refusal.bad-unit, bad-d k (inr (leb-false (r .code) 0x34 h)))))
+      (λ l. inl (refusal.bad-unit, bad-d k (inl (leb-false 0x30 (r .code) l)))))
+      (λ i. inl (refusal.bad-unit, bad-part k (leb-false (r .start + r .length) (length o) i)))
 
   judge : Judged
-  judge = go (ltb kind.segment (r .kind)) (eqb (r .kind) kind.character) (eqb (r .kind) kind.segment) refl refl refl
-    where
-      go : (a b c : Bool) → ltb kind.segment (r .kind) ≡ a → eqb (r .kind) kind.character ≡ b → eqb (r .kind) kind.segment ≡ c → Judged
-      go true b c p q s = inl (refusal.bad-unit, bad-kind (ltb-true kind.segment (r .kind) p))
-      go false true c p q s = judge-char (eqb-true (r .kind) kind.character q)
-      go false false true p q s = judge-segment (eqb-true (r .kind) kind.segment s)
-      go false false false p q s =
-          let n : r .kind ≡ kind.character → ⊥ = eqb-false (r .kind) kind.character q in
-          let m : r .kind ≡ kind.segment → ⊥ = eqb-false (r .kind) kind.segment s in
-          let l = ltb-false kind.segment (r .kind) p in
-          inr (judge-plain (omega arith) (omega arith))
+  judge =
+      test (ltb kind.segment (r .kind)) (λ p. inl (refusal.bad-unit, bad-kind (ltb-true kind.segment (r .kind) p)))
+      (λ p. test (eqb (r .kind) kind.character) (λ q. judge-char (eqb-true (r .kind) kind.character q))
+      (λ q. test (eqb (r .kind) kind.segment) (λ s. judge-segment (eqb-true (r .kind) kind.segment s))
+      (λ s. let n : r .kind ≡ kind.character → ⊥ = eqb-false (r .kind) kind.character q in
+      let m : r .kind ≡ kind.segment → ⊥ = eqb-false (r .kind) kind.segment s in
+      let l = ltb-false kind.segment (r .kind) p in
+      inr (judge-plain (omega arith) (omega arith)))))
 
   pub not-bad : ((n : ℕ) → Bad o r n → ⊥) → (d : Directions) → (u : TextUnit) × (unitRead o r ≡ some u) × (good u ≡ true) × (fault (unitRead o r) d ≡ direct d u)
   not-bad n d =
