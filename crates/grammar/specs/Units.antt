@@ -57,15 +57,15 @@ unfoldable pub textOctets : List ℕ → ℕ
 textOctets [] = 0
 textOctets (x ∷ xs) = cond (eqb x 2) (length xs) (textOctets xs)
 
-abbrev pub textOf : TextUnit → ℕ
-textOf (char c k) = 0
-textOf space = 0
-textOf (control x) = 0
-textOf (ext e xs) = textOctets xs
+abbrev pub textIn : TextUnit → ℕ
+textIn (char c k) = 0
+textIn space = 0
+textIn (control x) = 0
+textIn (ext e xs) = textOctets xs
 
 -- whether a unit counts as text for the direction rule
 abbrev pub counts : TextUnit → Bool
-counts u = countsAsText (kindOf u) (textOf u)
+counts u = countsAsText (kindOf u) (textIn u)
 
 -- ---- octets
 

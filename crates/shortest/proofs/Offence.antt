@@ -22,7 +22,7 @@ use Rattle.state.specs.declared.directions.Step.the-variants.{Goes, Stops}
 use Rattle.grammar.specs.Units.{TextUnit, char, space, control, ext, good}
 use Rattle.grammar.specs.Reading.{direct}
 use Rattle.grammar.specs.Records.{unitRead}
-use Rattle.shortest.specs.Records.{own, fault, Checked, fine, faulty, onStep, checkRecords}
+use Rattle.shortest.specs.Records.{own, fault, Finding, fine, faulty, onStep, checkRecords}
 use Rattle.shortest.specs.Offence.{stepTo, directionsAfter, noRecord, faultAt, FirstFrom, FirstOffends, NoneFrom, NoneOffends}
 
 never : {d : Directions} {n : ℕ} (x : Step) → x ≡ Goes d → x ≡ Stops n → ⊥
@@ -50,7 +50,7 @@ module _ (o : List ℕ) (r : UnitRecord) (rs : List UnitRecord) (d : Directions)
       go (suc j) h m q = f .before j (omega arith) m (sym (fault-next e j) ∙ q)
 
 -- the check of records that are counted from k: none offends, or the first that does is record i of them
-data Verdict (o : List ℕ) (rs : List UnitRecord) (d : Directions) (k : ℕ) : Checked → Type 0 where
+data Verdict (o : List ℕ) (rs : List UnitRecord) (d : Directions) (k : ℕ) : Finding → Type 0 where
   no-one : NoneFrom o rs d → Verdict o rs d k fine
   the-first : {n m : ℕ} (i : ℕ) → m ≡ k + i → FirstFrom o rs d n i → Verdict o rs d k (faulty n m)
 
@@ -59,7 +59,7 @@ unfolding checkRecords faultAt directionsAfter
 verdict o [] d k = no-one (λ i h. absurd (omega arith))
 verdict o (r ∷ rs) d k = go (fault (unitRead o r) d) refl (λ next. verdict o rs next (suc k))
   where
-    later : {next : Directions} {c : Checked} → fault (unitRead o r) d ≡ Goes next → Verdict o rs next (suc k) c → Verdict o (r ∷ rs) d k c
+    later : {next : Directions} {c : Finding} → fault (unitRead o r) d ≡ Goes next → Verdict o rs next (suc k) c → Verdict o (r ∷ rs) d k c
     later {next} q (no-one f) = no-one none
       where
         none : NoneFrom o (r ∷ rs) d
@@ -88,7 +88,7 @@ offence o rs n i = (λ e. told (subst (Verdict o rs undirected 0) e (verdict o r
     told : {i : ℕ} → Verdict o rs undirected 0 (faulty n i) → FirstOffends o rs n i
     told (the-first j e f) = subst (FirstFrom o rs undirected n) (let q : j ≡ _ = omega (arith, e) in q) f
 
-    tells : {c : Checked} → FirstOffends o rs n i → Verdict o rs undirected 0 c → c ≡ faulty n i
+    tells : {c : Finding} → FirstOffends o rs n i → Verdict o rs undirected 0 c → c ≡ faulty n i
     tells f (no-one h) = absurd (h i (f .inside) n (f .offends))
     tells f (the-first {m = k} j e g) =
         let s = one-first g f in
@@ -101,7 +101,7 @@ no-offence o rs = (λ e. told (subst (Verdict o rs undirected 0) e (verdict o rs
     told : Verdict o rs undirected 0 fine → NoneOffends o rs
     told (no-one h) = h
 
-    tells : {c : Checked} → NoneOffends o rs → Verdict o rs undirected 0 c → c ≡ fine
+    tells : {c : Finding} → NoneOffends o rs → Verdict o rs undirected 0 c → c ≡ fine
     tells h (no-one _) = refl
     tells h (the-first {n} i e f) = absurd (h i (f .inside) n (f .offends))
 

@@ -21,7 +21,7 @@ use Rattle.state.specs.declared.directions.Step.the-variants.{Goes, Stops}
 use Rattle.grammar.specs.Units.{TextUnit, char, space, control, ext, controlOf, unitOf, good}
 use Rattle.grammar.specs.Reading.{direct, Octets, ReadAs}
 use Rattle.grammar.proofs.Rule.{directed, passes, direction-rule}
-use Rattle.shortest.specs.Writing.{cost, writing}
+use Rattle.shortest.specs.Writing.{shortestOf, shortestCount}
 use Rattle.grammar.specs.Records.{readable, unitRead, prepend, listReading}
 use Rattle.shortest.specs.Records.{fault, own, fine, faulty, onStep, checkRecords}
 use Rattle.shortest.specs.Offence.{NoneOffends, Grammatical}
@@ -160,7 +160,7 @@ list-contents o (r ∷ rs) us h e =
 
 -- the writing of a list with no offending record reads as the list
 pub list-grammatical : (o : List ℕ) (rs : List UnitRecord) (us : List TextUnit) → Octets o → checkRecords o rs 0 undirected ≡ fine → listReading o rs ≡ some us
-    → Grammatical (writing us (fresh .sets)) us
+    → Grammatical (shortestOf us) us
 list-grammatical o rs us h c e =
     let f = fine-units o rs 0 undirected c in
     let s : f .units ≡ us = Option·some-injective (f .units) us (sym (f .reading) ∙ e) in
@@ -169,7 +169,7 @@ list-grammatical o rs us h c e =
 
 -- and is accepted, where it is not over the limit
 pub list-written : (o : List ℕ) (rs : List UnitRecord) (us : List TextUnit) → Octets o → checkRecords o rs 0 undirected ≡ fine → listReading o rs ≡ some us
-    → cost us (fresh .sets) ≤ limit.octets → ReadAs (writing us (fresh .sets)) us
+    → shortestCount us ≤ limit.octets → ReadAs (shortestOf us) us
 list-written o rs us h c e l = within-limit (list-grammatical o rs us h c e) (omega (arith, writing-length us (fresh .sets)))
 
 abbrev pub SomeString : List ℕ → List UnitRecord → Type 0
@@ -178,7 +178,7 @@ SomeString o rs = (us : List TextUnit) × (t : List ℕ) × (listReading o rs �
 fine-read : (o : List ℕ) (rs : List UnitRecord) → Octets o → (checkRecords o rs 0 undirected ≡ fine) ↔ SomeString o rs
 fine-read o rs h = (
   λ c. let f = fine-units o rs 0 undirected c in
-      (f .units, writing (f .units) (fresh .sets), f .reading, list-grammatical o rs (f .units) h c (f .reading)),
+      (f .units, shortestOf (f .units), f .reading, list-grammatical o rs (f .units) h c (f .reading)),
   λ w. units-fine o rs (w .0) 0 undirected (w .2) (good-all (w .3 .reads)) (direction-rule (w .0) .1 (w .3 .rule)),
 )
 
@@ -190,7 +190,7 @@ no-offence-read o rs h = (λ n. fine-read o rs h .0 (no-offence o rs .1 n), λ w
 pub record ReadList (o : List ℕ) (rs : List UnitRecord) (us : List TextUnit) : Type 0 where
   pub short : length rs ≤ limit.units
   pub none : NoneOffends o rs
-  pub within : cost us (fresh .sets) ≤ limit.octets
+  pub within : shortestCount us ≤ limit.octets
 
 pub read-list : (o : List ℕ) (rs : List UnitRecord) (us : List TextUnit) (t : List ℕ) → listReading o rs ≡ some us → ReadAs t us → ReadList o rs us
 read-list o rs us t e r =

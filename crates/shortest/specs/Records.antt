@@ -33,20 +33,20 @@ fault none d = Stops refusal.bad-unit
 fault (some u) d = cond (good u) (direct d u) (Stops (own u))
 
 -- the first offending record: its number and index
-pub data Checked : Type 0 where
-  fine : Checked
-  faulty : ℕ → ℕ → Checked
+pub data Finding : Type 0 where
+  fine : Finding
+  faulty : ℕ → ℕ → Finding
 
-abbrev pub onStep : Step → ℕ → (Directions → Checked) → Checked
+abbrev pub onStep : Step → ℕ → (Directions → Finding) → Finding
 onStep (Goes d) i f = f d
 onStep (Stops n) i f = faulty n i
 
 -- of records that are counted from i
-unfoldable pub checkRecords : List ℕ → List UnitRecord → ℕ → Directions → Checked
+unfoldable pub checkRecords : List ℕ → List UnitRecord → ℕ → Directions → Finding
 checkRecords o [] i d = fine
 checkRecords o (r ∷ rs) i d = onStep (fault (unitRead o r) d) i (λ next. checkRecords o rs (suc i) next)
 
-abbrev pub afterCheck : Checked → Answer → Answer
+abbrev pub afterCheck : Finding → Answer → Answer
 afterCheck fine a = a
 afterCheck (faulty n i) a = refusedAt n i
 

@@ -8,7 +8,7 @@ use lib.ListN.{length}
 use Rattle.charset.specs.declared.Side.{Side}
 use Rattle.charset.specs.declared.Side.the-variants.{GL, GR}
 use Rattle.charset.specs.Charsets.{allowed}
-use Rattle.state.specs.State.{Standing, on, get, put}
+use Rattle.state.specs.State.{Standing, on, get, put, fresh}
 use Rattle.state.specs.declared.Sets.{Sets}
 use Rattle.grammar.specs.Units.{TextUnit, char, space, control, ext, octets, designation}
 
@@ -87,3 +87,10 @@ writing [] s = []
 writing (u ∷ us) s =
     let o = choose (need u) (cost us) s in
     designated o ++ (octets (used (need u) (after o s)) u ++ writing us (after o s))
+
+-- from the fresh state: the shortest writing of units, and its octets
+abbrev pub shortestOf : List TextUnit → List ℕ
+shortestOf us = writing us (fresh .sets)
+
+abbrev pub shortestCount : List TextUnit → ℕ
+shortestCount us = cost us (fresh .sets)
