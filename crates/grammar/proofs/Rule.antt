@@ -3,7 +3,7 @@
 use Prim.Native.Nat.{ℕ, _+_, _-_, _≤_, _<_}
 use native.Mathlib.Omega.{arith}
 use mathlib.Core.Path.{_≡_, refl}
-use mathlib.Core.Bool.{Bool, true, false, false≢true, true≢false}
+use mathlib.Core.Bool.{Bool, true, false, true≢false}
 use mathlib.Core.List.{List, [], _∷_}
 use mathlib.Core.Logic.{_↔_, _⊎_, inl, inr, ⊎-elim}
 use lib.Dec.{eqb, ltb}
@@ -11,7 +11,7 @@ use borrow.Author.Tests.{eqb-true, eqb-false, ltb-true, ltb-false}
 use Rattle.base.specs.Choice.{pick}
 use Rattle.state.specs.Directions.{directions, undirected, writtenOf, deeperOf, begunOf, revertedOf, stepOf}
 use Rattle.base.specs.Limit as limit
-use Rattle.base.proofs.Bools.{off}
+use Rattle.base.proofs.Bools.{off, pick-by}
 use Rattle.state.specs.declared.directions.Directions.{Directions}
 use Rattle.state.specs.declared.directions.Step.{Step}
 use Rattle.state.specs.declared.directions.Step.the-variants.{Goes, Stops}
@@ -42,9 +42,7 @@ data After (O : Type 0) (b r t : ℕ) : Step → Type 0 where
   stops : {n : ℕ} → (O → ⊥) → After O b r t (Stops n)
 
 by : {O : Type 0} {b r t : ℕ} {x y : Step} (q : Bool) → (q ≡ true → After O b r t x) → (q ≡ false → After O b r t y) → After O b r t (pick q x y)
-unfolding pick
-by true f g = f refl
-by false f g = g refl
+by {O} {b} {r} {t} q f g = pick-by (After O b r t) q f g
 
 both : {P Q : Type 0} {b r t : ℕ} {x : Step} → P → After Q b r t x → After (P × Q) b r t x
 both p (goes o l) = goes (p, o) l
@@ -54,6 +52,9 @@ module _ (d : Directions) (b r t : ℕ) (l : Like d b r t) where
   after-text : Like (directions (d .depth) (d .levels) (d .marked) true) b r (t + 1)
   after-text =
       record { open-now = l .open-now; marks = l .marks; no-marks = l .no-marks; texts = λ _. omega arith; no-texts = λ e. absurd (true≢false e) }
+
+  after-mark : {n v b′ r′ : ℕ} → n + r′ ≡ b′ → 1 ≤ b′ + r′ → Like (directions n v true (d .texted)) b′ r′ t
+  after-mark e h = record { open-now = e; marks = λ _. h; no-marks = λ x. absurd (true≢false x); texts = l .texts; no-texts = l .no-texts }
 
   written : After (TextMay b r) b r (t + 1) (writtenOf d)
   unfolding writtenOf
@@ -70,7 +71,7 @@ module _ (d : Directions) (b r t : ℕ) (l : Like d b r t) where
       by (ltb (d .depth) limit.depth)
       (λ e. let q = ltb-true (d .depth) limit.depth e in
       goes (omega (arith, l .open-now))
-      (record { open-now = omega (arith, l .open-now); marks = λ _. omega arith; no-marks = λ x. absurd (true≢false x); texts = l .texts; no-texts = l .no-texts }))
+      (after-mark (omega (arith, l .open-now)) (omega arith)))
       (λ e. let q = ltb-false (d .depth) limit.depth e in stops (λ o. omega (arith, l .open-now)))
 
   begun : (way : ℕ) → After (BeginMay b r t) (b + 1) r t (begunOf way d)
@@ -88,7 +89,7 @@ module _ (d : Directions) (b r t : ℕ) (l : Like d b r t) where
       (λ e. let q = eqb-true (d .depth) 0 e in stops (λ o. omega (arith, l .open-now)))
       (λ e. let q : d .depth ≡ 0 → ⊥ = eqb-false (d .depth) 0 e in
       goes (omega (arith, l .open-now))
-      (record { open-now = omega (arith, l .open-now); marks = λ _. omega arith; no-marks = λ x. absurd (true≢false x); texts = l .texts; no-texts = l .no-texts }))
+      (after-mark (omega (arith, l .open-now)) (omega arith)))
 
 abbrev Same : List TextUnit → Directions → ℕ → ℕ → ℕ → Type 0
 Same us d b r t = (directed us d ≡ true) ↔ Lawful us b r t
@@ -96,7 +97,7 @@ Same us d b r t = (directed us d ≡ true) ↔ Lawful us b r t
 follow : {O : Type 0} {b r t : ℕ} {x : Step} (us : List TextUnit) → After O b r t x → ((d : Directions) → Like d b r t → Same us d b r t)
     → (passes x (λ next. directed us next) ≡ true) ↔ (O × Lawful us b r t)
 follow us (goes {d} o l) k = (λ e. (o, k d l .0 e), λ p. k d l .1 (p .1))
-follow us (stops n) k = (λ e. absurd (false≢true e), λ p. absurd (n (p .0)))
+follow us (stops n) k = (off, λ p. absurd (n (p .0)))
 
 -- the same step, said by another condition
 likewise : {O P : Type 0} {b r t : ℕ} {x : Step} → (O → P) → (P → O) → After O b r t x → After P b r t x
@@ -124,4 +125,4 @@ same (u ∷ us) d b r t l = follow us (step d b r t l u) (λ e m. same us e (add
 pub direction-rule : (us : List TextUnit) → (directed us undirected ≡ true) ↔ Lawful us 0 0 0
 direction-rule us =
     same us undirected 0 0 0
-    (record { open-now = omega arith; marks = λ e. absurd (false≢true e); no-marks = λ _. omega arith; texts = λ e. absurd (false≢true e); no-texts = λ _. refl })
+    (record { open-now = omega arith; marks = off; no-marks = λ _. omega arith; texts = off; no-texts = λ _. refl })

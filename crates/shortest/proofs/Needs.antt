@@ -9,7 +9,7 @@ use mathlib.Core.Logic.{_⊎_, ⊎-elim}
 use mathlib.Core.Option.{Option, none, some}
 use lib.Dec.{eqb, leb}
 use borrow.Author.Tests.{eqb-true, eqb-false, eq-eqb, leb-true, leb-false}
-use Rattle.base.proofs.Bools.{or-cases, or-none}
+use Rattle.base.proofs.Bools.{cond-by, or-cases, or-none}
 use Rattle.charset.specs.declared.Side.{Side}
 use Rattle.charset.specs.declared.Side.the-variants.{GL, GR}
 use Rattle.state.specs.State.{Standing, get, put, put′}
@@ -86,12 +86,10 @@ pub data Chose (a b : Standing) (f : Sets → ℕ) (s : Sets) : Option Standing 
 
 pub chose : (a b : Standing) (f : Sets → ℕ) (s : Sets) → Chose a b f s (choose (either a b) f s)
 unfolding choose
-chose a b f s = go (met (either a b) s) (leb (via a f s) (via b f s)) refl refl
-  where
-    go : (x y : Bool) → met (either a b) s ≡ x → leb (via a f s) (via b f s) ≡ y → Chose a b f s (cond x none (cond y (some a) (some b)))
-    go true y e l = nothing e
-    go false true e l = the-first e (leb-true (via a f s) (via b f s) l)
-    go false false e l = the-second e (leb-false (via a f s) (via b f s) l)
+chose a b f s =
+    cond-by (Chose a b f s) (met (either a b) s) nothing
+    (λ e. cond-by (Chose a b f s) (leb (via a f s) (via b f s)) (λ l. the-first e (leb-true (via a f s) (via b f s) l))
+    (λ l. the-second e (leb-false (via a f s) (via b f s) l)))
 
 -- the choice costs the least
 pub least-chosen : (n : Need) (f : Sets → ℕ) (s : Sets) → least n f s ≡ spent (choose n f s) + f (after (choose n f s) s)

@@ -14,7 +14,7 @@ use borrow.Author.Tests.{ltb-true, ltb-false}
 use Rattle.base.specs.Choice.{pick}
 use Rattle.base.specs.Refusal as refusal
 use Rattle.base.specs.declared.Unit.{Unit as UnitRecord}
-use Rattle.base.proofs.Bools.{test}
+use Rattle.base.proofs.Bools.{test, pick-by, cond-by}
 use Rattle.state.specs.Directions.{undirected, writtenOf, deeperOf, begunOf, revertedOf, stepOf}
 use Rattle.state.specs.declared.directions.Directions.{Directions}
 use Rattle.state.specs.declared.directions.Step.{Step}
@@ -112,19 +112,16 @@ data Ruled : Step → Type 0 where
   goes : {d : Directions} → Ruled (Goes d)
   stops : {n : ℕ} → (n ≡ refusal.direction) ⊎ (n ≡ refusal.too-deep) → Ruled (Stops n)
 
-ruled-pick : (b : Bool) (x y : Step) → Ruled x → Ruled y → Ruled (pick b x y)
-unfolding pick
-ruled-pick true x y h k = h
-ruled-pick false x y h k = k
+ruled-pick : (b : Bool) {x y : Step} → Ruled x → Ruled y → Ruled (pick b x y)
+ruled-pick b h k = pick-by Ruled b (λ _. h) (λ _. k)
 
 ruled : (x : Bool) (kind : ℕ) (d : Directions) → Ruled (stepOf x kind d)
 unfolding stepOf writtenOf begunOf deeperOf revertedOf
 ruled x kind d =
     let eight : Ruled (Stops refusal.direction) = stops (inl refl) in
-    let deeper : (way : ℕ) → Ruled (deeperOf way d) = λ way. ruled-pick _ _ _ goes (stops (inr refl)) in
-    let begun : (way : ℕ) → Ruled (begunOf way d) = λ way. ruled-pick _ _ _ (deeper way) (ruled-pick _ _ _ eight (deeper way)) in
-    ruled-pick _ _ _ (ruled-pick _ _ _ (ruled-pick _ _ _ eight goes) goes)
-    (ruled-pick _ _ _ (begun 0) (ruled-pick _ _ _ (begun 1) (ruled-pick _ _ _ (ruled-pick _ _ _ eight goes) goes)))
+    let deeper : (way : ℕ) → Ruled (deeperOf way d) = λ way. ruled-pick _ goes (stops (inr refl)) in
+    let begun : (way : ℕ) → Ruled (begunOf way d) = λ way. ruled-pick _ (deeper way) (ruled-pick _ eight (deeper way)) in
+    ruled-pick _ (ruled-pick _ (ruled-pick _ eight goes) goes) (ruled-pick _ (begun 0) (ruled-pick _ (begun 1) (ruled-pick _ (ruled-pick _ eight goes) goes)))
 
 abbrev pub Number : ℕ → Type 0
 Number n = (n ≡ refusal.bad-unit) ⊎ (n ≡ refusal.bad-segment) ⊎ (n ≡ refusal.direction) ⊎ (n ≡ refusal.too-deep)
@@ -133,11 +130,7 @@ own-number : (u : TextUnit) → Number (own u)
 own-number (char c k) = inl refl
 own-number space = inl refl
 own-number (control x) = inl refl
-own-number (ext e xs) = go (leb 0x30 e && leb e 0x34)
-  where
-    go : (b : Bool) → Number (cond b refusal.bad-segment refusal.bad-unit)
-    go true = inr (inl refl)
-    go false = inl refl
+own-number (ext e xs) = cond-by Number (leb 0x30 e && leb e 0x34) (λ _. inr (inl refl)) (λ _. inl refl)
 
 pub numbers : (x : Option TextUnit) (d : Directions) (n : ℕ) → fault x d ≡ Stops n → Number n
 numbers none d n e =

@@ -13,12 +13,13 @@ use lib.Dec.{eqb, ltb}
 use Rattle.base.specs.Kind as kind
 use Rattle.base.specs.Limit as limit
 use Rattle.base.specs.declared.Unit.{Unit as UnitRecord}
+use Rattle.base.proofs.Bools.{test, cond-by}
 use Rattle.state.specs.State.{fresh}
 use Rattle.state.specs.Directions.{undirected}
 use Rattle.state.specs.declared.directions.Directions.{Directions}
 use Rattle.state.specs.declared.directions.Step.{Step}
 use Rattle.state.specs.declared.directions.Step.the-variants.{Goes, Stops}
-use Rattle.grammar.specs.Units.{TextUnit, char, space, control, ext, controlOf, unitOf, good}
+use Rattle.grammar.specs.Units.{TextUnit, space, unitOf, good}
 use Rattle.grammar.specs.Reading.{direct, Octets, ReadAs}
 use Rattle.grammar.proofs.Rule.{directed, passes, direction-rule}
 use Rattle.shortest.specs.Writing.{shortestOf, shortestCount}
@@ -102,15 +103,11 @@ fine-units o (r ∷ rs) i d e = go (unitRead o r) refl e (λ next q. fine-units 
           rule = rw q (f .rule);
         }
 
-    test : (u : TextUnit) → unitRead o r ≡ some u → (b : Bool) → good u ≡ b → onStep (cond b (direct d u) (Stops (own u))) i (λ next. checkRecords o rs (suc i) next) ≡ fine
-        → ((next : Directions) → checkRecords o rs (suc i) next ≡ fine → Fine o rs next) → Fine o (r ∷ rs) d
-    test u p true g e k = step u p g (direct d u) refl e k
-    test u p false g e k = absurd (never (own u) i e)
-
     go : (x : Option TextUnit) → unitRead o r ≡ x → onStep (fault x d) i (λ next. checkRecords o rs (suc i) next) ≡ fine
         → ((next : Directions) → checkRecords o rs (suc i) next ≡ fine → Fine o rs next) → Fine o (r ∷ rs) d
     go none p e k = absurd (never 11 i e)
-    go (some u) p e k = test u p (good u) refl e k
+    go (some u) p e k =
+        test (good u) (λ g. step u p g (direct d u) refl (rw g at e) k) (λ g. absurd (never (own u) i (rw g at e)))
 
 -- ---- the octets of extended segments
 
@@ -128,13 +125,8 @@ take-octets (suc n) (x ∷ xs) o (suc i) = take-octets n xs (λ j. o (suc j)) i
 unit-contents : (k c code : ℕ) (xs : List ℕ) → Octets xs → Contents (unitOf k c code xs)
 unfolding unitOf
 unit-contents k c code xs o =
-    go (eqb k kind.character) (char c code) _ tt
-    (go (eqb k kind.space) space _ tt
-    (go (ltb k kind.segment) (control (controlOf k)) (ext code xs) tt o))
-  where
-    go : (b : Bool) (u v : TextUnit) → Contents u → Contents v → Contents (cond b u v)
-    go true u v x y = x
-    go false u v x y = y
+    cond-by Contents (eqb k kind.character) (λ _. tt)
+    (λ _. cond-by Contents (eqb k kind.space) (λ _. tt) (λ _. cond-by Contents (ltb k kind.segment) (λ _. tt) (λ _. o)))
 
 read-contents : (o : List ℕ) (r : UnitRecord) (u : TextUnit) → Octets o → unitRead o r ≡ some u → Contents u
 unfolding unitRead
