@@ -15,7 +15,8 @@ use Rattle.base.proofs.Bools.{and-left, and-right}
 use Rattle.charset.specs.Charsets.{form-94x94, no-set, formOf}
 use Rattle.charset.specs.declared.Side.{Side}
 use Rattle.charset.specs.declared.Side.the-variants.{GL, GR}
-use Rattle.grammar.specs.Units.{Control, TextUnit, char, space, control, tab, newline, ltr, rtl, revert, ext, controlKind, kindOf, wide, top, shown, octets, codeUsed, good}
+use Rattle.grammar.specs.Units.{Control, tab, newline, ltr, rtl, revert, controlKind}
+use Rattle.grammar.specs.Units.{TextUnit, char, space, control, ext, kindOf, wide, top, shown, octets, codeUsed, good}
 use Rattle.grammar.specs.Reading.{direct}
 use Rattle.grammar.proofs.Sound.{graphic-low}
 use Rattle.state.specs.Directions.{directions, writtenOf, stepOf, inForceOf}
@@ -74,7 +75,8 @@ text-side d (ext e xs) t g h = absurd (omega arith)
 abbrev texted : Directions → Directions
 texted d = directions (d .depth) (d .levels) (d .marked) true
 
-written-by : (a b : Bool) (d next : Directions) → pick a (pick b (Stops refusal.direction) (Goes (texted d))) (Goes (texted d)) ≡ Goes next → inForceOf next ≡ inForceOf d
+written-by : (a b : Bool) (d next : Directions) → pick a (pick b (Stops refusal.direction) (Goes (texted d))) (Goes (texted d)) ≡ Goes next
+    → inForceOf next ≡ inForceOf d
 unfolding pick inForceOf
 written-by true true d next e = let z : _≡_ {A = ℕ} 0 1 = cc in absurd (omega arith)
 written-by true false d next e = let z : texted d ≡ next = cc in rw (← z)

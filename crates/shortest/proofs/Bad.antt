@@ -74,7 +74,8 @@ module _ (o : List ℕ) (r : UnitRecord) where
   pub bad-stops : (d : Directions) {n : ℕ} → Bad o r n → fault (unitRead o r) d ≡ Stops n
   unfolding good
   bad-stops d (bad-kind h) = stops-none d (read-kind h)
-  bad-stops d (bad-set e h) = stops-read d (read-char e) (and-first (ltb (r .set) no-set) (codeUsed (formOf (r .set)) (r .code)) (le-ltb (r .set) no-set h)) refl
+  bad-stops d (bad-set e h) =
+      stops-read d (read-char e) (and-first (ltb (r .set) no-set) (codeUsed (formOf (r .set)) (r .code)) (le-ltb (r .set) no-set h)) refl
   bad-stops d (bad-code e h) = stops-read d (read-char e) (and-second (ltb (r .set) no-set) (codeUsed (formOf (r .set)) (r .code)) h) refl
   bad-stops d (bad-part e h) = stops-none d (read-outside e h)
   bad-stops d (bad-d e h) =
@@ -89,7 +90,8 @@ module _ (o : List ℕ) (r : UnitRecord) where
       (ap₂ (λ (b c : Bool). b && c && segment (r .code) 0 text) (d-right p) (lt-leb (length text) mostOfSegment l))
       (ap (λ (b : Bool). cond b refusal.bad-segment refusal.bad-unit) (d-right p))
   bad-stops d (bad-content p h) =
-      stops-read d (read-segment (p .kinds) (p .inside)) (and-second (leb 0x30 (r .code) && leb (r .code) 0x34 && leb (length text) mostOfSegment) (segment (r .code) 0 text) h)
+      stops-read d (read-segment (p .kinds) (p .inside))
+      (and-second (leb 0x30 (r .code) && leb (r .code) 0x34 && leb (length text) mostOfSegment) (segment (r .code) 0 text) h)
       (ap (λ (b : Bool). cond b refusal.bad-segment refusal.bad-unit) (d-right p))
 
   -- ---- a record that does not
@@ -160,6 +162,7 @@ module _ (o : List ℕ) (r : UnitRecord) where
       let l = ltb-false kind.segment (r .kind) p in
       inr (judge-plain (omega arith) (omega arith)))))
 
-  pub not-bad : ((n : ℕ) → Bad o r n → ⊥) → (d : Directions) → (u : TextUnit) × (unitRead o r ≡ some u) × (good u ≡ true) × (fault (unitRead o r) d ≡ direct d u)
+  pub not-bad : ((n : ℕ) → Bad o r n → ⊥) → (d : Directions)
+      → (u : TextUnit) × (unitRead o r ≡ some u) × (good u ≡ true) × (fault (unitRead o r) d ≡ direct d u)
   not-bad n d =
       ⊎-elim (λ w. absurd (n (w .0) (w .1))) (λ w. (w .0, w .1, w .2, rw (w .1, w .2))) judge

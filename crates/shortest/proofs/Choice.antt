@@ -56,7 +56,8 @@ split (char c k) g = go (allowed GL c) (allowed GR c) refl refl (good-side c k g
 
     go : (x y : Bool) → allowed GL c ≡ x → allowed GR c ≡ y → (x || y) ≡ true → Split (char c k) (placesOf x y c)
     go true true p q l =
-        two-serve (refl, p) (refl, q) (λ r h. ⊎-elim (λ x. inl (same-standing r GL c x (h .0))) (λ x. inr (same-standing r GR c x (h .0))) (left-or-right (r .side)))
+        two-serve (refl, p) (refl, q)
+        (λ r h. ⊎-elim (λ x. inl (same-standing r GL c x (h .0))) (λ x. inr (same-standing r GR c x (h .0))) (left-or-right (r .side)))
         (inr (refl, refl))
     go true false p q l = two-serve (refl, p) (refl, p) (λ r h. inl (only GL GR q left-or-right r h)) (inl refl)
     go false y p q l = two-serve (refl, q ∙ l) (refl, q ∙ l) (λ r h. inl (only GR GL p right-or-left r h)) (inl refl)
@@ -115,9 +116,9 @@ precedes u s (some p) g m = go (need u) (split u g) m
     go : (n : Need) → Split u n → Permitted n s (some p) → MayPrecede u s (some p)
     go free (none-serves k) m = absurd m
     go (either a b) (two-serve x y k z) m =
-        let off = or-none (stands a s) (stands b s) (m .0) in (
+        let n = or-none (stands a s) (stands b s) (m .0) in (
           ⊎-elim (λ e. subst (Serves u) (sym e) x) (λ e. subst (Serves u) (sym e) y) (m .1),
-          λ q h. ⊎-elim (λ e. subst (λ (r : Standing). stands r s ≡ false) (sym e) (off .0)) (λ e. subst (λ (r : Standing). stands r s ≡ false) (sym e) (off .1)) (k q h),
+          λ q h. ⊎-elim (λ e. ap (λ (r : Standing). stands r s) e ∙ n .0) (λ e. ap (λ (r : Standing). stands r s) e ∙ n .1) (k q h),
         )
 
 -- ---- among the shortest the writer's is first
@@ -172,7 +173,8 @@ first {s} l (next {us = us} {os = os} {t = t} u o d g m h f r) e =
     (λ q. ⊎-elim
     (λ h. inl (ap₂ _∷_ q (h ∙ ap (λ (x : Option Standing). choices us (after x s)) q)))
     (λ h. inr (subst (λ (x : Option Standing). Before (u ∷ us) (x ∷ choices us (after x s)) (o ∷ os)) q (later u o h))) (first l′ r tail))
-    (λ w. inr (subst₂ (λ (x y : Option Standing). Before (u ∷ us) (x ∷ choices us (after (choose (need u) (cost us) s) s)) (y ∷ os)) (sym (w .3)) (sym (w .4)) (here u (w .0) (w .1) (w .2))))
+    (λ w. inr (subst₂ (λ (x y : Option Standing). Before (u ∷ us) (x ∷ choices us (after (choose (need u) (cost us) s) s)) (y ∷ os))
+    (sym (w .3)) (sym (w .4)) (here u (w .0) (w .1) (w .2))))
     (best u (need u) (cost us) s o (split u g) p (omega (arith, lazy-lower l′ r, least-permitted (need u) (cost us) s o p, one-length t u d o)))
   where
     p : Permitted (need u) s o
@@ -213,7 +215,8 @@ pub writing-lazy : (us : List TextUnit) (s : Sets) → Legal s → Good us → L
 unfolding choices writing
 writing-lazy [] s l g = nil
 writing-lazy (u ∷ us) s l g =
-    next u o (used (need u) (after o s)) (g .0) m (met-shows u (after o s) (chosen-met (need u) (cost us) s)) (used-left u (after o s) (chosen-met (need u) (cost us) s) l′)
+    let e = chosen-met (need u) (cost us) s in
+    next u o (used (need u) (after o s)) (g .0) m (met-shows u (after o s) e) (used-left u (after o s) e l′)
     (writing-lazy us (after o s) l′ (g .1))
   where
     o : Option Standing

@@ -109,7 +109,8 @@ module _ (rs : List UnitRecord) (o : List ℕ) (work : ℕ) (out : List ℕ) whe
         g .units,
         choices (g .units) (fresh .sets),
         g .reading,
-        subst (Chosen (g .units) (fresh .sets) (choices (g .units) (fresh .sets))) (sym (output-string g)) (the-choice (g .units) (fresh .sets) fresh-legal (g .good-ones)),
+        subst (Chosen (g .units) (fresh .sets) (choices (g .units) (fresh .sets))) (sym (output-string g))
+            (the-choice (g .units) (fresh .sets) fresh-legal (g .good-ones)),
       )
 
   pub output-one : answered .number ≡ refusal.accepted → (us : List TextUnit) (os : List (Option Standing)) (t : List ℕ)

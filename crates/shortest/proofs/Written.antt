@@ -17,7 +17,8 @@ use Rattle.charset.proofs.Laws.{row-past, by-rows}
 use Rattle.state.specs.State.{Standing, on}
 use Rattle.text.specs.Text.{graphicOf}
 use Rattle.state.specs.declared.Sets.{Sets}
-use Rattle.grammar.specs.Units.{TextUnit, char, space, control, tab, newline, ltr, rtl, revert, ext, wide, top, shown, octets, designation, codeUsed, segment, mostOfSegment, good}
+use Rattle.grammar.specs.Units.{TextUnit, char, space, control, tab, newline, ltr, rtl, revert, ext}
+use Rattle.grammar.specs.Units.{wide, top, shown, octets, designation, codeUsed, segment, mostOfSegment, good}
 use Rattle.grammar.specs.Grammar.{Reads, done, designate, show}
 use Rattle.grammar.specs.Reading.{Octets}
 use Rattle.grammar.proofs.Sound.{graphic-low}
@@ -73,7 +74,8 @@ char-octets : (d : Side) (c k : ℕ) → codeUsed (formOf c) k ≡ true → Octe
 unfolding octets wide codeUsed
 char-octets d c k u = go (eqb (formOf c) form-94x94) (eqb (formOf c) form-96) u
   where
-    go : (x y : Bool) → cond x (graphicOf (k / 256) && graphicOf (k % 256)) (cond y (leb 0x20 k && leb k 0x7F) (graphicOf k)) ≡ true → Octets (shown x (top d) k)
+    go : (x y : Bool) → cond x (graphicOf (k / 256) && graphicOf (k % 256)) (cond y (leb 0x20 k && leb k 0x7F) (graphicOf k)) ≡ true
+        → Octets (shown x (top d) k)
     go true y e =
         let a = graphic-low (k / 256) (and-left (graphicOf (k / 256)) (graphicOf (k % 256)) e) in
         let b = graphic-low (k % 256) (and-right (graphicOf (k / 256)) (graphicOf (k % 256)) e) in
