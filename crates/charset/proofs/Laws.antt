@@ -5,7 +5,7 @@
 use Prim.Native.Nat.{ℕ, suc, _+_, _-_, _<_, _≤_}
 use native.Mathlib.Omega.{arith}
 use lib.Dec.{eqb, leb, ltb}
-use borrow.Author.Tests.{eqb-true, ne-eqb, le-ltb, leb-true, ltb-true, ltb-false}
+use borrow.Author.Tests.{eqb-true, ne-eqb, le-ltb, leb-true, le-leb, ltb-true, ltb-false, not-true}
 use mathlib.Core.Path.{_≡_, refl, sym, subst}
 use mathlib.Core.Bool.{Bool, true, false, not, false≢true}
 use mathlib.Core.List.{List, [], _∷_}
@@ -14,8 +14,8 @@ use Rattle.charset.specs.Charsets.{Row}
 use Rattle.charset.specs.declared.Side.{Side}
 use Rattle.charset.specs.declared.Side.the-variants.{GL, GR}
 use Rattle.base.specs.Choice.{pick}
-use Rattle.base.proofs.Bools.{pick-both, up-to, upTo}
-use Rattle.charset.specs.Charsets.{row, rows, rowOf, mayUse, allowed, fitsOf, find, setOf, formOf}
+use Rattle.base.proofs.Bools.{implies, implies-elim, pick-both, up-to, upTo}
+use Rattle.charset.specs.Charsets.{form-94x94, row, rows, rowOf, mayUse, allowed, fitsOf, find, setOf, formOf}
 
 -- past the table there is no set
 pub row-past : (n : ℕ) → 15 ≤ n → rowOf n ≡ row 0 0 false false
@@ -47,7 +47,9 @@ module _ (f : ℕ) (s : Side) (x : ℕ) (d : Row) where
       let h = find-from ws (suc i) in
       step-from w ws i (fitsOf w f s x) refl (omega arith)
 
-  step-fits : (w : Row) (ws : List Row) (i : ℕ) (b : Bool) → fitsOf w f s x ≡ b → (find ws f s x (suc i) < suc i + length ws → fitsOf (getD ws (find ws f s x (suc i) - suc i) d) f s x ≡ true) → find (w ∷ ws) f s x i < i + suc (length ws) → fitsOf (getD (w ∷ ws) (find (w ∷ ws) f s x i - i) d) f s x ≡ true
+  step-fits : (w : Row) (ws : List Row) (i : ℕ) (b : Bool) → fitsOf w f s x ≡ b
+      → (find ws f s x (suc i) < suc i + length ws → fitsOf (getD ws (find ws f s x (suc i) - suc i) d) f s x ≡ true)
+      → find (w ∷ ws) f s x i < i + suc (length ws) → fitsOf (getD (w ∷ ws) (find (w ∷ ws) f s x i - i) d) f s x ≡ true
   unfolding find pick
   step-fits w ws i true e go h =
       let z : i - i ≡ 0 = omega arith in
@@ -154,6 +156,16 @@ pub right-rule : (n : ℕ) → rightRule n ≡ allowed GR n
 unfolding side-test same rightRule allowed mayUse pick
 right-rule n = same-is _ _ (by-rows (side-test GR rightRule) refl right-past n)
 
+-- sets 12 to 14 are those of two octets
+pub narrow-form : (c : ℕ) → c < 12 → eqb (formOf c) form-94x94 ≡ false
+unfolding formOf
+narrow-form c h = not-true (eqb (formOf c) form-94x94) (up-to 12 (λ m. not (eqb (formOf m) form-94x94)) refl c h)
+
+pub wide-form : (c : ℕ) → 12 ≤ c → c < 15 → eqb (formOf c) form-94x94 ≡ true
+unfolding formOf
+wide-form c h k =
+    implies-elim (leb 12 c) (eqb (formOf c) form-94x94) (up-to 15 (λ m. implies (leb 12 m) (eqb (formOf m) form-94x94)) refl c k) (le-leb 12 c h)
+
 -- a final octet that is known
 pub finds : (n f x f′ x′ : ℕ) (d : Side) → f ≡ f′ → x ≡ x′ → n ≡ setOf f′ d x′ → n ≡ setOf f d x
 finds n f x f′ x′ d a b h = rw (a, b) h
@@ -176,10 +188,12 @@ module _ (f x : ℕ) where
   unfolding setOf find fitsOf mayUse pick
   none-right-94 e a = rw e (simp (other 0x49 x a, dead))
 
-  pub none-right-96 : f ≡ 2 → (x ≡ 0x41 → ⊥) → (x ≡ 0x42 → ⊥) → (x ≡ 0x43 → ⊥) → (x ≡ 0x44 → ⊥) → (x ≡ 0x46 → ⊥) → (x ≡ 0x47 → ⊥) → (x ≡ 0x48 → ⊥) → (x ≡ 0x4C → ⊥) → (x ≡ 0x4D → ⊥) → 15 ≡ setOf f GR x
+  pub none-right-96 : f ≡ 2 → (x ≡ 0x41 → ⊥) → (x ≡ 0x42 → ⊥) → (x ≡ 0x43 → ⊥) → (x ≡ 0x44 → ⊥) → (x ≡ 0x46 → ⊥)
+      → (x ≡ 0x47 → ⊥) → (x ≡ 0x48 → ⊥) → (x ≡ 0x4C → ⊥) → (x ≡ 0x4D → ⊥) → 15 ≡ setOf f GR x
   unfolding setOf find fitsOf mayUse pick
   none-right-96 e a b c d g h i j k =
-      rw e (simp (other 0x41 x a, other 0x42 x b, other 0x43 x c, other 0x44 x d, other 0x46 x g, other 0x47 x h, other 0x48 x i, other 0x4C x j, other 0x4D x k))
+      rw e
+      (simp (other 0x41 x a, other 0x42 x b, other 0x43 x c, other 0x44 x d, other 0x46 x g, other 0x47 x h, other 0x48 x i, other 0x4C x j, other 0x4D x k))
 
   pub none-94x94 : (d : Side) → f ≡ 3 → (x ≡ 0x41 → ⊥) → (x ≡ 0x42 → ⊥) → (x ≡ 0x43 → ⊥) → 15 ≡ setOf f d x
   unfolding setOf find fitsOf pick

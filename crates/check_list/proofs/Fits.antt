@@ -2,17 +2,18 @@
 use Prim.Native.Nat.{ℕ, _+_, _-_, _*_, _/_, _%_, _≤_, _<_}
 use native.Mathlib.Omega.{arith}
 use mathlib.Core.Path.{_≡_, refl, sym, ap, ap₂, _∙_, subst}
-use mathlib.Core.Bool.{Bool, true, false, cond, _&&_, not}
+use mathlib.Core.Bool.{Bool, true, false, cond, _&&_}
 use mathlib.Core.List.{List}
 use mathlib.Core.Option.{none, some, Option·none-ne-some, Option·some-injective}
 use lib.Dec.{eqb, leb, ltb}
 use lib.ListN.{length, set, take, drop}
-use borrow.Author.Tests.{eqb-true, eqb-false, ne-eqb, lt-ltb, le-ltb, lt-leb, ltb-true, ltb-false, leb-true, not-true}
+use borrow.Author.Tests.{eqb-true, eqb-false, ne-eqb, lt-ltb, le-ltb, lt-leb, ltb-true, ltb-false, leb-true}
 use Rattle.base.specs.Choice.{pick}
 use Rattle.base.specs.Kind as kind
 use Rattle.base.specs.declared.Unit.{Unit as UnitRecord}
-use Rattle.base.proofs.Bools.{and-left, and-right, up-to}
+use Rattle.base.proofs.Bools.{and-left, and-right}
 use Rattle.charset.specs.Charsets.{form-96, form-94x94, formOf}
+use Rattle.charset.proofs.Laws.{narrow-form, wide-form}
 use Rattle.text.specs.Text.{graphicOf}
 use Rattle.grammar.specs.Units.{TextUnit, char, space, control, ext, controlOf, unitOf, codeUsed, segment, good}
 use Rattle.grammar.proofs.Sound.{graphic-low}
@@ -22,16 +23,6 @@ use Rattle.rows.proofs.Units.{unit-segment}
 use Rattle.check_list.specs.Row.{Stowable}
 
 -- ---- codes
-
-narrow-form : (t : ℕ) → t < 12 → eqb (formOf t) form-94x94 ≡ false
-unfolding formOf
-narrow-form t h = not-true (eqb (formOf t) form-94x94) (up-to 12 (λ m. not (eqb (formOf m) form-94x94)) refl t h)
-
-wide-form : (t : ℕ) → 12 ≤ t → t < 15 → eqb (formOf t) form-94x94 ≡ true
-unfolding formOf
-wide-form t h k =
-    let e : 12 + (t - 12) ≡ t = omega arith in
-    subst (λ (m : ℕ). eqb (formOf m) form-94x94 ≡ true) e (up-to 3 (λ m. eqb (formOf (12 + m)) form-94x94) refl (t - 12) (omega arith))
 
 one-code : (f k : ℕ) → eqb f form-94x94 ≡ false → codeUsed f k ≡ true → k ≤ 127
 unfolding codeUsed

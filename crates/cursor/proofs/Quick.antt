@@ -1,20 +1,19 @@
 -- What `advance` takes for the unit at a cursor is that of the elements from there on, if one is ahead (`advance-ahead`): where the octets are
 -- taken for text, the element is refused or is that text; a designation that is found is the element; and an element that is not
 -- refused is the same under directions that refuse nothing.
-use Prim.Native.Nat.{ℕ, _+_, _*_, _-_, _/_, _%_, _^_, _≤_, _<_}
+use Prim.Native.Nat.{ℕ, _+_, _*_, _-_, _%_, _^_, _≤_, _<_}
 use native.Mathlib.Omega.{arith}
-use mathlib.Core.Path.{_≡_, refl, ap, ap₂, sym, _∙_, subst}
+use mathlib.Core.Path.{_≡_, refl, subst}
 use mathlib.Core.Bool.{Bool, true, false, false≢true}
 use mathlib.Core.List.{List, [], _∷_}
 use mathlib.Core.Logic.{_⊎_, inl, inr}
 use lib.Dec.{eqb, leb, ltb}
-use borrow.Author.Tests.{eqb-true, eqb-false, ltb-true, ltb-false, leb-true, ne-eqb, eq-eqb}
+use borrow.Author.Tests.{eqb-true, eqb-false, ltb-true, ltb-false, leb-true}
 use Rattle.base.specs.Choice.{pick}
 use Rattle.base.specs.Kind as kind
-use Rattle.base.specs.Refusal as refusal
 use Rattle.base.proofs.Ladder.{on-true, on-false, on-ne, on-ge, on-lt}
 use Rattle.charset.specs.Charsets.{form-96, form-94x94, no-set, formOf}
-use Rattle.charset.proofs.Laws.{formRule, form-rule}
+use Rattle.charset.proofs.Laws.{narrow-form, wide-form}
 use Rattle.state.specs.Elements.{part, next}
 use Rattle.state.specs.Directions.{stepOf}
 use Rattle.state.specs.State.{state}
@@ -25,7 +24,7 @@ use Rattle.state.specs.declared.directions.Step.{Step}
 use Rattle.state.specs.declared.directions.Step.the-variants.{Goes, Stops}
 use Rattle.state.specs.declared.elements.Part.{Part}
 use Rattle.state.specs.declared.elements.Element.{Element}
-use Rattle.state.specs.declared.elements.Element.the-variants.{End, Refused, Silent, Found}
+use Rattle.state.specs.declared.elements.Element.the-variants.{Refused, Found}
 use Rattle.text.specs.Text.{secondOctetOf, characterOf, textOf}
 use Rattle.element.specs.Element.{shapeOf, steppedOf, directedOf, elementOf}
 use Rattle.cursor.specs.Cursor.{cursor, turn, textOctet, setAt, unlessSpace, kindAt, first-double, doubleOf, quickOf}
@@ -61,21 +60,10 @@ textPart k set code octets = part k set code 0 octets true
 -- ---- the forms of sets, by their number
 
 single-form : (set : ℕ) → set < first-double → formOf set ≡ form-94x94 → ⊥
-unfolding formRule
-single-form set h e = go (ltb set 3) refl (form-rule set ∙ e)
-  where
-    go : (b : Bool) → ltb set 3 ≡ b → formRule set ≡ form-94x94 → ⊥
-    go true k f =
-        let z : _≡_ {A = ℕ} 1 form-94x94 = on-true (ltb set 3) _ _ _ k refl ∙ f in
-        omega arith
-    go false k f =
-        let z : _≡_ {A = ℕ} 2 form-94x94 = on-false (ltb set 3) _ _ _ k (on-lt set 12 _ _ _ h refl) ∙ f in
-        omega arith
+single-form set h = eqb-false (formOf set) form-94x94 (narrow-form set h)
 
 double-form : (set : ℕ) → first-double ≤ set → set < no-set → formOf set ≡ form-94x94
-unfolding formRule
-double-form set h k =
-    sym (form-rule set) ∙ sym (on-ge set 3 _ _ _ (omega arith) (on-ge set 12 _ _ _ h (on-lt set 15 _ _ _ k refl)))
+double-form set h k = eqb-true (formOf set) form-94x94 (wide-form set h k)
 
 -- ---- text
 
