@@ -50,7 +50,7 @@ begins u = eqb (kindOf u) kind.left-to-right || eqb (kindOf u) kind.right-to-lef
 abbrev pub reverts : TextUnit → Bool
 reverts u = eqb (kindOf u) kind.revert
 
--- a unit may follow
+-- what each unit may follow; tabs, newlines and a segment that is no text may follow anything
 pub record May (u : TextUnit) (b r t : ℕ) : Type 0 where
   pub text : counts u ≡ true → TextMay b r
   pub begin : begins u ≡ true → BeginMay b r t

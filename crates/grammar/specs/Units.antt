@@ -40,7 +40,7 @@ kindOf space = kind.space
 kindOf (control x) = controlKind x
 kindOf (ext e xs) = kind.segment
 
--- the control of a kind, which is one of the five
+-- the control of a kind that is none of the other three
 abbrev pub controlOf : ℕ → Control
 controlOf k =
     cond (eqb k kind.tab) tab

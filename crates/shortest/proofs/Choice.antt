@@ -241,16 +241,13 @@ the-choice us s l g =
 -- what is designated decides the string
 same-octets : (u : TextUnit) (d e : Side) (s : Sets) → Shows u d s → Shows u e s → LeftFirst u d s → LeftFirst u e s → octets d u ≡ octets e u
 unfolding octets
-same-octets u GL GL s x y f g = refl
-same-octets u GR GR s x y f g = refl
+same-octets (char c k) GL GL s x y f g = refl
+same-octets (char c k) GR GR s x y f g = refl
 same-octets (char c k) GL GR s x y f g = ap (λ (d : Side). octets d (char c k)) (sym (g x))
 same-octets (char c k) GR GL s x y f g = ap (λ (d : Side). octets d (char c k)) (f y)
-same-octets space GL GR s x y f g = refl
-same-octets space GR GL s x y f g = refl
-same-octets (control n) GL GR s x y f g = refl
-same-octets (control n) GR GL s x y f g = refl
-same-octets (ext n xs) GL GR s x y f g = refl
-same-octets (ext n xs) GR GL s x y f g = refl
+same-octets space d e s x y f g = refl
+same-octets (control n) d e s x y f g = refl
+same-octets (ext n xs) d e s x y f g = refl
 
 lazy-one : {s : Sets} {us : List TextUnit} {os : List (Option Standing)} {t w : List ℕ} → Lazy s us os t → Lazy s us os w → t ≡ w
 lazy-one nil nil = refl
