@@ -15,7 +15,7 @@ use Rattle.charset.specs.declared.Side.{Side}
 use Rattle.charset.specs.declared.Side.the-variants.{GL, GR}
 use Rattle.base.specs.Choice.{pick}
 use Rattle.base.proofs.Bools.{implies, implies-elim, pick-both, up-to, upTo}
-use Rattle.charset.specs.Charsets.{form-94x94, row, rows, rowOf, mayUse, allowed, fitsOf, find, setOf, formOf}
+use Rattle.charset.specs.Charsets.{form-96, form-94x94, row, rows, rowOf, mayUse, allowed, fitsOf, find, setOf, formOf}
 
 -- past the table there is no set
 pub row-past : (n : ℕ) → 15 ≤ n → rowOf n ≡ row 0 0 false false
@@ -165,6 +165,14 @@ pub wide-form : (c : ℕ) → 12 ≤ c → c < 15 → eqb (formOf c) form-94x94 
 unfolding formOf
 wide-form c h k =
     implies-elim (leb 12 c) (eqb (formOf c) form-94x94) (up-to 15 (λ m. implies (leb 12 m) (eqb (formOf m) form-94x94)) refl c k) (le-leb 12 c h)
+
+-- no set of 96 stands in GL
+pub left-form : (c : ℕ) → allowed GL c ≡ true → eqb (formOf c) form-96 ≡ false
+unfolding allowed mayUse formOf
+left-form c a =
+    not-true (eqb (formOf c) form-96)
+    (implies-elim (allowed GL c) (not (eqb (formOf c) form-96))
+    (up-to 15 (λ m. implies (allowed GL m) (not (eqb (formOf m) form-96))) refl c (allowed-below GL c a)) a)
 
 -- a final octet that is known
 pub finds : (n f x f′ x′ : ℕ) (d : Side) → f ≡ f′ → x ≡ x′ → n ≡ setOf f′ d x′ → n ≡ setOf f d x

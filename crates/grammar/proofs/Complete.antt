@@ -14,7 +14,7 @@ use Rattle.base.proofs.Bools.{and-left, and-right, off}
 use Rattle.charset.specs.declared.Side.{Side}
 use Rattle.charset.specs.declared.Side.the-variants.{GL, GR}
 use Rattle.charset.specs.Charsets.{mayUse, allowed, formOf, fitsOf, find, setOf}
-use Rattle.charset.proofs.Laws.{allowed-below}
+use Rattle.charset.proofs.Laws.{allowed-below, left-form}
 use Rattle.state.specs.State.{on, get, designatedOf}
 use Rattle.state.specs.Elements.{part, next}
 use Rattle.text.specs.Text.{graphicOf, secondOctetOf, characterOf, textOf}
@@ -44,14 +44,6 @@ each : (n : ℕ) (P : ℕ → Type 0) → Each n P → (c : ℕ) → c < n → P
 each zero P a c h = absurd (not-suc-le-zero h)
 each (suc n) P a zero h = a .0
 each (suc n) P a (suc c) h = each n (λ m. P (suc m)) (a .1) c (le-of-suc-le-suc h)
-
--- no set of 96 stands in GL
-left-form : (c : ℕ) → allowed GL c ≡ true → eqb (formOf c) 2 ≡ false
-unfolding allowed mayUse formOf
-left-form c a =
-    each 15 (λ m. allowed GL m ≡ true → eqb (formOf m) 2 ≡ false)
-    ((λ _. refl) & (λ _. refl) & (λ _. refl) & off & off & off & off & off & off & off & off & off & (λ _. refl) & (λ _. refl) & (λ _. refl) & tt) c
-    (allowed-below GL c a) a
 
 module _ (st : State) where
   -- ---- designations
