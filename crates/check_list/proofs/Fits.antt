@@ -12,33 +12,14 @@ use Rattle.base.specs.Choice.{pick}
 use Rattle.base.specs.Kind as kind
 use Rattle.base.specs.declared.Unit.{Unit as UnitRecord}
 use Rattle.base.proofs.Bools.{and-left, and-right}
-use Rattle.charset.specs.Charsets.{form-96, form-94x94, formOf}
+use Rattle.charset.specs.Charsets.{formOf}
 use Rattle.charset.proofs.Laws.{narrow-form, wide-form}
-use Rattle.text.specs.Text.{graphicOf}
 use Rattle.grammar.specs.Units.{TextUnit, char, space, control, ext, controlOf, unitOf, codeUsed, segment, good}
-use Rattle.grammar.proofs.Sound.{graphic-low}
+use Rattle.grammar.proofs.Good.{one-code, two-code, GoodSegment, good-segment}
 use Rattle.grammar.specs.Records.{readable, unitRead}
 use Rattle.rows.specs.Rows.{countOf, unitTagged, tagOf, numberOf}
 use Rattle.rows.proofs.Units.{unit-segment}
 use Rattle.check_list.specs.Row.{Stowable}
-
--- ---- codes
-
-one-code : (f k : ℕ) → eqb f form-94x94 ≡ false → codeUsed f k ≡ true → k ≤ 127
-unfolding codeUsed
-one-code f k n u = go (eqb f form-96) (rw n at u)
-  where
-    go : (b : Bool) → cond b (leb 0x20 k && leb k 0x7F) (graphicOf k) ≡ true → k ≤ 127
-    go true v = leb-true k 0x7F (and-right (leb 0x20 k) (leb k 0x7F) v)
-    go false v = let a = graphic-low k v in omega arith
-
-two-code : (f k : ℕ) → eqb f form-94x94 ≡ true → codeUsed f k ≡ true → (k / 256 ≤ 127) × (k % 256 ≤ 127)
-unfolding codeUsed
-two-code f k n u =
-    let v : (graphicOf (k / 256) && graphicOf (k % 256)) ≡ true = rw n at u in
-    let a = graphic-low (k / 256) (and-left (graphicOf (k / 256)) (graphicOf (k % 256)) v) in
-    let b = graphic-low (k % 256) (and-right (graphicOf (k / 256)) (graphicOf (k % 256)) v) in
-    (omega arith, omega arith)
 
 -- ---- what a good unit's record is
 
@@ -96,26 +77,20 @@ module _ (o : List ℕ) (r : UnitRecord) (u : TextUnit) (g : good u ≡ true) wh
       xs : List ℕ
       xs = take (r .length) (drop (r .start) o)
 
-      g′ : (leb 0x30 (r .code) && leb (r .code) 0x34 && leb (length xs) 16383 && segment (r .code) 0 xs) ≡ true
-      g′ = subst (λ (x : TextUnit). good x ≡ true) (sym s) g
-
-      b₃ : (leb 0x30 (r .code) && leb (r .code) 0x34 && leb (length xs) 16383) ≡ true
-      b₃ = and-left (leb 0x30 (r .code) && leb (r .code) 0x34 && leb (length xs) 16383) (segment (r .code) 0 xs) g′
-
-      b₂ : (leb 0x30 (r .code) && leb (r .code) 0x34) ≡ true
-      b₂ = and-left (leb 0x30 (r .code) && leb (r .code) 0x34) (leb (length xs) 16383) b₃
+      good-one : GoodSegment (r .code) xs
+      good-one = good-segment (r .code) xs (subst (λ (x : TextUnit). good x ≡ true) (sym s) g)
 
       lo : 0x30 ≤ r .code
-      lo = leb-true 0x30 (r .code) (and-left (leb 0x30 (r .code)) (leb (r .code) 0x34) b₂)
+      lo = good-one .low
 
       hi : r .code ≤ 0x34
-      hi = leb-true (r .code) 0x34 (and-right (leb 0x30 (r .code)) (leb (r .code) 0x34) b₂)
+      hi = good-one .high
 
       count : length xs ≡ r .length
       count = simp (lib.ListN.length-take, lib.ListN.length-drop) (omega arith)
 
       few : r .length ≤ 16383
-      few = omega (arith, leb-true (length xs) 16383 (and-right (leb 0x30 (r .code) && leb (r .code) 0x34) (leb (length xs) 16383) b₃), count)
+      few = omega (arith, good-one .few, count)
 
       unit : unitTagged o (r .code - 27) (r .length / 256) (r .length % 256) (r .start) ≡ u
       unit =

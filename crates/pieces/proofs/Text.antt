@@ -3,7 +3,7 @@
 use Prim.Native.Nat.{ℕ, zero, suc, _+_, _/_, _%_, _<_}
 use native.Mathlib.Omega.{arith}
 use mathlib.Core.Path.{_≡_, refl, sym, _∙_}
-use mathlib.Core.Bool.{Bool, true, false, _&&_}
+use mathlib.Core.Bool.{Bool, true, false}
 use mathlib.Core.List.{List, [], _∷_, _++_}
 use lib.Dec.{eqb, ltb}
 use lib.ListN.{length, getD}
@@ -11,18 +11,17 @@ use Rattle.base.specs.Choice.{pick}
 use Rattle.base.specs.Kind as kind
 use Rattle.base.specs.Refusal as refusal
 use Rattle.base.proofs.Ladder.{on-lt, on-ge}
-use Rattle.base.proofs.Bools.{and-left, and-right}
+use Rattle.base.proofs.Bools.{and-right}
 use Rattle.charset.specs.Charsets.{form-94x94, no-set, formOf}
 use Rattle.charset.specs.declared.Side.{Side}
 use Rattle.charset.specs.declared.Side.the-variants.{GL, GR}
 use Rattle.grammar.specs.Units.{Control, tab, newline, ltr, rtl, revert, controlKind}
 use Rattle.grammar.specs.Units.{TextUnit, char, space, control, ext, kindOf, wide, top, shown, octets, codeUsed, good}
 use Rattle.grammar.specs.Reading.{direct}
-use Rattle.grammar.proofs.Sound.{graphic-low}
+use Rattle.grammar.proofs.Good.{two-code}
 use Rattle.state.specs.Directions.{directions, writtenOf, stepOf, inForceOf}
 use Rattle.state.specs.declared.directions.Directions.{Directions}
 use Rattle.state.specs.declared.directions.Step.the-variants.{Goes, Stops}
-use Rattle.text.specs.Text.{graphicOf}
 use Rattle.pieces.specs.PieceKind as pieceKind
 use Rattle.pieces.specs.Pieces.{sideKindOf}
 
@@ -47,13 +46,10 @@ two-octets x y t e (suc zero) h = e
 two-octets x y t e (suc (suc i)) h = absurd (omega arith)
 
 char-side : (w : Bool) (f : ℕ) (d : Side) (k : ℕ) (t : List ℕ) → eqb f form-94x94 ≡ w → codeUsed f k ≡ true → OneSide (shown w (top d) k) t
-unfolding codeUsed
 char-side false f d k t e g = one-octet (top d + k) t
 char-side true f d k t e g =
-    let h : (graphicOf (k / 256) && graphicOf (k % 256)) ≡ true = rw e at g in
-    let x = graphic-low (k / 256) (and-left (graphicOf (k / 256)) (graphicOf (k % 256)) h) in
-    let y = graphic-low (k % 256) (and-right (graphicOf (k / 256)) (graphicOf (k % 256)) h) in
-    two-octets (top d + k / 256) (top d + k % 256) t (top-side d (k % 256) (k / 256) (omega arith) (omega arith))
+    let b = two-code f k e g in
+    two-octets (top d + k / 256) (top d + k % 256) t (top-side d (k % 256) (k / 256) (omega (arith, b .1)) (omega (arith, b .0)))
 
 no-text : (x : Control) → controlKind x < 2 → ⊥
 no-text tab h = omega arith

@@ -3,25 +3,24 @@
 use Prim.Native.Nat.{ℕ, zero, suc, _+_, _/_, _%_, _≤_, _<_}
 use native.Mathlib.Omega.{arith}
 use mathlib.Core.Path.{_≡_, refl}
-use mathlib.Core.Bool.{Bool, true, false, cond, _&&_}
+use mathlib.Core.Bool.{Bool, true, false, _&&_}
 use mathlib.Core.List.{List, [], _∷_, _++_}
 use mathlib.Core.Option.{Option, none, some}
-use lib.Dec.{eqb, leb, ltb}
+use lib.Dec.{eqb, ltb}
 use lib.ListN.{length}
-use borrow.Author.Tests.{ltb-true, leb-true}
+use borrow.Author.Tests.{ltb-true}
 use Rattle.base.proofs.Bools.{and-left, and-right}
 use Rattle.charset.specs.declared.Side.{Side}
 use Rattle.charset.specs.declared.Side.the-variants.{GL, GR}
-use Rattle.charset.specs.Charsets.{no-set, form-96, form-94x94, formOf}
+use Rattle.charset.specs.Charsets.{no-set, form-94x94, formOf}
 use Rattle.charset.proofs.Laws.{row-past, by-rows}
 use Rattle.state.specs.State.{Standing, on}
-use Rattle.text.specs.Text.{graphicOf}
 use Rattle.state.specs.declared.Sets.{Sets}
 use Rattle.grammar.specs.Units.{TextUnit, char, space, control, tab, newline, ltr, rtl, revert, ext}
-use Rattle.grammar.specs.Units.{wide, top, shown, octets, designation, codeUsed, segment, mostOfSegment, good}
+use Rattle.grammar.specs.Units.{wide, top, shown, octets, designation, codeUsed, good}
 use Rattle.grammar.specs.Grammar.{Reads, done, designate, show}
 use Rattle.grammar.specs.Reading.{Octets}
-use Rattle.grammar.proofs.Sound.{graphic-low}
+use Rattle.grammar.proofs.Good.{one-code, two-code, good-segment}
 use Rattle.shortest.specs.Writing.{need, cost, choose, after, designated, used, writing}
 use Rattle.shortest.proofs.Bounds.{Every, Good}
 
@@ -71,17 +70,14 @@ topped GL k h = omega arith
 topped GR k h = omega arith
 
 char-octets : (d : Side) (c k : ℕ) → codeUsed (formOf c) k ≡ true → Octets (octets d (char c k))
-unfolding octets wide codeUsed
-char-octets d c k u = go (eqb (formOf c) form-94x94) (eqb (formOf c) form-96) u
+unfolding octets wide
+char-octets d c k u = go (eqb (formOf c) form-94x94) refl
   where
-    go : (x y : Bool) → cond x (graphicOf (k / 256) && graphicOf (k % 256)) (cond y (leb 0x20 k && leb k 0x7F) (graphicOf k)) ≡ true
-        → Octets (shown x (top d) k)
-    go true y e =
-        let a = graphic-low (k / 256) (and-left (graphicOf (k / 256)) (graphicOf (k % 256)) e) in
-        let b = graphic-low (k % 256) (and-right (graphicOf (k / 256)) (graphicOf (k % 256)) e) in
-        small ((top d + k / 256) ∷ (top d + k % 256) ∷ []) (topped d (k / 256) (omega arith), (topped d (k % 256) (omega arith), tt))
-    go false true e = small ((top d + k) ∷ []) (topped d k (leb-true k 0x7F (and-right (leb 0x20 k) (leb k 0x7F) e)), tt)
-    go false false e = let a = graphic-low k e in small ((top d + k) ∷ []) (topped d k (omega arith), tt)
+    go : (x : Bool) → eqb (formOf c) form-94x94 ≡ x → Octets (shown x (top d) k)
+    go true e =
+        let b = two-code (formOf c) k e u in
+        small ((top d + k / 256) ∷ (top d + k % 256) ∷ []) (topped d (k / 256) (b .0), (topped d (k % 256) (b .1), tt))
+    go false e = small ((top d + k) ∷ []) (topped d k (one-code (formOf c) k e u), tt)
 
 -- the octets of an extended segment are octets
 abbrev pub Contents : TextUnit → Type 0
@@ -100,9 +96,9 @@ unit-octets (control ltr) d g o = computed (0x9B ∷ 0x31 ∷ 0x5D ∷ []) refl
 unit-octets (control rtl) d g o = computed (0x9B ∷ 0x32 ∷ 0x5D ∷ []) refl
 unit-octets (control revert) d g o = computed (0x9B ∷ 0x5D ∷ []) refl
 unit-octets (ext e xs) d g o =
-    let h = and-left (leb 0x30 e && leb e 0x34 && leb (length xs) mostOfSegment) (segment e 0 xs) g in
-    let a = leb-true e 0x34 (and-right (leb 0x30 e) (leb e 0x34) (and-left (leb 0x30 e && leb e 0x34) (leb (length xs) mostOfSegment) h)) in
-    let b = leb-true (length xs) mostOfSegment (and-right (leb 0x30 e && leb e 0x34) (leb (length xs) mostOfSegment) h) in
+    let h = good-segment e xs g in
+    let a = h .high in
+    let b = h .few in
     join (0x1B ∷ 0x25 ∷ 0x2F ∷ e ∷ (128 + length xs / 128) ∷ (128 + length xs % 128) ∷ []) xs
     (small (0x1B ∷ 0x25 ∷ 0x2F ∷ e ∷ (128 + length xs / 128) ∷ (128 + length xs % 128) ∷ [])
     (omega arith, (omega arith, (omega arith, (omega arith, (omega arith, (omega arith, tt)))))))
