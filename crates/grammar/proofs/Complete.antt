@@ -29,6 +29,7 @@ use Rattle.grammar.specs.Units.{TextUnit, char, space, control, tab, new
 use Rattle.grammar.specs.Grammar.{Shows}
 use Rattle.grammar.specs.Reading.{unitAt}
 use Rattle.grammar.proofs.Segment.{content}
+use Rattle.grammar.proofs.Good.{GoodSegment, good-segment}
 use Rattle.grammar.proofs.Sound.{Legal, graphic-low}
 
 -- a rule of the first n numbers, one by one
@@ -158,20 +159,17 @@ module _ (st : State) where
         g₄,
       )
     where
-      h₃ : (leb 0x30 e && leb e 0x34 && leb (length xs) 16383) ≡ true
-      h₃ = and-left (leb 0x30 e && leb e 0x34 && leb (length xs) 16383) (segment e 0 xs) g
-
-      h₂ : (leb 0x30 e && leb e 0x34) ≡ true
-      h₂ = and-left (leb 0x30 e && leb e 0x34) (leb (length xs) 16383) h₃
+      h : GoodSegment e xs
+      h = good-segment e xs g
 
       g₁ : 0x30 ≤ e
-      g₁ = leb-true 0x30 e (and-left (leb 0x30 e) (leb e 0x34) h₂)
+      g₁ = h .low
 
       g₂ : e ≤ 0x34
-      g₂ = leb-true e 0x34 (and-right (leb 0x30 e) (leb e 0x34) h₂)
+      g₂ = h .high
 
       g₄ : segment e 0 xs ≡ true
-      g₄ = and-right (leb 0x30 e && leb e 0x34 && leb (length xs) 16383) (segment e 0 xs) g
+      g₄ = h .content
 
       n : (128 + length xs / 128 - 128) * 128 + (128 + length xs % 128 - 128) ≡ length xs
       n = omega arith
