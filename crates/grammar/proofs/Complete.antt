@@ -176,32 +176,15 @@ module _ (st : State) where
 
 -- ---- the part of a unit
 
-abbrev setIn : TextUnit → ℕ
-setIn (char c k) = c
-setIn space = 0
-setIn (control x) = 0
-setIn (ext e xs) = 0
-
-abbrev codeIn : TextUnit → ℕ
-codeIn (char c k) = k
-codeIn space = 0
-codeIn (control x) = 0
-codeIn (ext e xs) = e
-
-abbrev skipIn : TextUnit → ℕ
-skipIn (char c k) = 0
-skipIn space = 0
-skipIn (control x) = 0
-skipIn (ext e xs) = 6
-
-abbrev ownIn : TextUnit → ℕ
-ownIn (char c k) = cond (wide c) 2 1
-ownIn space = 1
-ownIn (control x) = length (controlOctets x)
-ownIn (ext e xs) = length xs
+-- its set, its code, the octets before its own, and its own
+abbrev fields : TextUnit → ℕ × ℕ × ℕ × ℕ
+fields (char c k) = (c, k, 0, cond (wide c) 2 1)
+fields space = (0, 0, 0, 1)
+fields (control x) = (0, 0, 0, length (controlOctets x))
+fields (ext e xs) = (0, e, 6, length xs)
 
 abbrev pub partOf : TextUnit → Part
-partOf u = part (kindOf u) (setIn u) (codeIn u) (skipIn u) (ownIn u) (counts u)
+partOf u = part (kindOf u) (fields u .0) (fields u .1) (fields u .2) (fields u .3) (counts u)
 
 pub starts-unit : (st : State) (l : Legal (st .sets)) (u : TextUnit) (d : Side) (t : List ℕ) → good u ≡ true → Shows u d (st .sets)
     → shapeOf (octets d u ++ t) st ≡ Found (partOf u) st

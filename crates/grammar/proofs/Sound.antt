@@ -10,6 +10,7 @@ use lib.ListN.{length, take, drop, take-append-drop}
 use lib.Seq.{length-take-le}
 use borrow.Author.Tests.{eqb-true, ltb-true, ltb-false, leb-true, lt-ltb, le-leb}
 use Rattle.base.specs.Choice.{pick}
+use Rattle.base.proofs.Bools.{pick-last}
 use Rattle.charset.specs.declared.Side.{Side}
 use Rattle.charset.specs.declared.Side.the-variants.{GL, GR}
 use Rattle.charset.specs.Charsets.{rowOf, formOf, allowed, setOf}
@@ -95,12 +96,10 @@ change form d x t n b k =
     }
 
 pub graphic-low : (k : ℕ) → graphicOf k ≡ true → (0x21 ≤ k) × (k ≤ 0x7E)
-unfolding graphicOf pick
-graphic-low k e = go (ltb k 0x21) refl e
-  where
-    go : (b : Bool) → ltb k 0x21 ≡ b → pick b false (leb k 0x7E) ≡ true → (0x21 ≤ k) × (k ≤ 0x7E)
-    go true p q = absurd (mathlib.Core.Bool.false≢true q)
-    go false p q = (ltb-false k 0x21 p, leb-true k 0x7E q)
+unfolding graphicOf
+graphic-low k e =
+    let h = pick-last (ltb k 0x21) (leb k 0x7E) e in
+    (ltb-false k 0x21 (h .0), leb-true k 0x7E (h .1))
 
 module _ (st : State) where
   no : {w : List ℕ} {n : ℕ} → Sound st w (Refused (suc n) 0)
