@@ -2,46 +2,24 @@
 -- that may stand anywhere is one of the fifteen (`allowed-below`); and the code's comparisons say what the table says: where a test
 -- of a set's number is compared with the table, antt computes it for the fifteen rows (`by-rows`), and a final octet that is none of
 -- a form's finals finds no row (`ruleset finals`).
-use Prim.Native.Nat.{ℕ, zero, suc, _+_, _-_, _<_, _≤_}
+use Prim.Native.Nat.{ℕ, suc, _+_, _-_, _<_, _≤_}
 use native.Mathlib.Omega.{arith}
-use native.Mathlib.Nat.{eq-or-lt-of-le}
 use lib.Dec.{eqb, leb, ltb}
-use borrow.Author.Tests.{eqb-true, ne-eqb, le-ltb, leb-true, ltb-true, ltb-false}
-use mathlib.Core.Path.{_≡_, refl, ap, _∙_, sym, subst}
+use borrow.Author.Tests.{eqb-true, ne-eqb, le-ltb, leb-true, le-leb, ltb-true, ltb-false, not-true}
+use mathlib.Core.Path.{_≡_, refl, sym, subst}
 use mathlib.Core.Bool.{Bool, true, false, not, false≢true}
-use mathlib.Core.Logic.{⊎-elim}
 use mathlib.Core.List.{List, [], _∷_}
 use lib.ListN.{length, getD, List·getD-eq-default}
 use Rattle.charset.specs.Charsets.{Row}
 use Rattle.charset.specs.declared.Side.{Side}
 use Rattle.charset.specs.declared.Side.the-variants.{GL, GR}
 use Rattle.base.specs.Choice.{pick}
-use Rattle.charset.specs.Charsets.{row, rows, rowOf, mayUse, allowed, fitsOf, find, setOf, formOf}
+use Rattle.base.proofs.Bools.{implies, implies-elim, pick-both, up-to, upTo}
+use Rattle.charset.specs.Charsets.{form-96, form-94x94, row, rows, rowOf, mayUse, allowed, fitsOf, find, setOf, formOf}
 
 -- past the table there is no set
-row-past : (n : ℕ) → 15 ≤ n → rowOf n ≡ row 0 0 false false
+pub row-past : (n : ℕ) → 15 ≤ n → rowOf n ≡ row 0 0 false false
 row-past n h = List·getD-eq-default rows (row 0 0 false false) h
-
--- what a passed chain of tests says
-both-true : (a b : Bool) → pick a b false ≡ true → (a ≡ true) × (b ≡ true)
-unfolding pick
-both-true true b e = (refl, e)
-both-true false b e =
-    let z : _≡_ {A = ℕ} 0 1 = cc in
-    absurd (omega arith)
-
--- a test of each number below m, which antt computes, holds of each
-unfoldable every : (ℕ → Bool) → ℕ → Bool
-every f zero = true
-every f (suc m) = pick (f m) (every f m) false
-
-below : (f : ℕ → Bool) (m : ℕ) → every f m ≡ true → (n : ℕ) → n < m → f n ≡ true
-unfolding every
-below f zero t n h = absurd (omega arith)
-below f (suc m) t n h =
-    let e = both-true (f m) (every f m) t in
-    let l : n ≤ m = omega arith in
-    ⊎-elim (λ (q : n ≡ m). rw q (e .0)) (λ (q : n < m). below f m (e .1) n q) (eq-or-lt-of-le l)
 
 -- a row that fits has the designation's form, side and final octet
 pub record Named (w : Row) (f : ℕ) (s : Side) (x : ℕ) : Type 0 where
@@ -52,8 +30,8 @@ pub record Named (w : Row) (f : ℕ) (s : Side) (x : ℕ) : Type 0 where
 fits-all : (w : Row) (f : ℕ) (s : Side) (x : ℕ) → fitsOf w f s x ≡ true → Named w f s x
 unfolding fitsOf
 fits-all w f s x e =
-    let h = both-true (eqb (w .form) f) _ e in
-    let k = both-true (eqb (w .last) x) _ (h .1) in
+    let h = pick-both (eqb (w .form) f) _ e in
+    let k = pick-both (eqb (w .last) x) _ (h .1) in
     record { form = eqb-true (w .form) f (h .0); last = eqb-true (w .last) x (k .0); side = k .1 }
 
 module _ (f : ℕ) (s : Side) (x : ℕ) (d : Row) where
@@ -69,7 +47,9 @@ module _ (f : ℕ) (s : Side) (x : ℕ) (d : Row) where
       let h = find-from ws (suc i) in
       step-from w ws i (fitsOf w f s x) refl (omega arith)
 
-  step-fits : (w : Row) (ws : List Row) (i : ℕ) (b : Bool) → fitsOf w f s x ≡ b → (find ws f s x (suc i) < suc i + length ws → fitsOf (getD ws (find ws f s x (suc i) - suc i) d) f s x ≡ true) → find (w ∷ ws) f s x i < i + suc (length ws) → fitsOf (getD (w ∷ ws) (find (w ∷ ws) f s x i - i) d) f s x ≡ true
+  step-fits : (w : Row) (ws : List Row) (i : ℕ) (b : Bool) → fitsOf w f s x ≡ b
+      → (find ws f s x (suc i) < suc i + length ws → fitsOf (getD ws (find ws f s x (suc i) - suc i) d) f s x ≡ true)
+      → find (w ∷ ws) f s x i < i + suc (length ws) → fitsOf (getD (w ∷ ws) (find (w ∷ ws) f s x i - i) d) f s x ≡ true
   unfolding find pick
   step-fits w ws i true e go h =
       let z : i - i ≡ 0 = omega arith in
@@ -97,10 +77,10 @@ last-test : ℕ → Bool
 last-test c = pick (leb 0x40 (rowOf c .last)) (ltb (rowOf c .last) 0x7F) false
 
 pub final-range : (f : ℕ) (s : Side) (x : ℕ) → setOf f s x < 15 → (0x40 ≤ x) × (x < 0x7F)
-unfolding every last-test pick
+unfolding last-test pick
 final-range f s x h =
     let n = set-named f s x h in
-    let b = both-true (leb 0x40 (rowOf (setOf f s x) .last)) _ (below last-test 15 refl (setOf f s x) h) in
+    let b = pick-both (leb 0x40 (rowOf (setOf f s x) .last)) _ (up-to 15 last-test refl (setOf f s x) h) in
     (rw (n .last) at (leb-true 0x40 (rowOf (setOf f s x) .last) (b .0)), rw (n .last) at (ltb-true (rowOf (setOf f s x) .last) 0x7F (b .1)))
 
 -- a set that may stand anywhere is one of the fifteen
@@ -119,11 +99,11 @@ allowed-below d c e = go (ltb c 15) refl
 -- ---- the code's comparisons
 
 -- a test that holds of the fifteen, and past them, holds of each number
-by-rows : (f : ℕ → Bool) → every f 15 ≡ true → ((n : ℕ) → 15 ≤ n → f n ≡ true) → (n : ℕ) → f n ≡ true
+pub by-rows : (f : ℕ → Bool) → upTo 15 f ≡ true → ((n : ℕ) → 15 ≤ n → f n ≡ true) → (n : ℕ) → f n ≡ true
 by-rows f t past n = go (ltb n 15) refl
   where
     go : (b : Bool) → ltb n 15 ≡ b → f n ≡ true
-    go true e = below f 15 t n (ltb-true n 15 e)
+    go true e = up-to 15 f t n (ltb-true n 15 e)
     go false e = past n (ltb-false n 15 e)
 
 -- the same test of two answers
@@ -154,7 +134,7 @@ unfolding form-test formRule formOf pick
 form-past n h = rw (row-past n h, le-ltb n 3 (omega arith), le-ltb n 12 (omega arith), le-ltb n 15 h)
 
 pub form-rule : (n : ℕ) → formRule n ≡ formOf n
-unfolding every form-test formRule formOf pick
+unfolding form-test formRule formOf pick
 form-rule n = eqb-true _ _ (by-rows form-test refl form-past n)
 
 side-test : Side → (ℕ → Bool) → ℕ → Bool
@@ -169,12 +149,30 @@ unfolding side-test same rightRule allowed mayUse pick
 right-past n h = rw (row-past n h, ne-eqb n 0 (λ e. omega arith), ne-eqb n 2 (λ e. omega arith), le-ltb n 15 h)
 
 pub left-rule : (n : ℕ) → leftRule n ≡ allowed GL n
-unfolding every side-test same leftRule allowed mayUse pick
+unfolding side-test same leftRule allowed mayUse pick
 left-rule n = same-is _ _ (by-rows (side-test GL leftRule) refl left-past n)
 
 pub right-rule : (n : ℕ) → rightRule n ≡ allowed GR n
-unfolding every side-test same rightRule allowed mayUse pick
+unfolding side-test same rightRule allowed mayUse pick
 right-rule n = same-is _ _ (by-rows (side-test GR rightRule) refl right-past n)
+
+-- sets 12 to 14 are those of two octets
+pub narrow-form : (c : ℕ) → c < 12 → eqb (formOf c) form-94x94 ≡ false
+unfolding formOf
+narrow-form c h = not-true (eqb (formOf c) form-94x94) (up-to 12 (λ m. not (eqb (formOf m) form-94x94)) refl c h)
+
+pub wide-form : (c : ℕ) → 12 ≤ c → c < 15 → eqb (formOf c) form-94x94 ≡ true
+unfolding formOf
+wide-form c h k =
+    implies-elim (leb 12 c) (eqb (formOf c) form-94x94) (up-to 15 (λ m. implies (leb 12 m) (eqb (formOf m) form-94x94)) refl c k) (le-leb 12 c h)
+
+-- no set of 96 stands in GL
+pub left-form : (c : ℕ) → allowed GL c ≡ true → eqb (formOf c) form-96 ≡ false
+unfolding allowed mayUse formOf
+left-form c a =
+    not-true (eqb (formOf c) form-96)
+    (implies-elim (allowed GL c) (not (eqb (formOf c) form-96))
+    (up-to 15 (λ m. implies (allowed GL m) (not (eqb (formOf m) form-96))) refl c (allowed-below GL c a)) a)
 
 -- a final octet that is known
 pub finds : (n f x f′ x′ : ℕ) (d : Side) → f ≡ f′ → x ≡ x′ → n ≡ setOf f′ d x′ → n ≡ setOf f d x
@@ -198,10 +196,12 @@ module _ (f x : ℕ) where
   unfolding setOf find fitsOf mayUse pick
   none-right-94 e a = rw e (simp (other 0x49 x a, dead))
 
-  pub none-right-96 : f ≡ 2 → (x ≡ 0x41 → ⊥) → (x ≡ 0x42 → ⊥) → (x ≡ 0x43 → ⊥) → (x ≡ 0x44 → ⊥) → (x ≡ 0x46 → ⊥) → (x ≡ 0x47 → ⊥) → (x ≡ 0x48 → ⊥) → (x ≡ 0x4C → ⊥) → (x ≡ 0x4D → ⊥) → 15 ≡ setOf f GR x
+  pub none-right-96 : f ≡ 2 → (x ≡ 0x41 → ⊥) → (x ≡ 0x42 → ⊥) → (x ≡ 0x43 → ⊥) → (x ≡ 0x44 → ⊥) → (x ≡ 0x46 → ⊥)
+      → (x ≡ 0x47 → ⊥) → (x ≡ 0x48 → ⊥) → (x ≡ 0x4C → ⊥) → (x ≡ 0x4D → ⊥) → 15 ≡ setOf f GR x
   unfolding setOf find fitsOf mayUse pick
   none-right-96 e a b c d g h i j k =
-      rw e (simp (other 0x41 x a, other 0x42 x b, other 0x43 x c, other 0x44 x d, other 0x46 x g, other 0x47 x h, other 0x48 x i, other 0x4C x j, other 0x4D x k))
+      rw e
+      (simp (other 0x41 x a, other 0x42 x b, other 0x43 x c, other 0x44 x d, other 0x46 x g, other 0x47 x h, other 0x48 x i, other 0x4C x j, other 0x4D x k))
 
   pub none-94x94 : (d : Side) → f ≡ 3 → (x ≡ 0x41 → ⊥) → (x ≡ 0x42 → ⊥) → (x ≡ 0x43 → ⊥) → 15 ≡ setOf f d x
   unfolding setOf find fitsOf pick

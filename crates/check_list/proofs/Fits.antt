@@ -2,53 +2,24 @@
 use Prim.Native.Nat.{ℕ, _+_, _-_, _*_, _/_, _%_, _≤_, _<_}
 use native.Mathlib.Omega.{arith}
 use mathlib.Core.Path.{_≡_, refl, sym, ap, ap₂, _∙_, subst}
-use mathlib.Core.Bool.{Bool, true, false, cond, _&&_, not}
+use mathlib.Core.Bool.{Bool, true, false, cond, _&&_}
 use mathlib.Core.List.{List}
 use mathlib.Core.Option.{none, some, Option·none-ne-some, Option·some-injective}
 use lib.Dec.{eqb, leb, ltb}
 use lib.ListN.{length, set, take, drop}
-use borrow.Author.Tests.{eqb-true, eqb-false, lt-ltb, ltb-true, ltb-false, leb-true, not-true}
+use borrow.Author.Tests.{eqb-true, eqb-false, ne-eqb, lt-ltb, le-ltb, lt-leb, ltb-true, ltb-false, leb-true}
 use Rattle.base.specs.Choice.{pick}
 use Rattle.base.specs.Kind as kind
 use Rattle.base.specs.declared.Unit.{Unit as UnitRecord}
-use Rattle.charset.specs.Charsets.{form-96, form-94x94, formOf}
-use Rattle.text.specs.Text.{graphicOf}
-use Rattle.grammar.specs.Units.{TextUnit, char, space, tab, newline, ltr, rtl, revert, ext, unitOf, codeUsed, segment, good}
-use Rattle.grammar.proofs.Complete.{and-left, and-right}
-use Rattle.grammar.proofs.Sound.{graphic-low}
+use Rattle.base.proofs.Bools.{and-left, and-right}
+use Rattle.charset.specs.Charsets.{formOf}
+use Rattle.charset.proofs.Laws.{narrow-form, wide-form}
+use Rattle.grammar.specs.Units.{TextUnit, char, space, control, ext, controlOf, unitOf, codeUsed, segment, good}
+use Rattle.grammar.proofs.Good.{one-code, two-code, GoodSegment, good-segment}
 use Rattle.grammar.specs.Records.{readable, unitRead}
-use Rattle.shortest.proofs.Sets.{up-to}
 use Rattle.rows.specs.Rows.{countOf, unitTagged, tagOf, numberOf}
 use Rattle.rows.proofs.Units.{unit-segment}
 use Rattle.check_list.specs.Row.{Stowable}
-
--- ---- codes
-
-narrow-form : (t : ℕ) → t < 12 → eqb (formOf t) form-94x94 ≡ false
-unfolding formOf
-narrow-form t h = not-true (eqb (formOf t) form-94x94) (up-to 12 (λ m. not (eqb (formOf m) form-94x94)) refl t h)
-
-wide-form : (t : ℕ) → 12 ≤ t → t < 15 → eqb (formOf t) form-94x94 ≡ true
-unfolding formOf
-wide-form t h k =
-    let e : 12 + (t - 12) ≡ t = omega arith in
-    subst (λ (m : ℕ). eqb (formOf m) form-94x94 ≡ true) e (up-to 3 (λ m. eqb (formOf (12 + m)) form-94x94) refl (t - 12) (omega arith))
-
-one-code : (f k : ℕ) → eqb f form-94x94 ≡ false → codeUsed f k ≡ true → k ≤ 127
-unfolding codeUsed
-one-code f k n u = go (eqb f form-96) (rw n at u)
-  where
-    go : (b : Bool) → cond b (leb 0x20 k && leb k 0x7F) (graphicOf k) ≡ true → k ≤ 127
-    go true v = leb-true k 0x7F (and-right (leb 0x20 k) (leb k 0x7F) v)
-    go false v = let a = graphic-low k v in omega arith
-
-two-code : (f k : ℕ) → eqb f form-94x94 ≡ true → codeUsed f k ≡ true → (k / 256 ≤ 127) × (k % 256 ≤ 127)
-unfolding codeUsed
-two-code f k n u =
-    let v : (graphicOf (k / 256) && graphicOf (k % 256)) ≡ true = rw n at u in
-    let a = graphic-low (k / 256) (and-left (graphicOf (k / 256)) (graphicOf (k % 256)) v) in
-    let b = graphic-low (k % 256) (and-right (graphicOf (k / 256)) (graphicOf (k % 256)) v) in
-    (omega arith, omega arith)
 
 -- ---- what a good unit's record is
 
@@ -106,26 +77,20 @@ module _ (o : List ℕ) (r : UnitRecord) (u : TextUnit) (g : good u ≡ true) wh
       xs : List ℕ
       xs = take (r .length) (drop (r .start) o)
 
-      g′ : (leb 0x30 (r .code) && leb (r .code) 0x34 && leb (length xs) 16383 && segment (r .code) 0 xs) ≡ true
-      g′ = subst (λ (x : TextUnit). good x ≡ true) (sym s) g
-
-      b₃ : (leb 0x30 (r .code) && leb (r .code) 0x34 && leb (length xs) 16383) ≡ true
-      b₃ = and-left (leb 0x30 (r .code) && leb (r .code) 0x34 && leb (length xs) 16383) (segment (r .code) 0 xs) g′
-
-      b₂ : (leb 0x30 (r .code) && leb (r .code) 0x34) ≡ true
-      b₂ = and-left (leb 0x30 (r .code) && leb (r .code) 0x34) (leb (length xs) 16383) b₃
+      good-one : GoodSegment (r .code) xs
+      good-one = good-segment (r .code) xs (subst (λ (x : TextUnit). good x ≡ true) (sym s) g)
 
       lo : 0x30 ≤ r .code
-      lo = leb-true 0x30 (r .code) (and-left (leb 0x30 (r .code)) (leb (r .code) 0x34) b₂)
+      lo = good-one .low
 
       hi : r .code ≤ 0x34
-      hi = leb-true (r .code) 0x34 (and-right (leb 0x30 (r .code)) (leb (r .code) 0x34) b₂)
+      hi = good-one .high
 
       count : length xs ≡ r .length
       count = simp (lib.ListN.length-take, lib.ListN.length-drop) (omega arith)
 
       few : r .length ≤ 16383
-      few = omega (arith, leb-true (length xs) 16383 (and-right (leb 0x30 (r .code) && leb (r .code) 0x34) (leb (length xs) 16383) b₃), count)
+      few = omega (arith, good-one .few, count)
 
       unit : unitTagged o (r .code - 27) (r .length / 256) (r .length % 256) (r .start) ≡ u
       unit =
@@ -134,12 +99,6 @@ module _ (o : List ℕ) (r : UnitRecord) (u : TextUnit) (g : good u ≡ true) wh
           (let z : 27 + (r .code - 27) ≡ r .code = omega (arith, lo) in z) (let z : countOf (r .length / 256) (r .length % 256) ≡ r .length = omega (arith, few) in z)
           ∙ s
 
-  past-six : (r .kind ≡ 0 → ⊥) → (r .kind ≡ 1 → ⊥) → (r .kind ≡ 2 → ⊥) → 3 ≤ r .kind
-  past-six a b c = omega arith
-
-  seven : 3 ≤ r .kind → (r .kind ≡ 3 → ⊥) → (r .kind ≡ 4 → ⊥) → (r .kind ≡ 5 → ⊥) → (r .kind ≡ 6 → ⊥) → 7 ≤ r .kind
-  seven h a b c d = omega arith
-
   pub fits : unitRead o r ≡ some u → Fits o r u
   unfolding unitRead readable unitOf tagOf numberOf pick unitTagged
   fits e = start (readable o r) refl e
@@ -147,28 +106,33 @@ module _ (o : List ℕ) (r : UnitRecord) (u : TextUnit) (g : good u ≡ true) wh
       xs : List ℕ
       xs = take (r .length) (drop (r .start) o)
 
+      -- kinds 2 to 6
+      fits-control : (r .kind ≡ 0 → ⊥) → (r .kind ≡ 1 → ⊥) → r .kind < 7 → control (controlOf (r .kind)) ≡ u → Fits o r u
+      fits-control n m h s =
+          let k : 14 + r .kind - 14 ≡ r .kind = omega arith in
+          fits-plain (r .kind) (control (controlOf (r .kind))) refl h
+          (rw (ne-eqb (r .kind) 0 n, ne-eqb (r .kind) 7 (λ e. omega arith)))
+          (rw (
+            le-ltb (14 + r .kind) 12 (omega arith),
+            le-ltb (14 + r .kind) 15 (omega arith),
+            ne-eqb (14 + r .kind) 15 (λ e. omega arith),
+            lt-leb 21 (14 + r .kind) (omega arith),
+            k,
+          ))
+          s
+
       last : (b : Bool) → eqb (r .kind) 7 ≡ b → 7 ≤ r .kind → cond b (leb (r .start + r .length) (length o)) (ltb (r .kind) 7) ≡ true → ext (r .code) xs ≡ u → Fits o r u
       last true q n h s = fits-segment (eqb-true (r .kind) 7 q) (leb-true (r .start + r .length) (length o) h) s
       last false q n h s = absurd (let l = ltb-true (r .kind) 7 h in omega arith)
 
-      go : (b0 b1 b2 b3 b4 b5 b6 : Bool) → eqb (r .kind) 0 ≡ b0 → eqb (r .kind) 1 ≡ b1 → eqb (r .kind) 2 ≡ b2 → eqb (r .kind) 3 ≡ b3 → eqb (r .kind) 4 ≡ b4
-          → eqb (r .kind) 5 ≡ b5 → eqb (r .kind) 6 ≡ b6 → readable o r ≡ true
-          → cond b0 (char (r .set) (r .code)) (cond b1 space (cond b2 tab (cond b3 newline (cond b4 ltr (cond b5 rtl (cond b6 revert (ext (r .code) xs))))))) ≡ u
-          → Fits o r u
-      go true b1 b2 b3 b4 b5 b6 q0 q1 q2 q3 q4 q5 q6 h s = fits-character (eqb-true (r .kind) 0 q0) s
-      go false true b2 b3 b4 b5 b6 q0 q1 q2 q3 q4 q5 q6 h s = let q = eqb-true (r .kind) 1 q1 in fits-plain 1 space q (omega arith) (rw q) refl s
-      go false false true b3 b4 b5 b6 q0 q1 q2 q3 q4 q5 q6 h s = let q = eqb-true (r .kind) 2 q2 in fits-plain 2 tab q (omega arith) (rw q) refl s
-      go false false false true b4 b5 b6 q0 q1 q2 q3 q4 q5 q6 h s = let q = eqb-true (r .kind) 3 q3 in fits-plain 3 newline q (omega arith) (rw q) refl s
-      go false false false false true b5 b6 q0 q1 q2 q3 q4 q5 q6 h s = let q = eqb-true (r .kind) 4 q4 in fits-plain 4 ltr q (omega arith) (rw q) refl s
-      go false false false false false true b6 q0 q1 q2 q3 q4 q5 q6 h s = let q = eqb-true (r .kind) 5 q5 in fits-plain 5 rtl q (omega arith) (rw q) refl s
-      go false false false false false false true q0 q1 q2 q3 q4 q5 q6 h s = let q = eqb-true (r .kind) 6 q6 in fits-plain 6 revert q (omega arith) (rw q) refl s
-      go false false false false false false false q0 q1 q2 q3 q4 q5 q6 h s =
-          last (eqb (r .kind) 7) refl
-          (seven (past-six (eqb-false (r .kind) 0 q0) (eqb-false (r .kind) 1 q1) (eqb-false (r .kind) 2 q2)) (eqb-false (r .kind) 3 q3) (eqb-false (r .kind) 4 q4) (eqb-false (r .kind) 5 q5) (eqb-false (r .kind) 6 q6))
-          h s
+      go : (b0 b1 b2 : Bool) → eqb (r .kind) 0 ≡ b0 → eqb (r .kind) 1 ≡ b1 → ltb (r .kind) 7 ≡ b2 → readable o r ≡ true
+          → cond b0 (char (r .set) (r .code)) (cond b1 space (cond b2 (control (controlOf (r .kind))) (ext (r .code) xs))) ≡ u → Fits o r u
+      go true b1 b2 q0 q1 q2 h s = fits-character (eqb-true (r .kind) 0 q0) s
+      go false true b2 q0 q1 q2 h s = let q = eqb-true (r .kind) 1 q1 in fits-plain 1 space q (omega arith) (rw q) refl s
+      go false false true q0 q1 q2 h s = fits-control (eqb-false (r .kind) 0 q0) (eqb-false (r .kind) 1 q1) (ltb-true (r .kind) 7 q2) s
+      go false false false q0 q1 q2 h s = last (eqb (r .kind) 7) refl (ltb-false (r .kind) 7 q2) h s
 
       start : (b : Bool) → readable o r ≡ b → cond b (some (unitOf (r .kind) (r .set) (r .code) xs)) none ≡ some u → Fits o r u
       start false q s = absurd (Option·none-ne-some u s)
       start true q s =
-          go (eqb (r .kind) 0) (eqb (r .kind) 1) (eqb (r .kind) 2) (eqb (r .kind) 3) (eqb (r .kind) 4) (eqb (r .kind) 5) (eqb (r .kind) 6) refl refl refl refl refl refl refl q
-          (Option·some-injective (unitOf (r .kind) (r .set) (r .code) xs) u s)
+          go (eqb (r .kind) 0) (eqb (r .kind) 1) (ltb (r .kind) 7) refl refl refl q (Option·some-injective (unitOf (r .kind) (r .set) (r .code) xs) u s)

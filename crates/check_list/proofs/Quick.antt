@@ -6,10 +6,11 @@ use mathlib.Core.Path.{_≡_, refl, sym, ap, subst, _∙_}
 use mathlib.Core.Bool.{Bool, true, false, false≢true}
 use mathlib.Core.List.{List}
 use lib.Dec.{eqb, leb, ltb}
-use borrow.Author.Tests.{eqb-true, eqb-false, eq-eqb, ne-eqb, leb-true, leb-false, le-leb, ltb-true, ltb-false, lt-ltb, le-ltb}
+use borrow.Author.Tests.{eqb-true, eqb-false, leb-true, leb-false, le-leb, ltb-true, ltb-false, lt-ltb, le-ltb}
 use Rattle.base.specs.Choice.{pick}
 use Rattle.base.specs.Kind as kind
 use Rattle.base.specs.declared.Unit.{Unit as UnitRecord}
+use Rattle.base.proofs.Bools.{pick-last}
 use Rattle.charset.specs.Charsets.{no-set, formOf}
 use Rattle.charset.proofs.Laws.{formRule, form-rule}
 use Rattle.text.specs.Text.{graphicOf}
@@ -30,12 +31,6 @@ use Rattle.check_list.proofs.Refusals.{kind-character, kind-plain, code
 
 -- ---- a code
 
--- a test that would have said no
-passed : (t y : Bool) → pick t false y ≡ true → (t ≡ false) × (y ≡ true)
-unfolding pick
-passed true y e = absurd (false≢true e)
-passed false y e = (refl, e)
-
 graphic : (m : ℕ) → 0x21 ≤ m → m ≤ 0x7E → graphicOf m ≡ true
 unfolding graphicOf pick
 graphic m a b = rw (le-ltb m 0x21 a, le-leb m 0x7E b)
@@ -49,9 +44,9 @@ record Within (c k : ℕ) : Type 0 where
 within : (c k : ℕ) → usedBy c k ≡ true → Within c k
 unfolding usedBy
 within c k e =
-    let a = passed (leb 0x10000 k) _ e in
-    let b = passed (leb no-set c) _ (a .1) in
-    let d = passed (ltb (0x5D + 2 * wider c) (lowFrom c k)) _ (b .1) in
+    let a = pick-last (leb 0x10000 k) _ e in
+    let b = pick-last (leb no-set c) _ (a .1) in
+    let d = pick-last (ltb (0x5D + 2 * wider c) (lowFrom c k)) _ (b .1) in
     record {
       whole = leb-false 0x10000 k (a .0);
       set = leb-false no-set c (b .0);
@@ -89,7 +84,7 @@ code-used c k w = rw (← form-rule c) (go (ltb c 3) refl (ltb c 12) refl)
 settled-written : (d : Directions) → settledOf d ≡ true → writtenOf d ≡ Goes d
 unfolding settledOf writtenOf pick
 settled-written d e =
-    let p = passed (d .marked) (d .texted) e in
+    let p = pick-last (d .marked) (d .texted) e in
     let texted : true ≡ d .texted = sym (p .1) in
     rw (p .0) (ap Goes (λ i. record { depth = d .depth; levels = d .levels; marked = false; texted = texted i }))
 

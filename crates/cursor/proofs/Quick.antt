@@ -1,19 +1,18 @@
 -- Where the octets at a cursor are taken for text, the element there is refused or is that text, whatever the directions are (`quick-turn`).
-use Prim.Native.Nat.{ℕ, _+_, _*_, _-_, _/_, _%_, _^_, _≤_, _<_}
+use Prim.Native.Nat.{ℕ, _+_, _*_, _-_, _%_, _^_, _≤_, _<_}
 use native.Mathlib.Omega.{arith}
 use native.Mathlib.Nat.{eq-or-lt-of-le}
-use mathlib.Core.Path.{_≡_, refl, ap, ap₂, sym, _∙_, subst}
+use mathlib.Core.Path.{_≡_, refl, ap, sym, _∙_, subst}
 use mathlib.Core.Bool.{Bool, true, false, false≢true}
 use mathlib.Core.List.{List, [], _∷_}
 use mathlib.Core.Logic.{_⊎_, inl, inr, ⊎-elim}
 use lib.Dec.{eqb, leb, ltb}
-use borrow.Author.Tests.{eqb-true, eqb-false, ltb-true, ltb-false, leb-true, ne-eqb, eq-eqb}
+use borrow.Author.Tests.{eqb-true, eqb-false, ltb-true, ltb-false, leb-true}
 use Rattle.base.specs.Choice.{pick}
 use Rattle.base.specs.Kind as kind
-use Rattle.base.specs.Refusal as refusal
 use Rattle.base.proofs.Ladder.{on-true, on-false, on-ne, on-ge, on-lt, on-gt}
 use Rattle.charset.specs.Charsets.{form-96, form-94x94, no-set, formOf}
-use Rattle.charset.proofs.Laws.{formRule, form-rule}
+use Rattle.charset.proofs.Laws.{narrow-form, wide-form}
 use Rattle.state.specs.Elements.{part, next}
 use Rattle.state.specs.Directions.{writtenOf, stepOf}
 use Rattle.state.specs.declared.State.{State}
@@ -69,21 +68,10 @@ directed st k set code octets good = written (textPart k set code octets) st
 -- ---- the forms of sets, by their number
 
 single-form : (set : ℕ) → set < first-double → formOf set ≡ form-94x94 → ⊥
-unfolding formRule
-single-form set h e = go (ltb set 3) refl (form-rule set ∙ e)
-  where
-    go : (b : Bool) → ltb set 3 ≡ b → formRule set ≡ form-94x94 → ⊥
-    go true k f =
-        let z : _≡_ {A = ℕ} 1 form-94x94 = on-true (ltb set 3) _ _ _ k refl ∙ f in
-        omega arith
-    go false k f =
-        let z : _≡_ {A = ℕ} 2 form-94x94 = on-false (ltb set 3) _ _ _ k (on-lt set 12 _ _ _ h refl) ∙ f in
-        omega arith
+single-form set h = eqb-false (formOf set) form-94x94 (narrow-form set h)
 
 double-form : (set : ℕ) → first-double ≤ set → set < no-set → formOf set ≡ form-94x94
-unfolding formRule
-double-form set h k =
-    sym (form-rule set) ∙ sym (on-ge set 3 _ _ _ (omega arith) (on-ge set 12 _ _ _ h (on-lt set 15 _ _ _ k refl)))
+double-form set h k = eqb-true (formOf set) form-94x94 (wide-form set h k)
 
 -- ---- text
 

@@ -1,13 +1,12 @@
 -- The choice by tests on the two numbers and on what a row keeps.
 use mathlib.Core.Path.{_≡_, refl, _∙_}
-use mathlib.Core.Bool.{Bool, true, false, cond, _||_, Bool·beq}
+use mathlib.Core.Bool.{Bool, true, false, cond, _||_, Bool·beq, or-true}
 use mathlib.Core.List.{List}
 use Prim.Native.Nat.{ℕ, _+_, _/_, _%_, _≤_, _<_}
 use lib.ListN.{getD}
 use lib.Dec.{eqb, leb}
 use borrow.Author.Tests.{eq-eqb, ne-eqb, lt-ltb, le-ltb, le-leb, lt-leb}
-use Rattle.shortest.proofs.Sets.{implies, implies-elim, upTo, up-to}
-use Rattle.shortest.proofs.Needs.{or-true}
+use Rattle.base.proofs.Bools.{implies, implies-elim, up-to, upTo}
 use Rattle.plan.specs.Numbers.{setsInGL, servedInGL, servedInGR, afterFirst, afterSecond, chosenBy}
 use Rattle.plan.specs.Costs.{secondSlot}
 use Rattle.plan.proofs.Numbers.{beq-eq}

@@ -10,14 +10,13 @@ use borrow.Author.Tests.{ltb-true, ltb-false, lt-ltb, le-ltb, le-leb, lt-leb, eq
 use lib.ListN.{length, getD, set, take, drop, length-append, length-take, length-drop}
 use lib.Seq.{sets, length-sets, take-suc, take-all, take-take, getD-drop}
 use Rattle.base.specs.Choice.{pick}
+use Rattle.base.proofs.Bools.{and-left, and-right, up-to}
 use Rattle.charset.specs.declared.Side.{Side}
 use Rattle.charset.specs.declared.Side.the-variants.{GL, GR}
 use Rattle.charset.specs.Charsets.{rowOf, formOf}
 use Rattle.state.specs.State.{on}
 use Rattle.grammar.specs.Units.{ext, wide, top, octets, designation}
-use Rattle.grammar.proofs.Complete.{and-left, and-right}
 use Rattle.shortest.specs.Writing.{designated}
-use Rattle.shortest.proofs.Sets.{up-to}
 use Rattle.rows.specs.Rows.{countOf, partOf, unitTagged}
 use Rattle.plan.specs.Numbers.{setsInGL, setsInGR, change}
 use Rattle.rows.proofs.Units.{part-length, unit-segment, unit-spare}

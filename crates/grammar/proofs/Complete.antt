@@ -3,17 +3,18 @@ use Prim.Native.Nat.{ℕ, zero, suc, _+_, _*_, _-_, _/_, _%_, _≤_, _<_}
 use native.Mathlib.Omega.{arith}
 use native.Mathlib.Nat.{not-suc-le-zero, le-of-suc-le-suc}
 use mathlib.Core.Path.{_≡_, refl, sym, ap, _∙_, subst}
-use mathlib.Core.Bool.{Bool, true, false, cond, _&&_, false≢true, true≢false}
-use mathlib.Core.List.{List, [], _∷_, _++_}
+use mathlib.Core.Bool.{Bool, true, false, cond, _&&_, true≢false}
+use mathlib.Core.List.{List, _∷_, _++_}
 use lib.Dec.{eqb, leb, ltb}
 use lib.ListN.{length, length-append}
 use lib.Seq.{take-append-seam}
 use borrow.Author.Tests.{eqb-true, leb-true, lt-ltb, le-ltb, le-leb, ne-eqb, eq-eqb}
 use Rattle.base.specs.Choice.{pick}
+use Rattle.base.proofs.Bools.{and-left, and-right, off}
 use Rattle.charset.specs.declared.Side.{Side}
 use Rattle.charset.specs.declared.Side.the-variants.{GL, GR}
 use Rattle.charset.specs.Charsets.{mayUse, allowed, formOf, fitsOf, find, setOf}
-use Rattle.charset.proofs.Laws.{allowed-below}
+use Rattle.charset.proofs.Laws.{allowed-below, left-form}
 use Rattle.state.specs.State.{on, get}
 use Rattle.state.specs.Elements.{part, next}
 use Rattle.text.specs.Text.{graphicOf, secondOctetOf, characterOf, textOf}
@@ -24,19 +25,12 @@ use Rattle.element.specs.Element.{shapeOf}
 use Rattle.state.specs.declared.Sets.{Sets}
 use Rattle.state.specs.declared.elements.Part.{Part}
 use Rattle.state.specs.declared.elements.Shape.the-variants.{Designates, Gives}
-use Rattle.grammar.specs.Units.{TextUnit, char, space, tab, newline, ltr, rtl, revert, ext, kindOf, textOctets, counts, unitOf, wide, top, shown, octets, designation, codeUsed, segment, good}
+use Rattle.grammar.specs.Units.{TextUnit, char, space, control, tab, newline, ltr, rtl, revert, ext, kindOf, controlOctets, textOctets, counts, unitOf, wide, top, shown, octets, designation, codeUsed, segment, good}
 use Rattle.grammar.specs.Grammar.{Shows}
 use Rattle.grammar.specs.Reading.{unitAt}
 use Rattle.grammar.proofs.Segment.{content}
+use Rattle.grammar.proofs.Good.{GoodSegment, good-segment}
 use Rattle.grammar.proofs.Sound.{Legal, graphic-low}
-
-pub and-left : (a b : Bool) → (a && b) ≡ true → a ≡ true
-and-left true b e = refl
-and-left false b e = e
-
-pub and-right : (a b : Bool) → (a && b) ≡ true → b ≡ true
-and-right true b e = e
-and-right false b e = absurd (false≢true e)
 
 -- a rule of the first n numbers, one by one
 abbrev Each : ℕ → (ℕ → Type 0) → Type 0
@@ -47,21 +41,10 @@ infixr 20 _&_
 _&_ : {A B : Type 0} → A → B → A × B
 _&_ a b = (a, b)
 
-off : {A : Type 0} → false ≡ true → A
-off e = absurd (false≢true e)
-
 each : (n : ℕ) (P : ℕ → Type 0) → Each n P → (c : ℕ) → c < n → P c
 each zero P a c h = absurd (not-suc-le-zero h)
 each (suc n) P a zero h = a .0
 each (suc n) P a (suc c) h = each n (λ m. P (suc m)) (a .1) c (le-of-suc-le-suc h)
-
--- no set of 96 stands in GL
-left-form : (c : ℕ) → allowed GL c ≡ true → eqb (formOf c) 2 ≡ false
-unfolding allowed mayUse formOf
-left-form c a =
-    each 15 (λ m. allowed GL m ≡ true → eqb (formOf m) 2 ≡ false)
-    ((λ _. refl) & (λ _. refl) & (λ _. refl) & off & off & off & off & off & off & off & off & off & (λ _. refl) & (λ _. refl) & (λ _. refl) & tt) c
-    (allowed-below GL c a) a
 
 module _ (s : Sets) where
   -- ---- designations
@@ -176,79 +159,43 @@ module _ (s : Sets) where
         g₄,
       )
     where
-      h₃ : (leb 0x30 e && leb e 0x34 && leb (length xs) 16383) ≡ true
-      h₃ = and-left (leb 0x30 e && leb e 0x34 && leb (length xs) 16383) (segment e 0 xs) g
-
-      h₂ : (leb 0x30 e && leb e 0x34) ≡ true
-      h₂ = and-left (leb 0x30 e && leb e 0x34) (leb (length xs) 16383) h₃
+      h : GoodSegment e xs
+      h = good-segment e xs g
 
       g₁ : 0x30 ≤ e
-      g₁ = leb-true 0x30 e (and-left (leb 0x30 e) (leb e 0x34) h₂)
+      g₁ = h .low
 
       g₂ : e ≤ 0x34
-      g₂ = leb-true e 0x34 (and-right (leb 0x30 e) (leb e 0x34) h₂)
+      g₂ = h .high
 
       g₄ : segment e 0 xs ≡ true
-      g₄ = and-right (leb 0x30 e && leb e 0x34 && leb (length xs) 16383) (segment e 0 xs) g
+      g₄ = h .content
 
       n : (128 + length xs / 128 - 128) * 128 + (128 + length xs % 128 - 128) ≡ length xs
       n = omega arith
 
 -- ---- the part of a unit
 
-abbrev setIn : TextUnit → ℕ
-setIn (char c k) = c
-setIn space = 0
-setIn tab = 0
-setIn newline = 0
-setIn ltr = 0
-setIn rtl = 0
-setIn revert = 0
-setIn (ext e xs) = 0
-
-abbrev codeIn : TextUnit → ℕ
-codeIn (char c k) = k
-codeIn space = 0
-codeIn tab = 0
-codeIn newline = 0
-codeIn ltr = 0
-codeIn rtl = 0
-codeIn revert = 0
-codeIn (ext e xs) = e
-
-abbrev skipIn : TextUnit → ℕ
-skipIn (char c k) = 0
-skipIn space = 0
-skipIn tab = 0
-skipIn newline = 0
-skipIn ltr = 0
-skipIn rtl = 0
-skipIn revert = 0
-skipIn (ext e xs) = 6
-
-abbrev ownIn : TextUnit → ℕ
-ownIn (char c k) = cond (wide c) 2 1
-ownIn space = 1
-ownIn tab = 1
-ownIn newline = 1
-ownIn ltr = 3
-ownIn rtl = 3
-ownIn revert = 2
-ownIn (ext e xs) = length xs
+-- its set, its code, the octets before its own, and its own
+abbrev fields : TextUnit → ℕ × ℕ × ℕ × ℕ
+fields (char c k) = (c, k, 0, cond (wide c) 2 1)
+fields space = (0, 0, 0, 1)
+fields (control x) = (0, 0, 0, length (controlOctets x))
+fields (ext e xs) = (0, e, 6, length xs)
 
 abbrev pub partOf : TextUnit → Part
-partOf u = part (kindOf u) (setIn u) (codeIn u) (skipIn u) (ownIn u) (counts u)
+partOf u = part (kindOf u) (fields u .0) (fields u .1) (fields u .2) (fields u .3) (counts u)
 
 pub starts-unit : (s : Sets) (l : Legal s) (u : TextUnit) (d : Side) (t : List ℕ) → good u ≡ true → Shows u d s
     → shapeOf (octets d u ++ t) s ≡ Gives (partOf u)
 unfolding good octets wide shapeOf csiOf beginOf textOf next pick
 starts-unit s l (char c k) d t g h = starts-char s l d c k t (and-right (ltb c 15) (codeUsed (formOf c) k) g) h
 starts-unit s l space d t g h = rw h
-starts-unit s l tab d t g h = refl
-starts-unit s l newline d t g h = refl
-starts-unit s l ltr d t g h = refl
-starts-unit s l rtl d t g h = refl
-starts-unit s l revert d t g h = refl
+starts-unit s l (control tab) d t g h = refl
+starts-unit s l (control newline) d t g h = refl
+starts-unit s l (control ltr) d t g h = refl
+starts-unit s l (control rtl) d t g h = refl
+starts-unit s l (control revert) d t g h = refl
 starts-unit s l (ext e xs) d t g h = starts-ext s e xs t g
 
 pub part-size : (u : TextUnit) (d : Side) → length (octets d u) ≡ partOf u .skip + partOf u .octets
@@ -259,11 +206,7 @@ part-size (char c k) d = go (wide c)
     go true = refl
     go false = refl
 part-size space d = refl
-part-size tab d = refl
-part-size newline d = refl
-part-size ltr d = refl
-part-size rtl d = refl
-part-size revert d = refl
+part-size (control x) d = omega arith
 part-size (ext e xs) d = omega arith
 
 pub part-some : (u : TextUnit) → 1 ≤ partOf u .skip + partOf u .octets
@@ -273,11 +216,11 @@ part-some (char c k) = go (wide c)
     go true = omega arith
     go false = omega arith
 part-some space = omega arith
-part-some tab = omega arith
-part-some newline = omega arith
-part-some ltr = omega arith
-part-some rtl = omega arith
-part-some revert = omega arith
+part-some (control tab) = omega arith
+part-some (control newline) = omega arith
+part-some (control ltr) = omega arith
+part-some (control rtl) = omega arith
+part-some (control revert) = omega arith
 part-some (ext e xs) = omega arith
 
 -- the part's unit is the unit
@@ -285,9 +228,9 @@ pub part-unit : (u : TextUnit) (d : Side) (t : List ℕ) → unitAt (partOf u) (
 unfolding unitAt unitOf octets
 part-unit (char c k) d t = refl
 part-unit space d t = refl
-part-unit tab d t = refl
-part-unit newline d t = refl
-part-unit ltr d t = refl
-part-unit rtl d t = refl
-part-unit revert d t = refl
+part-unit (control tab) d t = refl
+part-unit (control newline) d t = refl
+part-unit (control ltr) d t = refl
+part-unit (control rtl) d t = refl
+part-unit (control revert) d t = refl
 part-unit (ext e xs) d t = ap (ext e) (take-append-seam xs t)

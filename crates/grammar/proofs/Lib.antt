@@ -3,5 +3,6 @@ pub mod Places
 pub mod Rule
 pub mod Segment
 pub mod Sound
+pub mod Good
 pub mod Complete
 pub mod Agrees

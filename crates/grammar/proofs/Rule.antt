@@ -2,8 +2,8 @@
 -- of text say (`Like`), and a unit may follow exactly where its step goes on (`After`).
 use Prim.Native.Nat.{ℕ, _+_, _-_, _≤_, _<_}
 use native.Mathlib.Omega.{arith}
-use mathlib.Core.Path.{_≡_, refl, sym, _∙_}
-use mathlib.Core.Bool.{Bool, true, false, false≢true, true≢false}
+use mathlib.Core.Path.{_≡_, refl}
+use mathlib.Core.Bool.{Bool, true, false, true≢false}
 use mathlib.Core.List.{List, [], _∷_}
 use mathlib.Core.Logic.{_↔_, _⊎_, inl, inr, ⊎-elim}
 use lib.Dec.{eqb, ltb}
@@ -11,11 +11,12 @@ use borrow.Author.Tests.{eqb-true, eqb-false, ltb-true, ltb-false}
 use Rattle.base.specs.Choice.{pick}
 use Rattle.state.specs.Directions.{directions, undirected, writtenOf, deeperOf, begunOf, revertedOf, stepOf}
 use Rattle.base.specs.Limit as limit
+use Rattle.base.proofs.Bools.{off, pick-by}
 use Rattle.state.specs.declared.directions.Directions.{Directions}
 use Rattle.state.specs.declared.directions.Step.{Step}
 use Rattle.state.specs.declared.directions.Step.the-variants.{Goes, Stops}
-use Rattle.grammar.specs.Units.{TextUnit, char, space, tab, newline, ltr, rtl, revert, ext}
-use Rattle.grammar.specs.Grammar.{TextMay, BeginMay, May, begins, reverts, texts, Lawful}
+use Rattle.grammar.specs.Units.{TextUnit, char, space, control, tab, newline, ltr, rtl, revert, ext, counts}
+use Rattle.grammar.specs.Grammar.{TextMay, BeginMay, May, begins, reverts, addIf, Lawful}
 use Rattle.grammar.specs.Reading.{direct}
 
 -- no unit stops, step by step
@@ -41,18 +42,19 @@ data After (O : Type 0) (b r t : ℕ) : Step → Type 0 where
   stops : {n : ℕ} → (O → ⊥) → After O b r t (Stops n)
 
 by : {O : Type 0} {b r t : ℕ} {x y : Step} (q : Bool) → (q ≡ true → After O b r t x) → (q ≡ false → After O b r t y) → After O b r t (pick q x y)
-unfolding pick
-by true f g = f refl
-by false f g = g refl
+by {O} {b} {r} {t} q f g = pick-by (After O b r t) q f g
 
-also : {P Q : Type 0} {b r t : ℕ} {x : Step} → P → After Q b r t x → After (P × Q) b r t x
-also p (goes o l) = goes (p, o) l
-also p (stops n) = stops (λ o. n (o .1))
+both : {P Q : Type 0} {b r t : ℕ} {x : Step} → P → After Q b r t x → After (P × Q) b r t x
+both p (goes o l) = goes (p, o) l
+both p (stops n) = stops (λ o. n (o .1))
 
 module _ (d : Directions) (b r t : ℕ) (l : Like d b r t) where
   after-text : Like (directions (d .depth) (d .levels) (d .marked) true) b r (t + 1)
   after-text =
       record { open-now = l .open-now; marks = l .marks; no-marks = l .no-marks; texts = λ _. omega arith; no-texts = λ e. absurd (true≢false e) }
+
+  after-mark : {n v b′ r′ : ℕ} → n + r′ ≡ b′ → 1 ≤ b′ + r′ → Like (directions n v true (d .texted)) b′ r′ t
+  after-mark e h = record { open-now = e; marks = λ _. h; no-marks = λ x. absurd (true≢false x); texts = l .texts; no-texts = l .no-texts }
 
   written : After (TextMay b r) b r (t + 1) (writtenOf d)
   unfolding writtenOf
@@ -69,16 +71,16 @@ module _ (d : Directions) (b r t : ℕ) (l : Like d b r t) where
       by (ltb (d .depth) limit.depth)
       (λ e. let q = ltb-true (d .depth) limit.depth e in
       goes (omega (arith, l .open-now))
-      (record { open-now = omega (arith, l .open-now); marks = λ _. omega arith; no-marks = λ x. absurd (true≢false x); texts = l .texts; no-texts = l .no-texts }))
+      (after-mark (omega (arith, l .open-now)) (omega arith)))
       (λ e. let q = ltb-false (d .depth) limit.depth e in stops (λ o. omega (arith, l .open-now)))
 
   begun : (way : ℕ) → After (BeginMay b r t) (b + 1) r t (begunOf way d)
   unfolding begunOf
   begun way =
-      by (d .marked) (λ m. also (inr (l .marks m)) (deeper way))
+      by (d .marked) (λ m. both (inr (l .marks m)) (deeper way))
       (λ m. by (d .texted)
       (λ x. stops (λ o. ⊎-elim (λ z. omega (arith, l .texts x)) (λ z. omega (arith, l .no-marks m)) (o .0)))
-      (λ x. also (inl (l .no-texts x)) (deeper way)))
+      (λ x. both (inl (l .no-texts x)) (deeper way)))
 
   reverted : After (r < b) b (r + 1) t (revertedOf d)
   unfolding revertedOf
@@ -87,7 +89,7 @@ module _ (d : Directions) (b r t : ℕ) (l : Like d b r t) where
       (λ e. let q = eqb-true (d .depth) 0 e in stops (λ o. omega (arith, l .open-now)))
       (λ e. let q : d .depth ≡ 0 → ⊥ = eqb-false (d .depth) 0 e in
       goes (omega (arith, l .open-now))
-      (record { open-now = omega (arith, l .open-now); marks = λ _. omega arith; no-marks = λ x. absurd (true≢false x); texts = l .texts; no-texts = l .no-texts }))
+      (after-mark (omega (arith, l .open-now)) (omega arith)))
 
 abbrev Same : List TextUnit → Directions → ℕ → ℕ → ℕ → Type 0
 Same us d b r t = (directed us d ≡ true) ↔ Lawful us b r t
@@ -95,53 +97,32 @@ Same us d b r t = (directed us d ≡ true) ↔ Lawful us b r t
 follow : {O : Type 0} {b r t : ℕ} {x : Step} (us : List TextUnit) → After O b r t x → ((d : Directions) → Like d b r t → Same us d b r t)
     → (passes x (λ next. directed us next) ≡ true) ↔ (O × Lawful us b r t)
 follow us (goes {d} o l) k = (λ e. (o, k d l .0 e), λ p. k d l .1 (p .1))
-follow us (stops n) k = (λ e. absurd (false≢true e), λ p. absurd (n (p .0)))
+follow us (stops n) k = (off, λ p. absurd (n (p .0)))
 
--- the same step, said of other counts and of another condition
-likewise : {O P : Type 0} {b r t b′ r′ t′ : ℕ} {x : Step} → (O → P) → (P → O) → b ≡ b′ → r ≡ r′ → t ≡ t′ → After O b r t x → After P b′ r′ t′ x
-likewise f g p q s (goes {d} o l) =
-    goes {d = d} (f o)
-    (record {
-      open-now = omega (arith, l .open-now);
-      marks = λ e. omega (arith, l .marks e);
-      no-marks = λ e. omega (arith, l .no-marks e);
-      texts = λ e. omega (arith, l .texts e);
-      no-texts = λ e. omega (arith, l .no-texts e);
-    })
-likewise f g p q s (stops n) = stops (λ o. n (g o))
+-- the same step, said by another condition
+likewise : {O P : Type 0} {b r t : ℕ} {x : Step} → (O → P) → (P → O) → After O b r t x → After P b r t x
+likewise f g (goes o l) = goes (f o) l
+likewise f g (stops n) = stops (λ o. n (g o))
 
 module _ (d : Directions) (b r t : ℕ) (l : Like d b r t) where
-  -- a unit of text
-  text : After (true ≡ true → TextMay b r) (b + 0) (r + 0) (t + 1) (writtenOf d)
-  text = likewise (λ o e. o) (λ o. o refl) (omega arith) (omega arith) refl (written d b r t l)
-
-  -- a unit that is free of the rule
-  free : After (false ≡ true → TextMay b r) (b + 0) (r + 0) (t + 0) (Goes d)
-  free =
-      let still : After (Unit {0}) b r t (Goes d) = goes tt l in
-      likewise (λ _ e. absurd (false≢true e)) (λ _. tt) (omega arith) (omega arith) (omega arith) still
-
-  begin : (way : ℕ) → After (BeginMay b r t) (b + 1) (r + 0) (t + 0) (begunOf way d)
-  begin way = likewise (λ o. o) (λ o. o) refl (omega arith) (omega arith) (begun d b r t l way)
-
-  step : (u : TextUnit) → After (May u b r t) (b + begins u) (r + reverts u) (t + texts u) (direct d u)
+  step : (u : TextUnit) → After (May u b r t) (addIf (begins u) b) (addIf (reverts u) r) (addIf (counts u) t) (direct d u)
   unfolding stepOf pick
-  step (char c k) = text
-  step space = text
-  step tab = free
-  step newline = free
-  step ltr = begin 0
-  step rtl = begin 1
-  step revert = likewise (λ o. o) (λ o. o) (omega arith) refl (omega arith) (reverted d b r t l)
-  step (ext c xs) = free
+  step (char c k) = likewise (λ o. record { text = λ _. o; begin = off; revert = off }) (λ m. m .text refl) (written d b r t l)
+  step space = likewise (λ o. record { text = λ _. o; begin = off; revert = off }) (λ m. m .text refl) (written d b r t l)
+  step (control tab) = goes (record { text = off; begin = off; revert = off }) l
+  step (control newline) = goes (record { text = off; begin = off; revert = off }) l
+  step (control ltr) = likewise (λ o. record { text = off; begin = λ _. o; revert = off }) (λ m. m .begin refl) (begun d b r t l 0)
+  step (control rtl) = likewise (λ o. record { text = off; begin = λ _. o; revert = off }) (λ m. m .begin refl) (begun d b r t l 1)
+  step (control revert) = likewise (λ o. record { text = off; begin = off; revert = λ _. o }) (λ m. m .revert refl) (reverted d b r t l)
+  step (ext c xs) = goes (record { text = off; begin = off; revert = off }) l
 
 same : (us : List TextUnit) (d : Directions) (b r t : ℕ) → Like d b r t → Same us d b r t
 unfolding directed Lawful
 same [] d b r t l = (λ _. tt, λ _. refl)
-same (u ∷ us) d b r t l = follow us (step d b r t l u) (λ e m. same us e (b + begins u) (r + reverts u) (t + texts u) m)
+same (u ∷ us) d b r t l = follow us (step d b r t l u) (λ e m. same us e (addIf (begins u) b) (addIf (reverts u) r) (addIf (counts u) t) m)
 
 -- the direction rule from the start of a string
 pub direction-rule : (us : List TextUnit) → (directed us undirected ≡ true) ↔ Lawful us 0 0 0
 direction-rule us =
     same us undirected 0 0 0
-    (record { open-now = omega arith; marks = λ e. absurd (false≢true e); no-marks = λ _. omega arith; texts = λ e. absurd (false≢true e); no-texts = λ _. refl })
+    (record { open-now = omega arith; marks = off; no-marks = λ _. omega arith; texts = off; no-texts = λ _. refl })

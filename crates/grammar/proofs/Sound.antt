@@ -10,6 +10,7 @@ use lib.ListN.{length, take, drop, take-append-drop}
 use lib.Seq.{length-take-le}
 use borrow.Author.Tests.{eqb-true, ltb-true, ltb-false, leb-true, lt-ltb, le-leb}
 use Rattle.base.specs.Choice.{pick}
+use Rattle.base.proofs.Bools.{pick-last}
 use Rattle.charset.specs.declared.Side.{Side}
 use Rattle.charset.specs.declared.Side.the-variants.{GL, GR}
 use Rattle.charset.specs.Charsets.{rowOf, formOf, allowed, setOf}
@@ -26,7 +27,7 @@ use Rattle.state.specs.declared.Sets.{Sets}
 use Rattle.state.specs.declared.elements.Part.{Part}
 use Rattle.state.specs.declared.elements.Shape.{Shape}
 use Rattle.state.specs.declared.elements.Shape.the-variants.{Refuses, Designates, Gives}
-use Rattle.grammar.specs.Units.{TextUnit, char, space, tab, newline, ltr, rtl, revert, ext, kindOf, textOctets, counts, unitOf, wide, top, octets, lead, designation, codeUsed, segment, good}
+use Rattle.grammar.specs.Units.{TextUnit, char, space, control, tab, newline, ltr, rtl, revert, ext, kindOf, textOctets, counts, unitOf, wide, top, octets, lead, designation, codeUsed, segment, good}
 use Rattle.grammar.specs.Grammar.{Shows}
 use Rattle.grammar.specs.Reading.{Octets, unitAt}
 use Rattle.grammar.proofs.Segment.{content}
@@ -94,12 +95,10 @@ change form d x t n b k =
     }
 
 pub graphic-low : (k : ℕ) → graphicOf k ≡ true → (0x21 ≤ k) × (k ≤ 0x7E)
-unfolding graphicOf pick
-graphic-low k e = go (ltb k 0x21) refl e
-  where
-    go : (b : Bool) → ltb k 0x21 ≡ b → pick b false (leb k 0x7E) ≡ true → (0x21 ≤ k) × (k ≤ 0x7E)
-    go true p q = absurd (mathlib.Core.Bool.false≢true q)
-    go false p q = (ltb-false k 0x21 p, leb-true k 0x7E q)
+unfolding graphicOf
+graphic-low k e =
+    let h = pick-last (ltb k 0x21) (leb k 0x7E) e in
+    (ltb-false k 0x21 (h .0), leb-true k 0x7E (h .1))
 
 module _ (s : Sets) where
   no : {w : List ℕ} {n : ℕ} → Sound s w (Refuses (suc n) 0)
@@ -130,9 +129,9 @@ module _ (s : Sets) where
   unfolding csiOf next octets good unitOf unitAt
   sound-csi [] = no
   sound-csi (x ∷ t) =
-      test (eqb x 0x5D) (λ e. plain {p = part 6 0 0 0 2 false} revert t (ap (λ (y : ℕ). 0x9B ∷ y ∷ t) (eqb-true x 0x5D e)) refl refl refl tt refl refl)
-      (λ _. test (eqb x 0x31) (λ e. rw (eqb-true x 0x31 e) (sound-begin ltr 4 0x31 t refl (λ _. refl) refl tt refl refl))
-      (λ _. test (eqb x 0x32) (λ e. rw (eqb-true x 0x32 e) (sound-begin rtl 5 0x32 t refl (λ _. refl) refl tt refl refl)) (λ _. no)))
+      test (eqb x 0x5D) (λ e. plain {p = part 6 0 0 0 2 false} (control revert) t (ap (λ (y : ℕ). 0x9B ∷ y ∷ t) (eqb-true x 0x5D e)) refl refl refl tt refl refl)
+      (λ _. test (eqb x 0x31) (λ e. rw (eqb-true x 0x31 e) (sound-begin (control ltr) 4 0x31 t refl (λ _. refl) refl tt refl refl))
+      (λ _. test (eqb x 0x32) (λ e. rw (eqb-true x 0x32 e) (sound-begin (control rtl) 5 0x32 t refl (λ _. refl) refl tt refl refl)) (λ _. no)))
 
   -- ---- designations
 
@@ -284,8 +283,8 @@ module _ (s : Sets) where
     sound b t o =
         test (eqb b 0x1B) (λ e. rw (eqb-true b 0x1B e) (sound-escape t (λ i. o (suc i))))
         (λ _. test (eqb b 0x9B) (λ e. rw (eqb-true b 0x9B e) (sound-csi t))
-        (λ _. test (eqb b 0x09) (λ e. plain {p = part 2 0 0 0 1 false} tab t (ap (λ (x : ℕ). x ∷ t) (eqb-true b 0x09 e)) refl refl refl tt refl refl)
-        (λ _. test (eqb b 0x0A) (λ e. plain {p = part 3 0 0 0 1 false} newline t (ap (λ (x : ℕ). x ∷ t) (eqb-true b 0x0A e)) refl refl refl tt refl refl)
+        (λ _. test (eqb b 0x09) (λ e. plain {p = part 2 0 0 0 1 false} (control tab) t (ap (λ (x : ℕ). x ∷ t) (eqb-true b 0x09 e)) refl refl refl tt refl refl)
+        (λ _. test (eqb b 0x0A) (λ e. plain {p = part 3 0 0 0 1 false} (control newline) t (ap (λ (x : ℕ). x ∷ t) (eqb-true b 0x0A e)) refl refl refl tt refl refl)
         (λ _. test (ltb b 0x20) (λ _. no)
         (λ g. test (eqb b 0x7F) (λ _. no)
         (λ _. test (ltb b 0x80)

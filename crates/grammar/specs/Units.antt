@@ -13,53 +13,59 @@ use Rattle.state.specs.Directions.{countsAsText}
 use Rattle.state.specs.State.{Standing}
 use Rattle.text.specs.Text.{graphicOf}
 
+-- "tab, newline, left-to-right, right-to-left, revert": the units that have neither set nor code and need no set
+pub data Control : Type 0 where
+  tab newline ltr rtl revert : Control
+
 -- "The reading of a string is its units, extended segments by their d and n octets, without start, length or side."
 -- "Only a character has a set; only a character and an extended segment have a code."
 pub data TextUnit : Type 0 where
   char : ℕ → ℕ → TextUnit
-  space tab newline ltr rtl revert : TextUnit
+  space : TextUnit
+  control : Control → TextUnit
   ext : ℕ → List ℕ → TextUnit
 
 -- ---- numbers
 
+abbrev pub controlKind : Control → ℕ
+controlKind tab = kind.tab
+controlKind newline = kind.newline
+controlKind ltr = kind.left-to-right
+controlKind rtl = kind.right-to-left
+controlKind revert = kind.revert
+
 abbrev pub kindOf : TextUnit → ℕ
 kindOf (char c k) = kind.character
 kindOf space = kind.space
-kindOf tab = kind.tab
-kindOf newline = kind.newline
-kindOf ltr = kind.left-to-right
-kindOf rtl = kind.right-to-left
-kindOf revert = kind.revert
+kindOf (control x) = controlKind x
 kindOf (ext e xs) = kind.segment
+
+-- the control of a kind that is none of the other three
+abbrev pub controlOf : ℕ → Control
+controlOf k =
+    cond (eqb k kind.tab) tab
+    (cond (eqb k kind.newline) newline (cond (eqb k kind.left-to-right) ltr (cond (eqb k kind.right-to-left) rtl revert)))
 
 -- the unit of a kind, set and code, with the octets of an extended segment; what a kind does not use is ignored
 unfoldable pub unitOf : ℕ → ℕ → ℕ → List ℕ → TextUnit
 unitOf k c code xs =
     cond (eqb k kind.character) (char c code)
-    (cond (eqb k kind.space) space
-    (cond (eqb k kind.tab) tab
-    (cond (eqb k kind.newline) newline
-    (cond (eqb k kind.left-to-right) ltr
-    (cond (eqb k kind.right-to-left) rtl (cond (eqb k kind.revert) revert (ext code xs)))))))
+    (cond (eqb k kind.space) space (cond (ltb k kind.segment) (control (controlOf k)) (ext code xs)))
 
 -- the octets of an extended segment's text: what follows the first 02
 unfoldable pub textOctets : List ℕ → ℕ
 textOctets [] = 0
 textOctets (x ∷ xs) = cond (eqb x 2) (length xs) (textOctets xs)
 
-abbrev pub textOf : TextUnit → ℕ
-textOf (char c k) = 0
-textOf space = 0
-textOf tab = 0
-textOf newline = 0
-textOf ltr = 0
-textOf rtl = 0
-textOf revert = 0
-textOf (ext e xs) = textOctets xs
+abbrev pub textIn : TextUnit → ℕ
+textIn (char c k) = 0
+textIn space = 0
+textIn (control x) = 0
+textIn (ext e xs) = textOctets xs
 
 -- whether a unit counts as text for the direction rule
 abbrev pub counts : TextUnit → Bool
-counts u = countsAsText (kindOf u) (textOf u)
+counts u = countsAsText (kindOf u) (textIn u)
 
 -- ---- octets
 
@@ -76,15 +82,18 @@ abbrev pub shown : Bool → ℕ → ℕ → List ℕ
 shown false h k = (h + k) ∷ []
 shown true h k = (h + k / 256) ∷ (h + k % 256) ∷ []
 
+abbrev pub controlOctets : Control → List ℕ
+controlOctets tab = 0x09 ∷ []
+controlOctets newline = 0x0A ∷ []
+controlOctets ltr = 0x9B ∷ 0x31 ∷ 0x5D ∷ []
+controlOctets rtl = 0x9B ∷ 0x32 ∷ 0x5D ∷ []
+controlOctets revert = 0x9B ∷ 0x5D ∷ []
+
 -- the octets of a unit on a side; only a character's depend on it
 unfoldable pub octets : Side → TextUnit → List ℕ
 octets d (char c k) = shown (wide c) (top d) k
 octets d space = 0x20 ∷ []
-octets d tab = 0x09 ∷ []
-octets d newline = 0x0A ∷ []
-octets d ltr = 0x9B ∷ 0x31 ∷ 0x5D ∷ []
-octets d rtl = 0x9B ∷ 0x32 ∷ 0x5D ∷ []
-octets d revert = 0x9B ∷ 0x5D ∷ []
+octets d (control x) = controlOctets x
 octets d (ext e xs) = 0x1B ∷ 0x25 ∷ 0x2F ∷ e ∷ (128 + length xs / 128) ∷ (128 + length xs % 128) ∷ xs
 
 -- "Designations: `1B 28 F` (94, GL), `1B 29 F` (94, GR), `1B 2D F` (96, GR), `1B 24 28 F` and `1B 24 29 F` (94 by 94, GL and GR)."
@@ -117,9 +126,5 @@ mostOfSegment = 16383
 unfoldable pub good : TextUnit → Bool
 good (char c k) = ltb c no-set && codeUsed (formOf c) k
 good space = true
-good tab = true
-good newline = true
-good ltr = true
-good rtl = true
-good revert = true
+good (control x) = true
 good (ext e xs) = leb 0x30 e && leb e 0x34 && leb (length xs) mostOfSegment && segment e 0 xs

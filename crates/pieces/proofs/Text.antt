@@ -3,7 +3,7 @@
 use Prim.Native.Nat.{ℕ, zero, suc, _+_, _/_, _%_, _<_}
 use native.Mathlib.Omega.{arith}
 use mathlib.Core.Path.{_≡_, refl, sym, _∙_}
-use mathlib.Core.Bool.{Bool, true, false, _&&_}
+use mathlib.Core.Bool.{Bool, true, false}
 use mathlib.Core.List.{List, [], _∷_, _++_}
 use lib.Dec.{eqb, ltb}
 use lib.ListN.{length, getD}
@@ -11,17 +11,17 @@ use Rattle.base.specs.Choice.{pick}
 use Rattle.base.specs.Kind as kind
 use Rattle.base.specs.Refusal as refusal
 use Rattle.base.proofs.Ladder.{on-lt, on-ge}
+use Rattle.base.proofs.Bools.{and-right}
 use Rattle.charset.specs.Charsets.{form-94x94, no-set, formOf}
 use Rattle.charset.specs.declared.Side.{Side}
 use Rattle.charset.specs.declared.Side.the-variants.{GL, GR}
-use Rattle.grammar.specs.Units.{TextUnit, char, space, tab, newline, ltr, rtl, revert, ext, kindOf, wide, top, shown, octets, codeUsed, good}
+use Rattle.grammar.specs.Units.{Control, tab, newline, ltr, rtl, revert, controlKind}
+use Rattle.grammar.specs.Units.{TextUnit, char, space, control, ext, kindOf, wide, top, shown, octets, codeUsed, good}
 use Rattle.grammar.specs.Reading.{direct}
-use Rattle.grammar.proofs.Complete.{and-left, and-right}
-use Rattle.grammar.proofs.Sound.{graphic-low}
+use Rattle.grammar.proofs.Good.{two-code}
 use Rattle.state.specs.Directions.{directions, writtenOf, stepOf, inForceOf}
 use Rattle.state.specs.declared.directions.Directions.{Directions}
 use Rattle.state.specs.declared.directions.Step.the-variants.{Goes, Stops}
-use Rattle.text.specs.Text.{graphicOf}
 use Rattle.pieces.specs.PieceKind as pieceKind
 use Rattle.pieces.specs.Pieces.{sideKindOf}
 
@@ -46,24 +46,24 @@ two-octets x y t e (suc zero) h = e
 two-octets x y t e (suc (suc i)) h = absurd (omega arith)
 
 char-side : (w : Bool) (f : ℕ) (d : Side) (k : ℕ) (t : List ℕ) → eqb f form-94x94 ≡ w → codeUsed f k ≡ true → OneSide (shown w (top d) k) t
-unfolding codeUsed
 char-side false f d k t e g = one-octet (top d + k) t
 char-side true f d k t e g =
-    let h : (graphicOf (k / 256) && graphicOf (k % 256)) ≡ true = rw e at g in
-    let x = graphic-low (k / 256) (and-left (graphicOf (k / 256)) (graphicOf (k % 256)) h) in
-    let y = graphic-low (k % 256) (and-right (graphicOf (k / 256)) (graphicOf (k % 256)) h) in
-    two-octets (top d + k / 256) (top d + k % 256) t (top-side d (k % 256) (k / 256) (omega arith) (omega arith))
+    let b = two-code f k e g in
+    two-octets (top d + k / 256) (top d + k % 256) t (top-side d (k % 256) (k / 256) (omega (arith, b .1)) (omega (arith, b .0)))
+
+no-text : (x : Control) → controlKind x < 2 → ⊥
+no-text tab h = omega arith
+no-text newline h = omega arith
+no-text ltr h = omega arith
+no-text rtl h = omega arith
+no-text revert h = omega arith
 
 -- the octets of a character or a space
 pub text-side : (d : Side) (u : TextUnit) (t : List ℕ) → good u ≡ true → kindOf u < 2 → OneSide (octets d u) t
 unfolding octets good wide
 text-side d (char c k) t g h = char-side (eqb (formOf c) form-94x94) (formOf c) d k t refl (and-right (ltb c no-set) (codeUsed (formOf c) k) g)
 text-side d space t g h = one-octet 0x20 t
-text-side d tab t g h = absurd (omega arith)
-text-side d newline t g h = absurd (omega arith)
-text-side d ltr t g h = absurd (omega arith)
-text-side d rtl t g h = absurd (omega arith)
-text-side d revert t g h = absurd (omega arith)
+text-side d (control x) t g h = absurd (no-text x h)
 text-side d (ext e xs) t g h = absurd (omega arith)
 
 -- ---- what is in force
@@ -71,7 +71,8 @@ text-side d (ext e xs) t g h = absurd (omega arith)
 abbrev texted : Directions → Directions
 texted d = directions (d .depth) (d .levels) (d .marked) true
 
-written-by : (a b : Bool) (d next : Directions) → pick a (pick b (Stops refusal.direction) (Goes (texted d))) (Goes (texted d)) ≡ Goes next → inForceOf next ≡ inForceOf d
+written-by : (a b : Bool) (d next : Directions) → pick a (pick b (Stops refusal.direction) (Goes (texted d))) (Goes (texted d)) ≡ Goes next
+    → inForceOf next ≡ inForceOf d
 unfolding pick inForceOf
 written-by true true d next e = let z : _≡_ {A = ℕ} 0 1 = cc in absurd (omega arith)
 written-by true false d next e = let z : texted d ≡ next = cc in rw (← z)
@@ -85,9 +86,5 @@ written-keeps k d next e = written-by (d .marked) (eqb (d .depth) 0) d next e
 pub text-keeps : (u : TextUnit) (d next : Directions) → kindOf u < 2 → direct d u ≡ Goes next → inForceOf next ≡ inForceOf d
 text-keeps (char c k) d next h e = written-keeps kind.character d next e
 text-keeps space d next h e = written-keeps kind.space d next e
-text-keeps tab d next h e = absurd (omega arith)
-text-keeps newline d next h e = absurd (omega arith)
-text-keeps ltr d next h e = absurd (omega arith)
-text-keeps rtl d next h e = absurd (omega arith)
-text-keeps revert d next h e = absurd (omega arith)
+text-keeps (control x) d next h e = absurd (no-text x h)
 text-keeps (ext x xs) d next h e = absurd (omega arith)

@@ -1,7 +1,7 @@
 -- Where a need changes no cost: a unit whose need is that of the unit after it, a unit that needs no set, and a space before a character of
 -- set 0 add only their own octets.
 use mathlib.Core.Path.{_≡_, refl, ap, _∙_}
-use mathlib.Core.Bool.{Bool, true, false, cond, _||_}
+use mathlib.Core.Bool.{Bool, true, false, cond, _||_, or-true}
 use Prim.Native.Nat.{ℕ, _+_, min}
 use native.Mathlib.Omega.{arith}
 use lib.Dec.{eqb}
@@ -11,7 +11,7 @@ use Rattle.state.specs.State.{Standing, on, put}
 use Rattle.state.specs.declared.Sets.{Sets}
 use Rattle.grammar.specs.Units.{designation}
 use Rattle.shortest.specs.Writing.{Need, free, either, stands, met, price, least}
-use Rattle.shortest.proofs.Needs.{put-stands, or-true}
+use Rattle.shortest.proofs.Needs.{put-stands}
 
 -- a need twice is that need once
 pub least-again : (f : Sets → ℕ) (c : ℕ) (n : Need) (s : Sets) → least n (λ t. c + least n f t) s ≡ c + least n f s

@@ -8,9 +8,8 @@ use Prim.Native.Nat.{ℕ, _+_, _-_, _*_, _≤_, _<_, min}
 use native.Mathlib.Omega.{arith}
 use lib.ListN.{length, getD}
 use lib.Dec.{leb, ltb, eqb}
-use borrow.Author.Tests.{eqb-true, eqb-false, eq-eqb, ne-eqb, leb-true, leb-false, le-leb, ltb-true, ltb-false, lt-ltb, le-ltb}
-use Rattle.grammar.proofs.Complete.{and-left, and-right}
-use Rattle.shortest.proofs.Sets.{upTo, up-to}
+use borrow.Author.Tests.{eqb-true, eqb-false, eq-eqb, ne-eqb, leb-true, leb-false, le-leb, ltb-true, lt-ltb}
+use Rattle.base.proofs.Bools.{and-left, and-right, up-to, upTo}
 use Rattle.plan.specs.Numbers.{withGL, withGR, priceOfClass, placesInGL, placesInGR, servedInGL, servedInGR, afterFirst, afterSecond, chosenBy, surcharge}
 use Rattle.plan.specs.Costs.{leastBy, SumsFit, Charges, Column, surcharges, fromGL, OfGL, Smooth, InGR, OnBoth}
 use Rattle.plan.proofs.Filled.{all-five}

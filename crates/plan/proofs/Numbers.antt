@@ -8,16 +8,15 @@ use native.Mathlib.Omega.{arith}
 use lib.ListN.{length, getD, List·getD-eq-default}
 use lib.Dec.{eqb, leb, ltb}
 use borrow.Author.Tests.{eqb-true, eq-eqb, ne-eqb, ltb-true, ltb-false, lt-ltb, le-ltb, leb-true, leb-false, le-leb, lt-leb}
+use Rattle.base.proofs.Bools.{and-left, and-right, implies, implies-elim, or-none, up-to, upTo}
 use Rattle.charset.specs.declared.Side.{Side}
 use Rattle.charset.specs.declared.Side.the-variants.{GL, GR}
 use Rattle.charset.specs.Charsets.{allowed, mayUse, formOf}
 use Rattle.state.specs.State.{Standing, sets, put}
 use Rattle.state.specs.declared.Sets.{Sets}
 use Rattle.grammar.specs.Units.{designation}
-use Rattle.grammar.proofs.Complete.{and-left, and-right}
 use Rattle.shortest.specs.Writing.{Need, free, either, stands, met, price, least, choose, after, used}
-use Rattle.shortest.proofs.Sets.{implies, implies-elim, upTo, up-to}
-use Rattle.shortest.proofs.Needs.{or-none, Steady}
+use Rattle.shortest.proofs.Needs.{Steady}
 use Rattle.plan.specs.Numbers.{setsInGL, setsInGR, numbered, withGL, withGR, needOfClass, priceOfClass, placesInGL, placesInGR, afterFirst, afterSecond, chosenBy, afterChoice, surcharge, change, sideAt}
 
 -- ---- tests of equality

@@ -8,12 +8,11 @@ use lib.ListN.{length, getD}
 use lib.Dec.{eqb, ltb}
 use borrow.Author.Tests.{ltb-true, ltb-false, lt-ltb, eqb-true}
 use Rattle.base.specs.Choice.{pick}
+use Rattle.base.proofs.Bools.{and-left, and-right, up-to}
 use Rattle.charset.specs.Charsets.{allowed, mayUse, formOf}
 use Rattle.state.specs.declared.Sets.{Sets}
 use Rattle.grammar.specs.Units.{wide, octets}
-use Rattle.grammar.proofs.Complete.{and-left, and-right}
 use Rattle.shortest.specs.Writing.{Need, free, either, need, least, size, cost}
-use Rattle.shortest.proofs.Sets.{up-to}
 use Rattle.rows.proofs.Units.{part-length, ltb-ge, unit-segment, unit-spare}
 use Rattle.rows.specs.Rows.{tagAt, startFrom, countOf, partOf, unitTagged, unitsIn}
 use Rattle.plan.specs.Numbers.{classOf, needOfClass}

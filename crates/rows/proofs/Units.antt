@@ -1,5 +1,5 @@
 -- The unit of a row with a segment's tag, with a tag that is none, and the octets of a segment's part.
-use Prim.Native.Nat.{ℕ, _+_, _≤_, _<_}
+use Prim.Native.Nat.{ℕ, _+_, _-_, _≤_, _<_}
 use native.Mathlib.Omega.{arith}
 use mathlib.Core.Path.{_≡_}
 use mathlib.Core.Bool.{false}
@@ -7,7 +7,7 @@ use mathlib.Core.List.{List}
 use lib.ListN.{length, take, drop, length-take, length-drop}
 use lib.Dec.{eqb, ltb}
 use borrow.Author.Tests.{le-ltb, le-leb, lt-leb, ne-eqb}
-use Rattle.grammar.specs.Units.{revert, ext}
+use Rattle.grammar.specs.Units.{control, revert, ext}
 use Rattle.rows.specs.Rows.{countOf, partOf, unitTagged}
 
 pub part-length : (o : List ℕ) (n s : ℕ) → length (take n (drop s o)) ≡ partOf n s (length o)
@@ -28,25 +28,21 @@ module _ (o : List ℕ) (t a b s : ℕ) where
         ltb-ge t 12 21 (omega arith) h,
         ltb-ge t 15 21 (omega arith) h,
         eqb-ge t 15 21 (omega arith) h,
-        eqb-ge t 16 21 (omega arith) h,
-        eqb-ge t 17 21 (omega arith) h,
-        eqb-ge t 18 21 (omega arith) h,
-        eqb-ge t 19 21 (omega arith) h,
         le-leb 21 t h,
         le-leb t 25 (omega arith),
       )
 
-  pub unit-spare : 26 ≤ t → unitTagged o t a b s ≡ revert
+  pub unit-spare : 26 ≤ t → unitTagged o t a b s ≡ control revert
   unfolding unitTagged
   unit-spare h =
       simp (
         ltb-ge t 12 26 (omega arith) h,
         ltb-ge t 15 26 (omega arith) h,
         eqb-ge t 15 26 (omega arith) h,
-        eqb-ge t 16 26 (omega arith) h,
-        eqb-ge t 17 26 (omega arith) h,
-        eqb-ge t 18 26 (omega arith) h,
-        eqb-ge t 19 26 (omega arith) h,
         le-leb 21 t (omega arith),
         lt-leb t 25 (omega arith),
+        eqb-ge (t - 14) 2 12 (omega arith) (omega arith),
+        eqb-ge (t - 14) 3 12 (omega arith) (omega arith),
+        eqb-ge (t - 14) 4 12 (omega arith) (omega arith),
+        eqb-ge (t - 14) 5 12 (omega arith) (omega arith),
       )

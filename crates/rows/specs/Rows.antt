@@ -15,7 +15,7 @@ use lib.Seq.{sets}
 use Rattle.base.specs.Choice.{pick}
 use Rattle.base.specs.Kind as kind
 use Rattle.base.specs.declared.Unit.{Unit as UnitRecord}
-use Rattle.grammar.specs.Units.{TextUnit, char, space, tab, newline, ltr, rtl, revert, ext}
+use Rattle.grammar.specs.Units.{TextUnit, char, space, control, ext, controlOf}
 
 -- the tag of row i
 abbrev pub tagAt : List ℕ → ℕ → ℕ
@@ -43,11 +43,7 @@ unitTagged o tag high low start =
     cond (ltb tag 12) (char tag (low % 128))
     (cond (ltb tag 15) (char tag (high % 128 * 256 + low % 128))
     (cond (eqb tag 15) space
-    (cond (eqb tag 16) tab
-    (cond (eqb tag 17) newline
-    (cond (eqb tag 18) ltr
-    (cond (eqb tag 19) rtl
-    (cond (leb 21 tag && leb tag 25) (ext (27 + tag) (take (countOf high low) (drop start o))) revert)))))))
+    (cond (leb 21 tag && leb tag 25) (ext (27 + tag) (take (countOf high low) (drop start o))) (control (controlOf (tag - 14))))))
 
 -- the unit of the row that starts at a place
 abbrev pub unitFrom : List ℕ → List ℕ → ℕ → TextUnit

@@ -3,36 +3,33 @@
 use Prim.Native.Nat.{ℕ, _+_, _≤_, _<_}
 use native.Mathlib.Omega.{arith}
 use mathlib.Core.Path.{_≡_, refl, sym, ap, ap₂, _∙_, subst}
-use mathlib.Core.Bool.{Bool, true, false, cond, _&&_, true≢false}
+use mathlib.Core.Bool.{Bool, true, false, cond, _&&_}
 use mathlib.Core.List.{List}
 use mathlib.Core.Option.{none, some}
 use mathlib.Core.Logic.{_⊎_, inl, inr, ⊎-elim}
 use lib.ListN.{length, take, drop, length-take, length-drop}
 use lib.Dec.{eqb, leb, ltb}
-use borrow.Author.Tests.{eqb-true, eqb-false, ltb-true, ltb-false, leb-true, leb-false, le-ltb, le-leb, lt-leb, ne-eqb}
+use borrow.Author.Tests.{eqb-true, eqb-false, ltb-true, ltb-false, leb-true, leb-false, lt-ltb, le-ltb, le-leb, lt-leb, ne-eqb}
 use Rattle.base.specs.Kind as kind
 use Rattle.base.specs.Refusal as refusal
 use Rattle.base.specs.declared.Unit.{Unit as UnitRecord}
+use Rattle.base.proofs.Bools.{test, and-first, and-second}
 use Rattle.charset.specs.Charsets.{no-set, formOf}
 use Rattle.state.specs.declared.directions.Directions.{Directions}
 use Rattle.state.specs.declared.directions.Step.the-variants.{Stops}
-use Rattle.grammar.specs.Units.{TextUnit, char, space, tab, newline, ltr, rtl, revert, ext, unitOf, codeUsed, segment, mostOfSegment, good}
+use Rattle.grammar.specs.Units.{TextUnit, char, space, control, ext, controlOf, unitOf, codeUsed, segment, mostOfSegment, good}
 use Rattle.grammar.specs.Reading.{direct}
 use Rattle.grammar.specs.Records.{readable, unitRead}
 use Rattle.shortest.specs.Records.{own, fault}
 use Rattle.shortest.specs.Offence.{Placed, Bad, bad-kind, bad-set, bad-code, bad-part, bad-d, bad-length, bad-content}
 
-and-first : (a b : Bool) → a ≡ false → (a && b) ≡ false
-and-first true b e = absurd (true≢false e)
-and-first false b e = refl
-
-and-second : (a b : Bool) → b ≡ false → (a && b) ≡ false
-and-second true b e = e
-and-second false b e = refl
-
 module _ (o : List ℕ) (r : UnitRecord) where
   abbrev text : List ℕ
   text = take (r .length) (drop (r .start) o)
+
+  -- the part of a segment lies in its octets
+  abbrev inside : Bool
+  inside = leb (r .start + r .length) (length o)
 
   -- ---- the unit of a record
 
@@ -77,24 +74,24 @@ module _ (o : List ℕ) (r : UnitRecord) where
   pub bad-stops : (d : Directions) {n : ℕ} → Bad o r n → fault (unitRead o r) d ≡ Stops n
   unfolding good
   bad-stops d (bad-kind h) = stops-none d (read-kind h)
-  bad-stops d (bad-set e h) = stops-read d (read-char e) (and-first (ltb (r .set) no-set) (codeUsed (formOf (r .set)) (r .code)) (le-ltb (r .set) no-set h)) refl
+  bad-stops d (bad-set e h) =
+      stops-read d (read-char e) (and-first (ltb (r .set) no-set) (codeUsed (formOf (r .set)) (r .code)) (le-ltb (r .set) no-set h)) refl
   bad-stops d (bad-code e h) = stops-read d (read-char e) (and-second (ltb (r .set) no-set) (codeUsed (formOf (r .set)) (r .code)) h) refl
   bad-stops d (bad-part e h) = stops-none d (read-outside e h)
-  bad-stops d (bad-d e h) = go (leb (r .start + r .length) (length o)) refl
-    where
-      go : (b : Bool) → leb (r .start + r .length) (length o) ≡ b → fault (unitRead o r) d ≡ Stops refusal.bad-unit
-      go true q =
-          stops-read d (read-segment e (leb-true (r .start + r .length) (length o) q))
-          (ap (λ (b : Bool). b && leb (length text) mostOfSegment && segment (r .code) 0 text) (d-wrong h))
-          (ap (λ (b : Bool). cond b refusal.bad-segment refusal.bad-unit) (d-wrong h))
-      go false q = stops-none d (read-outside e (leb-false (r .start + r .length) (length o) q))
+  bad-stops d (bad-d e h) =
+      test inside
+      (λ q. stops-read d (read-segment e (leb-true (r .start + r .length) (length o) q))
+      (ap (λ (b : Bool). b && leb (length text) mostOfSegment && segment (r .code) 0 text) (d-wrong h))
+      (ap (λ (b : Bool). cond b refusal.bad-segment refusal.bad-unit) (d-wrong h)))
+      (λ q. stops-none d (read-outside e (leb-false (r .start + r .length) (length o) q)))
   bad-stops d (bad-length p h) =
       let l : mostOfSegment < length text = subst (λ (n : ℕ). mostOfSegment < n) (sym (text-length (p .inside))) h in
       stops-read d (read-segment (p .kinds) (p .inside))
       (ap₂ (λ (b c : Bool). b && c && segment (r .code) 0 text) (d-right p) (lt-leb (length text) mostOfSegment l))
       (ap (λ (b : Bool). cond b refusal.bad-segment refusal.bad-unit) (d-right p))
   bad-stops d (bad-content p h) =
-      stops-read d (read-segment (p .kinds) (p .inside)) (and-second (leb 0x30 (r .code) && leb (r .code) 0x34 && leb (length text) mostOfSegment) (segment (r .code) 0 text) h)
+      stops-read d (read-segment (p .kinds) (p .inside))
+      (and-second (leb 0x30 (r .code) && leb (r .code) 0x34 && leb (length text) mostOfSegment) (segment (r .code) 0 text) h)
       (ap (λ (b : Bool). cond b refusal.bad-segment refusal.bad-unit) (d-right p))
 
   -- ---- a record that does not
@@ -110,69 +107,62 @@ module _ (o : List ℕ) (r : UnitRecord) where
   judge-plain : kind.space ≤ r .kind → r .kind < kind.segment → Stands
   unfolding unitRead readable unitOf good
   judge-plain h l =
-      go (eqb (r .kind) 1) (eqb (r .kind) 2) (eqb (r .kind) 3) (eqb (r .kind) 4) (eqb (r .kind) 5) refl refl refl refl refl
-    where
-      go : (a b c d e : Bool) → eqb (r .kind) 1 ≡ a → eqb (r .kind) 2 ≡ b → eqb (r .kind) 3 ≡ c → eqb (r .kind) 4 ≡ d → eqb (r .kind) 5 ≡ e → Stands
-      go true b c d e p q s t v = (space, rw (eqb-true (r .kind) 1 p), refl)
-      go false true c d e p q s t v = (tab, rw (eqb-true (r .kind) 2 q), refl)
-      go false false true d e p q s t v = (newline, rw (eqb-true (r .kind) 3 s), refl)
-      go false false false true e p q s t v = (ltr, rw (eqb-true (r .kind) 4 t), refl)
-      go false false false false true p q s t v = (rtl, rw (eqb-true (r .kind) 5 v), refl)
-      go false false false false false p q s t v =
-          let n1 : r .kind ≡ 1 → ⊥ = eqb-false (r .kind) 1 p in
-          let n2 : r .kind ≡ 2 → ⊥ = eqb-false (r .kind) 2 q in
-          let n3 : r .kind ≡ 3 → ⊥ = eqb-false (r .kind) 3 s in
-          let n4 : r .kind ≡ 4 → ⊥ = eqb-false (r .kind) 4 t in
-          let n5 : r .kind ≡ 5 → ⊥ = eqb-false (r .kind) 5 v in
-          let k : r .kind ≡ 6 = omega arith in
-          (revert, rw k, refl)
+      let n : r .kind ≡ kind.character → ⊥ = λ q. omega arith in
+      let m : r .kind ≡ kind.segment → ⊥ = λ q. omega arith in
+      test (eqb (r .kind) kind.space) (λ e. (space, rw (eqb-true (r .kind) kind.space e), refl))
+      (λ e. (
+        control (controlOf (r .kind)),
+        rw (ne-eqb (r .kind) kind.segment m, ne-eqb (r .kind) kind.character n, e, lt-ltb (r .kind) kind.segment l),
+        refl,
+      ))
 
   judge-char : r .kind ≡ kind.character → Judged
   unfolding good
-  judge-char k = go (ltb (r .set) no-set) (codeUsed (formOf (r .set)) (r .code)) refl refl
-    where
-      go : (a b : Bool) → ltb (r .set) no-set ≡ a → codeUsed (formOf (r .set)) (r .code) ≡ b → Judged
-      go false b p q = inl (refusal.bad-unit, bad-set k (ltb-false (r .set) no-set p))
-      go true false p q = inl (refusal.bad-unit, bad-code k q)
-      go true true p q = inr (char (r .set) (r .code), read-char k, ap₂ _&&_ p q)
+  judge-char k =
+      test (ltb (r .set) no-set)
+      (λ p. test (codeUsed (formOf (r .set)) (r .code)) (λ q. inr (char (r .set) (r .code), read-char k, ap₂ _&&_ p q))
+      (λ q. inl (refusal.bad-unit, bad-code k q)))
+      (λ p. inl (refusal.bad-unit, bad-set k (ltb-false (r .set) no-set p)))
+
+  judge-placed : Placed o r → Judged
+  unfolding good
+  judge-placed p =
+      test (leb (r .length) mostOfSegment)
+      (λ t. test (segment (r .code) 0 text)
+      (λ v. inr (
+        ext (r .code) text,
+        read-segment (p .kinds) (p .inside),
+        ap₂ _&&_ (ap₂ _&&_ (d-right p) (ap (λ (n : ℕ). leb n mostOfSegment) (text-length (p .inside)) ∙ t)) v,
+      ))
+      (λ v. inl (refusal.bad-segment, bad-content p v)))
+      (λ t. inl (refusal.bad-segment, bad-length p (leb-false (r .length) mostOfSegment t)))
 
   judge-segment : r .kind ≡ kind.segment → Judged
-  unfolding good
   judge-segment k =
-      go (leb (r .start + r .length) (length o)) (leb 0x30 (r .code)) (leb (r .code) 0x34) (leb (r .length) mostOfSegment) (segment (r .code) 0 text) refl refl refl refl refl
-    where
-      go : (a b c d e : Bool) → leb (r .start + r .length) (length o) ≡ a → leb 0x30 (r .code) ≡ b → leb (r .code) 0x34 ≡ c → leb (r .length) mostOfSegment ≡ d
-          → segment (r .code) 0 text ≡ e → Judged
-      go false b c d e p q s t v = inl (refusal.bad-unit, bad-part k (leb-false (r .start + r .length) (length o) p))
-      go true false c d e p q s t v = inl (refusal.bad-unit, bad-d k (inl (leb-false 0x30 (r .code) q)))
-      go true true false d e p q s t v = inl (refusal.bad-unit, bad-d k (inr (leb-false (r .code) 0x34 s)))
-      go true true true d e p q s t v =
-          let i = leb-true (r .start + r .length) (length o) p in
-          last d e i (record { kinds = k; inside = i; low = leb-true 0x30 (r .code) q; high = leb-true (r .code) 0x34 s }) t v
-        where
-          last : (d e : Bool) → r .start + r .length ≤ length o → Placed o r → leb (r .length) mostOfSegment ≡ d → segment (r .code) 0 text ≡ e → Judged
-          last false e i p t v = inl (refusal.bad-segment, bad-length p (leb-false (r .length) mostOfSegment t))
-          last true false i p t v = inl (refusal.bad-segment, bad-content p v)
-          last true true i p t v =
-              inr (
-                ext (r .code) text,
-                read-segment k i,
-                ap₂ _&&_ (ap₂ _&&_ (d-right p) (ap (λ (n : ℕ). leb n mostOfSegment) (text-length i) ∙ t)) v,
-              )
+      test inside
+      (λ i. test (leb 0x30 (r .code))
+      (λ l. test (leb (r .code) 0x34)
+      (λ h. judge-placed (record {
+        kinds = k;
+        inside = leb-true (r .start + r .length) (length o) i;
+        low = leb-true 0x30 (r .code) l;
+        high = leb-true (r .code) 0x34 h;
+      }))
+      (λ h. inl (refusal.bad-unit, bad-d k (inr (leb-false (r .code) 0x34 h)))))
+      (λ l. inl (refusal.bad-unit, bad-d k (inl (leb-false 0x30 (r .code) l)))))
+      (λ i. inl (refusal.bad-unit, bad-part k (leb-false (r .start + r .length) (length o) i)))
 
   judge : Judged
-  judge = go (ltb kind.segment (r .kind)) (eqb (r .kind) kind.character) (eqb (r .kind) kind.segment) refl refl refl
-    where
-      go : (a b c : Bool) → ltb kind.segment (r .kind) ≡ a → eqb (r .kind) kind.character ≡ b → eqb (r .kind) kind.segment ≡ c → Judged
-      go true b c p q s = inl (refusal.bad-unit, bad-kind (ltb-true kind.segment (r .kind) p))
-      go false true c p q s = judge-char (eqb-true (r .kind) kind.character q)
-      go false false true p q s = judge-segment (eqb-true (r .kind) kind.segment s)
-      go false false false p q s =
-          let n : r .kind ≡ kind.character → ⊥ = eqb-false (r .kind) kind.character q in
-          let m : r .kind ≡ kind.segment → ⊥ = eqb-false (r .kind) kind.segment s in
-          let l = ltb-false kind.segment (r .kind) p in
-          inr (judge-plain (omega arith) (omega arith))
+  judge =
+      test (ltb kind.segment (r .kind)) (λ p. inl (refusal.bad-unit, bad-kind (ltb-true kind.segment (r .kind) p)))
+      (λ p. test (eqb (r .kind) kind.character) (λ q. judge-char (eqb-true (r .kind) kind.character q))
+      (λ q. test (eqb (r .kind) kind.segment) (λ s. judge-segment (eqb-true (r .kind) kind.segment s))
+      (λ s. let n : r .kind ≡ kind.character → ⊥ = eqb-false (r .kind) kind.character q in
+      let m : r .kind ≡ kind.segment → ⊥ = eqb-false (r .kind) kind.segment s in
+      let l = ltb-false kind.segment (r .kind) p in
+      inr (judge-plain (omega arith) (omega arith)))))
 
-  pub not-bad : ((n : ℕ) → Bad o r n → ⊥) → (d : Directions) → (u : TextUnit) × (unitRead o r ≡ some u) × (good u ≡ true) × (fault (unitRead o r) d ≡ direct d u)
+  pub not-bad : ((n : ℕ) → Bad o r n → ⊥) → (d : Directions)
+      → (u : TextUnit) × (unitRead o r ≡ some u) × (good u ≡ true) × (fault (unitRead o r) d ≡ direct d u)
   not-bad n d =
       ⊎-elim (λ w. absurd (n (w .0) (w .1))) (λ w. (w .0, w .1, w .2, rw (w .1, w .2))) judge

@@ -1,29 +1,28 @@
 -- No string of a reading is shorter than its cost (`lower`): by induction on how it reads, since a designation saves no more than its
--- price and a unit that is shown has its need met. The writing reads as the units (`upper`): what it designates may stand there, and
--- once a need is met its unit may be shown on the side that is used.
+-- price and a unit that is shown has its need met (`shows-met`). Once a need is met its unit may be shown on the side that is used
+-- (`met-shows`).
 use mathlib.Core.Path.{_≡_, refl, sym, ap, _∙_, subst}
-use mathlib.Core.Bool.{Bool, true, false, cond, _||_, true≢false}
-use mathlib.Core.List.{List, [], _∷_, _++_}
-use mathlib.Core.Option.{Option, none, some}
+use mathlib.Core.Bool.{Bool, true, false, cond, _||_, true≢false, or-true}
+use mathlib.Core.List.{List, [], _∷_}
 use mathlib.Core.Logic.{_⊎_, ⊎-elim}
-use Prim.Native.Nat.{ℕ, _+_, _≤_}
+use Prim.Native.Nat.{ℕ, _≤_}
 use native.Mathlib.Omega.{arith}
 use lib.ListN.{length, length-append}
-use Rattle.charset.specs.Charsets.{no-set, formOf, allowed, mayUse}
+use Rattle.base.proofs.Bools.{and-left, or-cases}
+use Rattle.charset.specs.Charsets.{no-set, formOf, allowed}
 use Rattle.grammar.specs.Grammar.{Shows, Reads, done, designate, show}
 use Rattle.grammar.proofs.Sound.{Legal}
 use Rattle.grammar.proofs.Agrees.{put-legal}
-use lib.Dec.{eqb, leb, ltb}
+use lib.Dec.{eqb, ltb}
 use borrow.Author.Tests.{eqb-true, eq-eqb, ltb-true}
 use Rattle.charset.specs.declared.Side.{Side}
 use Rattle.charset.specs.declared.Side.the-variants.{GL, GR}
-use Rattle.grammar.specs.Units.{wide, TextUnit, char, space, tab, newline, ltr, rtl, revert, ext, octets, designation, good, codeUsed}
+use Rattle.grammar.specs.Units.{wide, TextUnit, char, space, control, ext, octets, designation, good, codeUsed}
 use Rattle.shortest.proofs.Sets.{space-sets, some-side}
-use Rattle.grammar.proofs.Complete.{and-left}
 use Rattle.state.specs.declared.Sets.{Sets}
-use Rattle.state.specs.State.{Standing, put, get}
-use Rattle.shortest.specs.Writing.{Need, free, either, stands, met, price, choose, after, need, placesOf, cost, used, designated, writing}
-use Rattle.shortest.proofs.Needs.{least-met, chosen-met, or-cases, or-true}
+use Rattle.state.specs.State.{get}
+use Rattle.shortest.specs.Writing.{stands, met, need, placesOf, cost, used}
+use Rattle.shortest.proofs.Needs.{least-met}
 use Rattle.shortest.proofs.Costs.{designation-length, size-side, cost-steady}
 
 -- a unit that may be shown has its need met
@@ -39,11 +38,7 @@ shows-met (char c k) d s l h = go d h (allowed GL c) (allowed GR c) refl refl
     go GR e true true p q = ap (λ (t : Bool). eqb (s .gl) c || t) (eq-eqb (s .gr) c e) ∙ or-true (eqb (s .gl) c)
     go GR e false true p q = ap (λ (t : Bool). t || eqb (s .gr) c) (eq-eqb (s .gr) c e)
 shows-met space d s l h = space-sets (s .gl) (l .left) h
-shows-met tab d s l h = refl
-shows-met newline d s l h = refl
-shows-met ltr d s l h = refl
-shows-met rtl d s l h = refl
-shows-met revert d s l h = refl
+shows-met (control x) d s l h = refl
 shows-met (ext e xs) d s l h = refl
 
 -- no string of a reading is shorter than its cost
@@ -55,45 +50,10 @@ lower {s} l (designate {t = t} {us = us} p a r) =
 lower {s} l (show {t = t} {us = us} u d g h r) =
     omega (arith, lower l r, least-met (need u) (cost us) s (shows-met u d s l h), length-append (octets d u) t, size-side d u)
 
--- the places of a need are allowed
-abbrev NeedLegal : Need → Type 0
-NeedLegal free = Unit {0}
-NeedLegal (either a b) = (allowed (a .side) (a .set) ≡ true) × (allowed (b .side) (b .set) ≡ true)
-
-abbrev OptLegal : Option Standing → Type 0
-OptLegal none = Unit {0}
-OptLegal (some p) = allowed (p .side) (p .set) ≡ true
-
-choose-legal : (n : Need) (f : Sets → ℕ) (s : Sets) → NeedLegal n → OptLegal (choose n f s)
-unfolding choose
-choose-legal free f s l = tt
-choose-legal (either a b) f s l = go (met (either a b) s) (leb (price a + f (put a s)) (price b + f (put b s)))
-  where
-    go : (x y : Bool) → OptLegal (cond x none (cond y (some a) (some b)))
-    go true y = tt
-    go false true = l .0
-    go false false = l .1
-
 -- the set of a good character may stand on some side
 pub good-side : (c k : ℕ) → good (char c k) ≡ true → (allowed GL c || allowed GR c) ≡ true
 unfolding good
 good-side c k g = some-side c (ltb-true c no-set (and-left (ltb c no-set) (codeUsed (formOf c) k) g))
-
-need-legal : (u : TextUnit) → good u ≡ true → NeedLegal (need u)
-unfolding need allowed mayUse
-need-legal (char c k) g = go (allowed GL c) (allowed GR c) refl refl (good-side c k g)
-  where
-    go : (x y : Bool) → allowed GL c ≡ x → allowed GR c ≡ y → (x || y) ≡ true → NeedLegal (placesOf x y c)
-    go true true p q e = (p, q)
-    go true false p q e = (p, p)
-    go false y p q e = (q ∙ e, q ∙ e)
-need-legal space g = (refl, refl)
-need-legal tab g = tt
-need-legal newline g = tt
-need-legal ltr g = tt
-need-legal rtl g = tt
-need-legal revert g = tt
-need-legal (ext e xs) g = tt
 
 -- a unit whose need is met may be shown on the side it is used on
 pub met-shows : (u : TextUnit) (s : Sets) → met (need u) s ≡ true → Shows u (used (need u) s) s
@@ -109,11 +69,7 @@ met-shows (char c k) s e = go (allowed GL c) (allowed GR c) e
     go true false q = pick GL GL (eqb (s .gl) c) refl q
     go false y q = pick GR GR (eqb (s .gr) c) refl q
 met-shows space s e = ⊎-elim (λ q. ap wide (eqb-true (s .gl) 0 q)) (λ q. ap wide (eqb-true (s .gl) 2 q)) (or-cases (eqb (s .gl) 0) (eqb (s .gl) 2) e)
-met-shows tab s e = tt
-met-shows newline s e = tt
-met-shows ltr s e = tt
-met-shows rtl s e = tt
-met-shows revert s e = tt
+met-shows (control x) s e = tt
 met-shows (ext d xs) s e = tt
 
 abbrev pub Every : (TextUnit → Type 0) → List TextUnit → Type 0
@@ -122,16 +78,3 @@ Every P (u ∷ us) = P u × Every P us
 
 abbrev pub Good : List TextUnit → Type 0
 Good us = Every (λ u. good u ≡ true) us
-
--- what is written reads as the units
-pub upper : (us : List TextUnit) (s : Sets) → Legal s → Good us → Reads s (writing us s) us
-unfolding writing
-upper [] s l g = done
-upper (u ∷ us) s l g =
-    go (choose (need u) (cost us) s) (choose-legal (need u) (cost us) s (need-legal u (g .0))) (chosen-met (need u) (cost us) s)
-    (λ t h. upper us t h (g .1))
-  where
-    go : (o : Option Standing) → OptLegal o → met (need u) (after o s) ≡ true → ((t : Sets) → Legal t → Reads t (writing us t) us)
-        → Reads s (designated o ++ (octets (used (need u) (after o s)) u ++ writing us (after o s))) (u ∷ us)
-    go none a m r = show u (used (need u) s) (g .0) (met-shows u s m) (r s l)
-    go (some p) a m r = designate p a (show u (used (need u) (put p s)) (g .0) (met-shows u (put p s) m) (r (put p s) (put-legal p s a l)))

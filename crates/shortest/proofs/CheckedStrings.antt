@@ -16,5 +16,8 @@ use Rattle.shortest.specs.Writing.{stands, price, met, need, least, size
 use Rattle.shortest.specs.CheckedStrings.{table, refusals, defined, expected, answersDefined, answersExpected}
 
 pub checked-strings : (defined table ≡ expected table) × (answersDefined refusals ≡ answersExpected refusals)
-unfolding pick mayUse allowed formOf fitsOf find setOf put writtenOf deeperOf begunOf revertedOf stepOf next graphicOf secondOctetOf characterOf textOf nameOctetOf nameOf textWidthOf contentOf bodyOf lengthsOf extendedOf beginOf csiOf intermediatesOf designatesOf designationOf multiOctetOf escapeOf shapeOf steppedOf directedOf unitOf wide octets designation onward elements answerOf checkOf unitAt unitsOf readingOf stands price met need least size cost choose used writing
+unfolding pick mayUse allowed formOf fitsOf find setOf put writtenOf deeperOf begunOf revertedOf stepOf next graphicOf secondOctetOf characterOf
+    textOf nameOctetOf nameOf textWidthOf contentOf bodyOf lengthsOf extendedOf beginOf csiOf intermediatesOf designatesOf designationOf multiOctetOf
+    escapeOf shapeOf steppedOf directedOf unitOf wide octets designation onward elements answerOf checkOf unitAt unitsOf readingOf stands price met
+    need least size cost choose used writing
 checked-strings = (refl, refl)

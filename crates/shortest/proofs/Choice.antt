@@ -9,20 +9,20 @@ use mathlib.Core.List.{List, [], _∷_, _++_}
 use mathlib.Core.Option.{Option, none, some}
 use mathlib.Core.Logic.{_⊎_, inl, inr, ⊎-elim}
 use lib.ListN.{length, length-append}
-use lib.Dec.{leb}
-use borrow.Author.Tests.{leb-false, eq-eqb}
+use borrow.Author.Tests.{eq-eqb}
+use Rattle.base.proofs.Bools.{or-none}
 use Rattle.charset.specs.declared.Side.{Side}
 use Rattle.charset.specs.declared.Side.the-variants.{GL, GR}
 use Rattle.charset.specs.Charsets.{allowed, mayUse}
-use Rattle.state.specs.State.{Standing, on, put}
+use Rattle.state.specs.State.{Standing, on}
 use Rattle.state.specs.declared.Sets.{Sets}
-use Rattle.grammar.specs.Units.{TextUnit, char, space, tab, newline, ltr, rtl, revert, ext, octets, good}
+use Rattle.grammar.specs.Units.{TextUnit, char, space, control, ext, octets, good}
 use Rattle.grammar.specs.Grammar.{Shows, Reads, done, designate, show}
 use Rattle.grammar.proofs.Sound.{Legal}
 use Rattle.grammar.proofs.Agrees.{put-legal}
-use Rattle.shortest.specs.Writing.{Need, free, either, stands, met, price, least, choose, after, designated, size, need, placesOf, used, cost, writing}
+use Rattle.shortest.specs.Writing.{Need, free, either, stands, met, via, least, choose, after, designated, size, need, placesOf, used, cost, writing}
 use Rattle.shortest.specs.Choice.{Serves, MayPrecede, LeftFirst, Lazy, nil, next, Preferred, Before, here, later, Chosen}
-use Rattle.shortest.proofs.Needs.{spent, or-none, chosen-met}
+use Rattle.shortest.proofs.Needs.{spent, Chose, nothing, the-first, the-second, chose, chosen-met}
 use Rattle.shortest.proofs.Costs.{spent-length, size-side, writing-length}
 use Rattle.shortest.proofs.Bounds.{Good, good-side, shows-met, met-shows, lower}
 
@@ -56,18 +56,15 @@ split (char c k) g = go (allowed GL c) (allowed GR c) refl refl (good-side c k g
 
     go : (x y : Bool) → allowed GL c ≡ x → allowed GR c ≡ y → (x || y) ≡ true → Split (char c k) (placesOf x y c)
     go true true p q l =
-        two-serve (refl, p) (refl, q) (λ r h. ⊎-elim (λ x. inl (same-standing r GL c x (h .0))) (λ x. inr (same-standing r GR c x (h .0))) (left-or-right (r .side)))
+        two-serve (refl, p) (refl, q)
+        (λ r h. ⊎-elim (λ x. inl (same-standing r GL c x (h .0))) (λ x. inr (same-standing r GR c x (h .0))) (left-or-right (r .side)))
         (inr (refl, refl))
     go true false p q l = two-serve (refl, p) (refl, p) (λ r h. inl (only GL GR q left-or-right r h)) (inl refl)
     go false y p q l = two-serve (refl, q ∙ l) (refl, q ∙ l) (λ r h. inl (only GR GL p right-or-left r h)) (inl refl)
 split space g =
     two-serve (refl, inl refl) (refl, inr refl) (λ p h. ⊎-elim (λ e. inl (same-standing p GL 0 (h .0) e)) (λ e. inr (same-standing p GL 2 (h .0) e)) (h .1))
     (inr (refl, refl))
-split tab g = none-serves (λ p h. h)
-split newline g = none-serves (λ p h. h)
-split ltr g = none-serves (λ p h. h)
-split rtl g = none-serves (λ p h. h)
-split revert g = none-serves (λ p h. h)
+split (control x) g = none-serves (λ p h. h)
 split (ext e xs) g = none-serves (λ p h. h)
 
 -- ---- lazy strings read as the units
@@ -77,11 +74,7 @@ unfolding allowed mayUse
 serves-allowed (char c k) p h = h .1
 serves-allowed space p h =
     ⊎-elim (λ e. ap₂ (λ d c. allowed d c) (h .0) e) (λ e. ap₂ (λ d c. allowed d c) (h .0) e) (h .1)
-serves-allowed tab p h = absurd h
-serves-allowed newline p h = absurd h
-serves-allowed ltr p h = absurd h
-serves-allowed rtl p h = absurd h
-serves-allowed revert p h = absurd h
+serves-allowed (control x) p h = absurd h
 serves-allowed (ext e xs) p h = absurd h
 
 after-legal : (u : TextUnit) (s : Sets) (o : Option Standing) → MayPrecede u s o → Legal s → Legal (after o s)
@@ -123,9 +116,9 @@ precedes u s (some p) g m = go (need u) (split u g) m
     go : (n : Need) → Split u n → Permitted n s (some p) → MayPrecede u s (some p)
     go free (none-serves k) m = absurd m
     go (either a b) (two-serve x y k z) m =
-        let off = or-none (stands a s) (stands b s) (m .0) in (
+        let n = or-none (stands a s) (stands b s) (m .0) in (
           ⊎-elim (λ e. subst (Serves u) (sym e) x) (λ e. subst (Serves u) (sym e) y) (m .1),
-          λ q h. ⊎-elim (λ e. subst (λ (r : Standing). stands r s ≡ false) (sym e) (off .0)) (λ e. subst (λ (r : Standing). stands r s ≡ false) (sym e) (off .1)) (k q h),
+          λ q h. ⊎-elim (λ e. ap (λ (r : Standing). stands r s) e ∙ n .0) (λ e. ap (λ (r : Standing). stands r s) e ∙ n .1) (k q h),
         )
 
 -- ---- among the shortest the writer's is first
@@ -138,9 +131,7 @@ least-permitted free f s (some q) p = absurd p
 least-permitted (either a b) f s none p = rw p (omega arith)
 least-permitted (either a b) f s (some q) p =
     rw (p .0)
-    (⊎-elim
-    (λ e. let h = ap (λ (r : Standing). price r + f (put r s)) e in omega arith)
-    (λ e. let h = ap (λ (r : Standing). price r + f (put r s)) e in omega arith) (p .1))
+    (⊎-elim (λ e. omega (arith, ap (λ (r : Standing). via r f s) e)) (λ e. omega (arith, ap (λ (r : Standing). via r f s) e)) (p .1))
 
 one-length : (t : List ℕ) (u : TextUnit) (d : Side) (o : Option Standing) → length (designated o ++ (octets d u ++ t)) ≡ spent o + (size u + length t)
 one-length t u d o = omega (arith, length-append (designated o) (octets d u ++ t), length-append (octets d u) t, spent-length o, size-side d u)
@@ -155,23 +146,18 @@ unfolding choose least
 best u free f s none z p e = inl refl
 best u free f s (some q) z p e = absurd p
 best u (either a b) f s none z p e = inl (rw p)
-best u (either a b) f s (some q) (two-serve sa sb k z) p e = go (leb (price a + f (put a s)) (price b + f (put b s))) refl (p .1) z
+best u (either a b) f s (some q) (two-serve sa sb k z) p e = go (chose a b f s) (p .1) z
   where
-    e′ : min (price a + f (put a s)) (price b + f (put b s)) ≡ price q + f (put q s)
-    e′ = rw (p .0) at e
+    least-q : min (via a f s) (via b f s) ≡ via q f s
+    least-q = rw (p .0) at e
 
-    chosen : (t : Bool) → leb (price a + f (put a s)) (price b + f (put b s)) ≡ t → choose (either a b) f s ≡ cond t (some a) (some b)
-    chosen t x = rw (p .0, x)
-
-    go : (t : Bool) → leb (price a + f (put a s)) (price b + f (put b s)) ≡ t → (q ≡ a) ⊎ (q ≡ b) → (a ≡ b) ⊎ Preferred u a b → Best u (choose (either a b) f s) (some q)
-    go true x (inl y) z = inl (ap some y ∙ sym (chosen true x))
-    go true x (inr y) (inl z) = inl (ap some (y ∙ sym z) ∙ sym (chosen true x))
-    go true x (inr y) (inr z) = inr (a, b, z, chosen true x, ap some y)
-    go false x (inr y) z = inl (ap some y ∙ sym (chosen false x))
-    go false x (inl y) z =
-        let l = leb-false (price a + f (put a s)) (price b + f (put b s)) x in
-        let h = ap (λ (r : Standing). price r + f (put r s)) y in
-        absurd (omega (arith, e′))
+    go : {o : Option Standing} → Chose a b f s o → (q ≡ a) ⊎ (q ≡ b) → (a ≡ b) ⊎ Preferred u a b → Best u o (some q)
+    go (nothing m) y z = absurd (true≢false (sym m ∙ p .0))
+    go (the-first m l) (inl y) z = inl (ap some y)
+    go (the-first m l) (inr y) (inl z) = inl (ap some (y ∙ sym z))
+    go (the-first m l) (inr y) (inr z) = inr (a, b, z, refl, ap some y)
+    go (the-second m l) (inr y) z = inl (ap some y)
+    go (the-second m l) (inl y) z = absurd (omega (arith, least-q, l, ap (λ (r : Standing). via r f s) y))
 
 -- what the writer designates before each unit
 unfoldable pub choices : List TextUnit → Sets → List (Option Standing)
@@ -187,7 +173,8 @@ first {s} l (next {us = us} {os = os} {t = t} u o d g m h f r) e =
     (λ q. ⊎-elim
     (λ h. inl (ap₂ _∷_ q (h ∙ ap (λ (x : Option Standing). choices us (after x s)) q)))
     (λ h. inr (subst (λ (x : Option Standing). Before (u ∷ us) (x ∷ choices us (after x s)) (o ∷ os)) q (later u o h))) (first l′ r tail))
-    (λ w. inr (subst₂ (λ (x y : Option Standing). Before (u ∷ us) (x ∷ choices us (after (choose (need u) (cost us) s) s)) (y ∷ os)) (sym (w .3)) (sym (w .4)) (here u (w .0) (w .1) (w .2))))
+    (λ w. inr (subst₂ (λ (x y : Option Standing). Before (u ∷ us) (x ∷ choices us (after (choose (need u) (cost us) s) s)) (y ∷ os))
+    (sym (w .3)) (sym (w .4)) (here u (w .0) (w .1) (w .2))))
     (best u (need u) (cost us) s o (split u g) p (omega (arith, lazy-lower l′ r, least-permitted (need u) (cost us) s o p, one-length t u d o)))
   where
     p : Permitted (need u) s o
@@ -204,12 +191,12 @@ first {s} l (next {us = us} {os = os} {t = t} u o d g m h f r) e =
 choose-permitted : (n : Need) (f : Sets → ℕ) (s : Sets) → Permitted n s (choose n f s)
 unfolding choose met
 choose-permitted free f s = refl
-choose-permitted (either a b) f s = go (met (either a b) s) refl (leb (price a + f (put a s)) (price b + f (put b s)))
+choose-permitted (either a b) f s = go (chose a b f s)
   where
-    go : (x : Bool) → met (either a b) s ≡ x → (y : Bool) → Permitted (either a b) s (cond x none (cond y (some a) (some b)))
-    go true e y = e
-    go false e true = (e, inl refl)
-    go false e false = (e, inr refl)
+    go : {o : Option Standing} → Chose a b f s o → Permitted (either a b) s o
+    go (nothing e) = e
+    go (the-first e l) = (e, inl refl)
+    go (the-second e l) = (e, inr refl)
 
 -- a unit is written in GL where its set stands there
 used-left : (u : TextUnit) (s : Sets) → met (need u) s ≡ true → Legal s → LeftFirst u (used (need u) s) s
@@ -221,18 +208,15 @@ used-left (char c k) s m l = λ e. go e (allowed GL c) (allowed GR c) refl
     go e true false q = ap (λ (t : Bool). cond t GL GL) (eq-eqb (s .gl) c e)
     go e false y q = absurd (true≢false (sym (subst (λ (n : ℕ). allowed GL n ≡ true) e (l .left)) ∙ q))
 used-left space s m l = tt
-used-left tab s m l = tt
-used-left newline s m l = tt
-used-left ltr s m l = tt
-used-left rtl s m l = tt
-used-left revert s m l = tt
+used-left (control x) s m l = tt
 used-left (ext e xs) s m l = tt
 
 pub writing-lazy : (us : List TextUnit) (s : Sets) → Legal s → Good us → Lazy s us (choices us s) (writing us s)
 unfolding choices writing
 writing-lazy [] s l g = nil
 writing-lazy (u ∷ us) s l g =
-    next u o (used (need u) (after o s)) (g .0) m (met-shows u (after o s) (chosen-met (need u) (cost us) s)) (used-left u (after o s) (chosen-met (need u) (cost us) s) l′)
+    let e = chosen-met (need u) (cost us) s in
+    next u o (used (need u) (after o s)) (g .0) m (met-shows u (after o s) e) (used-left u (after o s) e l′)
     (writing-lazy us (after o s) l′ (g .1))
   where
     o : Option Standing
@@ -257,24 +241,13 @@ the-choice us s l g =
 -- what is designated decides the string
 same-octets : (u : TextUnit) (d e : Side) (s : Sets) → Shows u d s → Shows u e s → LeftFirst u d s → LeftFirst u e s → octets d u ≡ octets e u
 unfolding octets
-same-octets u GL GL s x y f g = refl
-same-octets u GR GR s x y f g = refl
+same-octets (char c k) GL GL s x y f g = refl
+same-octets (char c k) GR GR s x y f g = refl
 same-octets (char c k) GL GR s x y f g = ap (λ (d : Side). octets d (char c k)) (sym (g x))
 same-octets (char c k) GR GL s x y f g = ap (λ (d : Side). octets d (char c k)) (f y)
-same-octets space GL GR s x y f g = refl
-same-octets space GR GL s x y f g = refl
-same-octets tab GL GR s x y f g = refl
-same-octets tab GR GL s x y f g = refl
-same-octets newline GL GR s x y f g = refl
-same-octets newline GR GL s x y f g = refl
-same-octets ltr GL GR s x y f g = refl
-same-octets ltr GR GL s x y f g = refl
-same-octets rtl GL GR s x y f g = refl
-same-octets rtl GR GL s x y f g = refl
-same-octets revert GL GR s x y f g = refl
-same-octets revert GR GL s x y f g = refl
-same-octets (ext n xs) GL GR s x y f g = refl
-same-octets (ext n xs) GR GL s x y f g = refl
+same-octets space d e s x y f g = refl
+same-octets (control n) d e s x y f g = refl
+same-octets (ext n xs) d e s x y f g = refl
 
 lazy-one : {s : Sets} {us : List TextUnit} {os : List (Option Standing)} {t w : List ℕ} → Lazy s us os t → Lazy s us os w → t ≡ w
 lazy-one nil nil = refl
@@ -286,11 +259,7 @@ not-both (char c k) a b p q =
     let z : _≡_ {A = ℕ} 0 1 = cc (p .0, q .1) in
     omega arith
 not-both space a b p q = omega (arith, p .0, q .1)
-not-both tab a b p q = p
-not-both newline a b p q = p
-not-both ltr a b p q = p
-not-both rtl a b p q = p
-not-both revert a b p q = p
+not-both (control x) a b p q = p
 not-both (ext n xs) a b p q = p
 
 one-way : {us : List TextUnit} {os ps : List (Option Standing)} → Before us os ps → Before us ps os → ⊥

@@ -10,7 +10,7 @@ use Rattle.charset.specs.declared.Side.{Side}
 use Rattle.charset.specs.declared.Side.the-variants.{GL, GR}
 use Rattle.state.specs.State.{Standing}
 use Rattle.state.specs.declared.Sets.{Sets}
-use Rattle.grammar.specs.Units.{TextUnit, char, space, tab, newline, ltr, rtl, revert, ext, wide, shown, octets, designation}
+use Rattle.grammar.specs.Units.{TextUnit, char, space, control, ext, wide, shown, octets, designation}
 use Rattle.shortest.specs.Writing.{price, need, size, cost, choose, after, designated, writing}
 use Rattle.shortest.proofs.Needs.{Steady, least-steady, spent, least-chosen}
 
@@ -27,11 +27,7 @@ size-side GR (char c k) = go (wide c)
     go true = refl
     go false = refl
 size-side GR space = refl
-size-side GR tab = refl
-size-side GR newline = refl
-size-side GR ltr = refl
-size-side GR rtl = refl
-size-side GR revert = refl
+size-side GR (control x) = refl
 size-side GR (ext e xs) = refl
 
 pub cost-steady : (us : List TextUnit) → Steady (cost us)

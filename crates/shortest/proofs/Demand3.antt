@@ -10,9 +10,8 @@ use borrow.Author.Tests.{le-ltb}
 use Rattle.base.specs.Limit as limit
 use Rattle.base.specs.Refusal as refusal
 use Rattle.base.specs.declared.Unit.{Unit as UnitRecord}
-use Rattle.state.specs.State.{fresh}
 use Rattle.grammar.specs.Units.{TextUnit}
-use Rattle.shortest.specs.Writing.{cost, writing}
+use Rattle.shortest.specs.Writing.{shortestOf, shortestCount}
 use Rattle.shortest.specs.Demand.{writeAnswer, outputAfter, Demand3}
 use Rattle.shortest.specs.Records.{workRoom, writerAnswer, writerOutput}
 use Rattle.shortest.specs.Demand3.{Demand3For}
@@ -25,8 +24,8 @@ output-once : (us : List TextUnit) (out : List ℕ)
 unfolding outputAfter
 output-once us out = go (eqb (writeAnswer us (length out) .number) refusal.accepted)
   where
-    go : (b : Bool) → cond b (cond b (writing us (fresh .sets) ++ drop (cost us (fresh .sets)) out) out) out
-        ≡ cond b (writing us (fresh .sets) ++ drop (cost us (fresh .sets)) out) out
+    go : (b : Bool) → cond b (cond b (shortestOf us ++ drop (shortestCount us) out) out) out
+        ≡ cond b (shortestOf us ++ drop (shortestCount us) out) out
     go true = refl
     go false = refl
 

@@ -1,19 +1,20 @@
 -- The laws of a unit's need. What comes first keeps the cost steady (`least-steady`): one more designation saves no more than its price,
 -- by four cases of whether the need is met before and after it. The choice costs the least (`least-chosen`) and meets the need
 -- (`chosen-met`), and a need that is met costs nothing (`least-met`).
-use Prim.Native.Nat.{ℕ, _+_, _≤_, min}
+use Prim.Native.Nat.{ℕ, _+_, _≤_, _<_, min}
 use native.Mathlib.Omega.{arith}
 use mathlib.Core.Path.{_≡_, refl, sym, ap, _∙_, subst}
-use mathlib.Core.Bool.{Bool, true, false, cond, _||_, true≢false}
-use mathlib.Core.Logic.{_⊎_, inl, inr, ⊎-elim}
+use mathlib.Core.Bool.{Bool, true, false, cond, _||_, or-true}
+use mathlib.Core.Logic.{_⊎_, ⊎-elim}
 use mathlib.Core.Option.{Option, none, some}
 use lib.Dec.{eqb, leb}
 use borrow.Author.Tests.{eqb-true, eqb-false, eq-eqb, leb-true, leb-false}
+use Rattle.base.proofs.Bools.{cond-by, or-cases, or-none}
 use Rattle.charset.specs.declared.Side.{Side}
 use Rattle.charset.specs.declared.Side.the-variants.{GL, GR}
 use Rattle.state.specs.State.{Standing, get, put, put′}
 use Rattle.state.specs.declared.Sets.{Sets}
-use Rattle.shortest.specs.Writing.{stands, price, Need, free, either, met, least, choose, after}
+use Rattle.shortest.specs.Writing.{stands, price, Need, free, either, met, least, choose, after, via}
 
 -- ---- sets put on a side
 
@@ -42,7 +43,7 @@ stands-new a p s = go (a .side) (p .side) refl refl
 
 -- f rises by no more than a designation's price
 abbrev pub Steady : (Sets → ℕ) → Type 0
-Steady f = (p : Standing) (s : Sets) → f s ≤ price p + f (put p s)
+Steady f = (p : Standing) (s : Sets) → f s ≤ via p f s
 
 -- a put before one to the same side is lost, and puts to two sides change places
 put-over : (f : Sets → ℕ) → Steady f → (a p : Standing) (s : Sets) → f (put a s) ≤ price p + f (put a (put p s))
@@ -55,18 +56,6 @@ put-over f st a p s = go (a .side) (p .side) refl
     go GL GR y = subst (λ (e : Side). f (put′ GL (a .set) s) ≤ price p + f (put′ e (p .set) (put′ GL (a .set) s))) y (st p (put′ GL (a .set) s))
     go GR GL y = subst (λ (e : Side). f (put′ GR (a .set) s) ≤ price p + f (put′ e (p .set) (put′ GR (a .set) s))) y (st p (put′ GR (a .set) s))
 
-pub or-true : (a : Bool) → (a || true) ≡ true
-or-true true = refl
-or-true false = refl
-
-pub or-cases : (a b : Bool) → (a || b) ≡ true → (a ≡ true) ⊎ (b ≡ true)
-or-cases true b e = inl refl
-or-cases false b e = inr e
-
-pub or-none : (a b : Bool) → (a || b) ≡ false → (a ≡ false) × (b ≡ false)
-or-none true b e = absurd (true≢false e)
-or-none false b e = (refl, e)
-
 -- a need before what f says keeps that
 pub least-steady : (n : Need) (f : Sets → ℕ) → Steady f → Steady (least n f)
 unfolding least met
@@ -74,62 +63,58 @@ least-steady free f st p s = st p s
 least-steady (either a b) f st p s = go (met (either a b) s) (met (either a b) (put p s)) refl refl
   where
     go : (t t′ : Bool) → met (either a b) s ≡ t → met (either a b) (put p s) ≡ t′
-        → cond t (f s) (min (price a + f (put a s)) (price b + f (put b s)))
-        ≤ price p + cond t′ (f (put p s)) (min (price a + f (put a (put p s))) (price b + f (put b (put p s))))
+        → cond t (f s) (min (via a f s) (via b f s)) ≤ price p + cond t′ (f (put p s)) (min (via a f (put p s)) (via b f (put p s)))
     go true true x y = st p s
     go true false x y = omega (arith, st p s, st a (put p s), st b (put p s))
     go false false x y = omega (arith, put-over f st a p s, put-over f st b p s)
     go false true x y =
+        let n = or-none (stands a s) (stands b s) x in
         ⊎-elim
-        (λ e. let q : a ≡ p = stands-new a p s (off .0) e in omega (arith, price-at a p q))
-        (λ e. let q : b ≡ p = stands-new b p s (off .1) e in omega (arith, price-at b p q))
+        (λ e. omega (arith, ap (λ (c : Standing). via c f s) (stands-new a p s (n .0) e)))
+        (λ e. omega (arith, ap (λ (c : Standing). via c f s) (stands-new b p s (n .1) e)))
         (or-cases (stands a (put p s)) (stands b (put p s)) y)
-      where
-        off : (stands a s ≡ false) × (stands b s ≡ false)
-        off = or-none (stands a s) (stands b s) x
-
-        price-at : (c d : Standing) → c ≡ d → price c + f (put c s) ≡ price d + f (put d s)
-        price-at c d q = ap (λ (e : Standing). price e + f (put e s)) q
 
 abbrev pub spent : Option Standing → ℕ
 spent none = 0
 spent (some p) = price p
 
+-- what is chosen for a need: nothing where it is met, else the first place, or the second where that costs less
+pub data Chose (a b : Standing) (f : Sets → ℕ) (s : Sets) : Option Standing → Type 0 where
+  nothing : met (either a b) s ≡ true → Chose a b f s none
+  the-first : met (either a b) s ≡ false → via a f s ≤ via b f s → Chose a b f s (some a)
+  the-second : met (either a b) s ≡ false → via b f s < via a f s → Chose a b f s (some b)
+
+pub chose : (a b : Standing) (f : Sets → ℕ) (s : Sets) → Chose a b f s (choose (either a b) f s)
+unfolding choose
+chose a b f s =
+    cond-by (Chose a b f s) (met (either a b) s) nothing
+    (λ e. cond-by (Chose a b f s) (leb (via a f s) (via b f s)) (λ l. the-first e (leb-true (via a f s) (via b f s) l))
+    (λ l. the-second e (leb-false (via a f s) (via b f s) l)))
+
 -- the choice costs the least
 pub least-chosen : (n : Need) (f : Sets → ℕ) (s : Sets) → least n f s ≡ spent (choose n f s) + f (after (choose n f s) s)
 unfolding least choose
 least-chosen free f s = omega arith
-least-chosen (either a b) f s = go (met (either a b) s)
+least-chosen (either a b) f s = go (chose a b f s)
   where
-    inner : (t : Bool) → leb (price a + f (put a s)) (price b + f (put b s)) ≡ t
-        → min (price a + f (put a s)) (price b + f (put b s)) ≡ spent (cond t (some a) (some b)) + f (after (cond t (some a) (some b)) s)
-    inner true e = omega (arith, leb-true (price a + f (put a s)) (price b + f (put b s)) e)
-    inner false e = omega (arith, leb-false (price a + f (put a s)) (price b + f (put b s)) e)
-
-    go : (t : Bool)
-        → cond t (f s) (min (price a + f (put a s)) (price b + f (put b s)))
-        ≡ spent (cond t none (cond (leb (price a + f (put a s)) (price b + f (put b s))) (some a) (some b)))
-        + f (after (cond t none (cond (leb (price a + f (put a s)) (price b + f (put b s))) (some a) (some b))) s)
-    go true = omega arith
-    go false = inner (leb (price a + f (put a s)) (price b + f (put b s))) refl
+    go : {o : Option Standing} → Chose a b f s o → least (either a b) f s ≡ spent o + f (after o s)
+    go (nothing e) = rw e (omega arith)
+    go (the-first e l) = rw e (omega (arith, l))
+    go (the-second e l) = rw e (omega (arith, l))
 
 -- once what was chosen is designated, the need is met
 pub chosen-met : (n : Need) (f : Sets → ℕ) (s : Sets) → met n (after (choose n f s) s) ≡ true
 unfolding met choose
 chosen-met free f s = refl
-chosen-met (either a b) f s = go (met (either a b) s) refl
+chosen-met (either a b) f s = go (chose a b f s)
   where
-    inner : (t : Bool) → met (either a b) (after (cond t (some a) (some b)) s) ≡ true
-    inner true = ap (λ (x : Bool). x || stands b (put a s)) (put-stands a s)
-    inner false = ap (λ (x : Bool). stands a (put b s) || x) (put-stands b s) ∙ or-true (stands a (put b s))
-
-    go : (t : Bool) → met (either a b) s ≡ t
-        → met (either a b) (after (cond t none (cond (leb (price a + f (put a s)) (price b + f (put b s))) (some a) (some b))) s) ≡ true
-    go true e = e
-    go false e = inner (leb (price a + f (put a s)) (price b + f (put b s)))
+    go : {o : Option Standing} → Chose a b f s o → met (either a b) (after o s) ≡ true
+    go (nothing e) = e
+    go (the-first e l) = ap (λ (x : Bool). x || stands b (put a s)) (put-stands a s)
+    go (the-second e l) = ap (λ (x : Bool). stands a (put b s) || x) (put-stands b s) ∙ or-true (stands a (put b s))
 
 -- where the need is met the least cost is the rest's
 pub least-met : (n : Need) (f : Sets → ℕ) (s : Sets) → met n s ≡ true → least n f s ≡ f s
 unfolding least met
 least-met free f s e = refl
-least-met (either a b) f s e = ap (λ (t : Bool). cond t (f s) (min (price a + f (put a s)) (price b + f (put b s)))) e
+least-met (either a b) f s e = ap (λ (t : Bool). cond t (f s) (min (via a f s) (via b f s))) e

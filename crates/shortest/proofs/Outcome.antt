@@ -4,7 +4,7 @@
 use Prim.Native.Nat.{ℕ, _≤_, _<_}
 use native.Mathlib.Omega.{arith}
 use mathlib.Core.Path.{_≡_, refl, sym, ap, _∙_, subst}
-use mathlib.Core.Bool.{Bool, true, false, cond}
+use mathlib.Core.Bool.{cond}
 use mathlib.Core.List.{List}
 use mathlib.Core.Option.{Option, none, some, Option·none-ne-some}
 use mathlib.Core.Logic.{_↔_, _⊎_, inl, inr, ⊎-elim}
@@ -16,13 +16,13 @@ use Rattle.base.specs.Limit as limit
 use Rattle.base.specs.Refusal as refusal
 use Rattle.base.specs.declared.Answer.{Answer}
 use Rattle.base.specs.declared.Unit.{Unit as UnitRecord}
-use Rattle.state.specs.State.{fresh}
+use Rattle.base.proofs.Bools.{cond-by}
 use Rattle.state.specs.Directions.{undirected}
 use Rattle.grammar.specs.Units.{TextUnit}
-use Rattle.shortest.specs.Writing.{cost}
+use Rattle.shortest.specs.Writing.{shortestCount}
 use Rattle.shortest.specs.Demand.{writeAnswer}
 use Rattle.grammar.specs.Records.{unitRead, listReading}
-use Rattle.shortest.specs.Records.{Checked, fine, faulty, checkRecords, afterCheck, ofReading, workRoom, writerAnswer}
+use Rattle.shortest.specs.Records.{Finding, fine, faulty, checkRecords, afterCheck, ofReading, workRoom, writerAnswer}
 use Rattle.shortest.specs.Offence.{directionsAfter, noRecord, faultAt, FirstOffends, NoneOffends}
 use Rattle.shortest.specs.Outcome.{Served, Outcome, long-list, offending, short-work, long-writing, short-output, written}
 use Rattle.shortest.proofs.Offence.{offence, no-offence, Number, numbers}
@@ -34,45 +34,35 @@ Of P a = P (a .number) (a .place) (a .count)
 
 module _ (rs : List UnitRecord) (o : List ℕ) (work m : ℕ) where
   -- the answer is an outcome
-  writing-outcome : (us : List TextUnit) → Served rs o work us → Of (Outcome rs o work m) (writeAnswer us m)
+  abbrev Is : Answer → Type 0
+  Is = Of (Outcome rs o work m)
+
+  writing-outcome : (us : List TextUnit) → Served rs o work us → Is (writeAnswer us m)
   unfolding writeAnswer
-  writing-outcome us v = go (ltb limit.octets n) (ltb m n) refl refl
-    where
-      n : ℕ
-      n = cost us (fresh .sets)
+  writing-outcome us v =
+      cond-by Is (ltb limit.octets (shortestCount us)) (λ p. long-writing us v (ltb-true limit.octets (shortestCount us) p))
+      (λ p. let l = ltb-false limit.octets (shortestCount us) p in
+      cond-by Is (ltb m (shortestCount us)) (λ q. short-output us v l (ltb-true m (shortestCount us) q))
+      (λ q. subst (λ (k : ℕ). Outcome rs o work m refusal.accepted k (shortestCount us)) (sym (reading-length o rs us (v .reading)))
+      (written us v l (ltb-false m (shortestCount us) q))))
 
-      go : (x y : Bool) → ltb limit.octets n ≡ x → ltb m n ≡ y
-          → Of (Outcome rs o work m) (cond x (refusedAt refusal.too-long 0) (cond y (answer refusal.no-room 0 n) (answer refusal.accepted (length us) n)))
-      go true y p q = long-writing us v (ltb-true limit.octets n p)
-      go false true p q = short-output us v (ltb-false limit.octets n p) (ltb-true m n q)
-      go false false p q =
-          subst (λ (k : ℕ). Outcome rs o work m refusal.accepted k n) (sym (reading-length o rs us (v .reading)))
-          (written us v (ltb-false limit.octets n p) (ltb-false m n q))
-
-  is-outcome : Of (Outcome rs o work m) (writerAnswer rs o work m)
+  is-outcome : Is (writerAnswer rs o work m)
   unfolding writerAnswer
-  is-outcome = list (ltb limit.units (length rs)) refl
+  is-outcome =
+      cond-by Is (ltb limit.units (length rs)) (λ e. long-list (ltb-true limit.units (length rs) e))
+      (λ e. check (ltb-false limit.units (length rs) e) (checkRecords o rs 0 undirected) refl)
     where
-      reading : length rs ≤ limit.units → checkRecords o rs 0 undirected ≡ fine → workRoom (length rs) ≤ work → (x : Option (List TextUnit)) → listReading o rs ≡ x
-          → Of (Outcome rs o work m) (ofReading x m)
+      reading : length rs ≤ limit.units → checkRecords o rs 0 undirected ≡ fine → workRoom (length rs) ≤ work
+          → (x : Option (List TextUnit)) → listReading o rs ≡ x → Is (ofReading x m)
       reading l c w none e = let f = fine-units o rs 0 undirected c in absurd (Option·none-ne-some (f .units) (sym e ∙ f .reading))
       reading l c w (some us) e = writing-outcome us (record { list = l; none = no-offence o rs .0 c; room = w; reading = e })
 
-      room : length rs ≤ limit.units → checkRecords o rs 0 undirected ≡ fine → (b : Bool) → ltb work (workRoom (length rs)) ≡ b
-          → Of (Outcome rs o work m) (cond b (refusedAt refusal.no-work-room 0) (ofReading (listReading o rs) m))
-      room l c true e = short-work l (no-offence o rs .0 c) (ltb-true work (workRoom (length rs)) e)
-      room l c false e = reading l c (ltb-false work (workRoom (length rs)) e) (listReading o rs) refl
-
-      check : length rs ≤ limit.units → (c : Checked) → checkRecords o rs 0 undirected ≡ c
-          → Of (Outcome rs o work m) (afterCheck c (cond (ltb work (workRoom (length rs))) (refusedAt refusal.no-work-room 0) (ofReading (listReading o rs) m)))
-      check l fine e = room l e (ltb work (workRoom (length rs))) refl
+      check : length rs ≤ limit.units → (c : Finding) → checkRecords o rs 0 undirected ≡ c
+          → Is (afterCheck c (cond (ltb work (workRoom (length rs))) (refusedAt refusal.no-work-room 0) (ofReading (listReading o rs) m)))
+      check l fine e =
+          cond-by Is (ltb work (workRoom (length rs))) (λ w. short-work l (no-offence o rs .0 e) (ltb-true work (workRoom (length rs)) w))
+          (λ w. reading l e (ltb-false work (workRoom (length rs)) w) (listReading o rs) refl)
       check l (faulty n i) e = offending l (offence o rs n i .0 e)
-
-      list : (b : Bool) → ltb limit.units (length rs) ≡ b
-          → Of (Outcome rs o work m) (cond b (refusedAt refusal.too-long 0)
-          (afterCheck (checkRecords o rs 0 undirected) (cond (ltb work (workRoom (length rs))) (refusedAt refusal.no-work-room 0) (ofReading (listReading o rs) m))))
-      list true e = long-list (ltb-true limit.units (length rs) e)
-      list false e = check (ltb-false limit.units (length rs) e) (checkRecords o rs 0 undirected) refl
 
   -- an outcome is the answer
   pub served : (us : List TextUnit) → Served rs o work us → writerAnswer rs o work m ≡ writeAnswer us m
@@ -84,14 +74,14 @@ module _ (rs : List UnitRecord) (o : List ℕ) (work m : ℕ) where
   outcome-is (long-list h) = rw (lt-ltb limit.units (length rs) h)
   outcome-is (offending {n} {i} h f) = rw (le-ltb limit.units (length rs) h, offence o rs n i .1 f)
   outcome-is (short-work h f w) = rw (le-ltb limit.units (length rs) h, no-offence o rs .1 f, lt-ltb work (workRoom (length rs)) w)
-  outcome-is (long-writing us v h) = served us v ∙ rw (lt-ltb limit.octets (cost us (fresh .sets)) h)
-  outcome-is (short-output us v h k) = served us v ∙ rw (le-ltb limit.octets (cost us (fresh .sets)) h, lt-ltb m (cost us (fresh .sets)) k)
+  outcome-is (long-writing us v h) = served us v ∙ rw (lt-ltb limit.octets (shortestCount us) h)
+  outcome-is (short-output us v h k) = served us v ∙ rw (le-ltb limit.octets (shortestCount us) h, lt-ltb m (shortestCount us) k)
   outcome-is (written us v h k) =
-      served us v ∙ rw (le-ltb limit.octets (cost us (fresh .sets)) h, le-ltb m (cost us (fresh .sets)) k, reading-length o rs us (v .reading))
+      served us v ∙ rw (le-ltb limit.octets (shortestCount us) h, le-ltb m (shortestCount us) k, reading-length o rs us (v .reading))
 
   -- the order of the writer's refusals, whole
   pub outcome : (n p c : ℕ) → (writerAnswer rs o work m ≡ answer n p c) ↔ Outcome rs o work m n p c
-  outcome n p c = (λ e. subst (Of (Outcome rs o work m)) e is-outcome, outcome-is)
+  outcome n p c = (λ e. subst Is e is-outcome, outcome-is)
 
 -- ---- what each number means
 
@@ -122,7 +112,7 @@ module _ (rs : List UnitRecord) (o : List ℕ) (work m : ℕ) where
 
   -- 0: some reading, every condition met, and the count fits
   abbrev pub Accepts : Type 0
-  Accepts = (us : List TextUnit) × Served rs o work us × (cost us (fresh .sets) ≤ limit.octets) × (cost us (fresh .sets) ≤ m)
+  Accepts = (us : List TextUnit) × Served rs o work us × (shortestCount us ≤ limit.octets) × (shortestCount us ≤ m)
 
   pub accepted-where : (number ≡ refusal.accepted) ↔ Accepts
   accepted-where = (λ e. go (known e), λ w. numbered (written (w .0) (w .1) (w .2) (w .3)))
@@ -144,7 +134,7 @@ module _ (rs : List UnitRecord) (o : List ℕ) (work m : ℕ) where
 
   -- 1: "string or list over 65,535, or shortest writing over it"
   abbrev pub TooLong : Type 0
-  TooLong = (limit.units < length rs) ⊎ ((us : List TextUnit) × Served rs o work us × (limit.octets < cost us (fresh .sets)))
+  TooLong = (limit.units < length rs) ⊎ ((us : List TextUnit) × Served rs o work us × (limit.octets < shortestCount us))
 
   pub too-long-where : (number ≡ refusal.too-long) ↔ TooLong
   too-long-where = (λ e. go (known e), ⊎-elim (λ h. numbered (long-list h)) (λ w. numbered (long-writing (w .0) (w .1) (w .2))))
@@ -156,7 +146,7 @@ module _ (rs : List UnitRecord) (o : List ℕ) (work m : ℕ) where
 
   -- 10: the output has fewer octets
   abbrev pub LacksRoom : Type 0
-  LacksRoom = (us : List TextUnit) × Served rs o work us × (cost us (fresh .sets) ≤ limit.octets) × (m < cost us (fresh .sets))
+  LacksRoom = (us : List TextUnit) × Served rs o work us × (shortestCount us ≤ limit.octets) × (m < shortestCount us)
 
   pub no-room-where : (number ≡ refusal.no-room) ↔ LacksRoom
   no-room-where = (λ e. go (known e), λ w. numbered (short-output (w .0) (w .1) (w .2) (w .3)))
@@ -205,7 +195,7 @@ module _ (rs : List UnitRecord) (o : List ℕ) (work m : ℕ) where
 
   -- "Accepted is 0, the input's length, and the .. octets written."
   pub accepted-answer : number ≡ refusal.accepted
-      → (us : List TextUnit) × (listReading o rs ≡ some us) × (writerAnswer rs o work m ≡ answer refusal.accepted (length rs) (cost us (fresh .sets)))
+      → (us : List TextUnit) × (listReading o rs ≡ some us) × (writerAnswer rs o work m ≡ answer refusal.accepted (length rs) (shortestCount us))
   accepted-answer e =
       let w = accepted-where .0 e in
       (w .0, w .1 .reading, outcome-is rs o work m (written (w .0) (w .1) (w .2) (w .3)))

@@ -4,8 +4,7 @@
 -- string of the reading is over the limit (`over-limit`).
 use Prim.Native.Nat.{ℕ, _+_, _-_, _≤_, _<_}
 use native.Mathlib.Omega.{arith}
-use mathlib.Core.Path.{_≡_, refl, sym, ap, ap₂, _∙_, subst}
-use mathlib.Core.Bool.{Bool, true, false}
+use mathlib.Core.Path.{_≡_, sym, ap, ap₂, _∙_, subst}
 use mathlib.Core.List.{List, _++_}
 use mathlib.Core.Option.{Option, none, some, Option·some-injective}
 use mathlib.Core.Logic.{_↔_}
@@ -18,12 +17,13 @@ use Rattle.base.specs.Limit as limit
 use Rattle.base.specs.Refusal as refusal
 use Rattle.base.specs.declared.Answer.{Answer}
 use Rattle.base.specs.declared.Unit.{Unit as UnitRecord}
+use Rattle.base.proofs.Bools.{test}
 use Rattle.state.specs.State.{Standing, fresh}
 use Rattle.state.specs.Directions.{undirected}
 use Rattle.grammar.specs.Units.{TextUnit}
 use Rattle.grammar.specs.Reading.{Octets, ReadAs}
 use Rattle.grammar.proofs.Agrees.{fresh-legal}
-use Rattle.shortest.specs.Writing.{cost, writing}
+use Rattle.shortest.specs.Writing.{shortestOf, shortestCount}
 use Rattle.shortest.specs.Demand.{writeAnswer, outputAfter}
 use Rattle.grammar.specs.Records.{listReading}
 use Rattle.shortest.specs.Records.{writerAnswer, writerOutput}
@@ -45,30 +45,37 @@ served-good rs o work us v =
 
 -- "shortest writing over it": every string of the reading, its length aside, is over the limit
 pub over-limit : (rs : List UnitRecord) (o : List ℕ) (work : ℕ) (us : List TextUnit) → Octets o → Served rs o work us
-    → (limit.octets < cost us (fresh .sets)) ↔ ((t : List ℕ) → Grammatical t us → limit.octets < length t)
+    → (limit.octets < shortestCount us) ↔ ((t : List ℕ) → Grammatical t us → limit.octets < length t)
 over-limit rs o work us h v = (
   λ l t g. omega (arith, lower fresh-legal (g .reads)),
-  λ f. omega (arith, f (writing us (fresh .sets)) (list-grammatical o rs us h (no-offence o rs .1 (v .none)) (v .reading)), writing-length us (fresh .sets)),
+  λ f. omega (arith, f (shortestOf us) (list-grammatical o rs us h (no-offence o rs .1 (v .none)) (v .reading)), writing-length us (fresh .sets)),
 )
 
 module _ (rs : List UnitRecord) (o : List ℕ) (work : ℕ) (out : List ℕ) where
+  -- the answer, and the octets of the output that it counts
+  abbrev answered : Answer
+  answered = writerAnswer rs o work (length out)
+
+  abbrev string : List ℕ
+  string = take (answered .count) (writerOutput rs o work out)
+
   -- "Refusals leave answer lists and output untouched"
-  pub refused-output : (writerAnswer rs o work (length out) .number ≡ refusal.accepted → ⊥) → writerOutput rs o work out ≡ out
+  pub refused-output : (answered .number ≡ refusal.accepted → ⊥) → writerOutput rs o work out ≡ out
   unfolding writerOutput
-  refused-output n = rw (ne-eqb (writerAnswer rs o work (length out) .number) refusal.accepted n)
+  refused-output n = rw (ne-eqb (answered .number) refusal.accepted n)
 
   -- what is known where the answer is 0
   pub record Given : Type 0 where
     pub units : List TextUnit
     pub reading : listReading o rs ≡ some units
     pub good-ones : Good units
-    pub answers : writerAnswer rs o work (length out) ≡ answer refusal.accepted (length rs) (cost units (fresh .sets))
-    pub short : cost units (fresh .sets) ≤ limit.octets
-    pub fits : cost units (fresh .sets) ≤ length out
-    pub holds : writerOutput rs o work out ≡ writing units (fresh .sets) ++ drop (cost units (fresh .sets)) out
+    pub answers : answered ≡ answer refusal.accepted (length rs) (shortestCount units)
+    pub short : shortestCount units ≤ limit.octets
+    pub fits : shortestCount units ≤ length out
+    pub holds : writerOutput rs o work out ≡ shortestOf units ++ drop (shortestCount units) out
 
   -- "it gives that one string, from the output's first place; the rest of the output stays"
-  pub accepted-output : writerAnswer rs o work (length out) .number ≡ refusal.accepted → Given
+  pub accepted-output : answered .number ≡ refusal.accepted → Given
   unfolding writerOutput outputAfter
   accepted-output e =
       let w = accepted-where rs o work (length out) .0 e in
@@ -82,39 +89,40 @@ module _ (rs : List UnitRecord) (o : List ℕ) (work : ℕ) (out : List ℕ) whe
         answers = outcome-is rs o work (length out) (written us v (w .2) (w .3));
         short = w .2;
         fits = w .3;
-        holds = rw (eq-eqb (writerAnswer rs o work (length out) .number) refusal.accepted e, v .reading, eq-eqb (writeAnswer us (length out) .number) refusal.accepted n);
+        holds = rw (eq-eqb (answered .number) refusal.accepted e, v .reading, eq-eqb (writeAnswer us (length out) .number) refusal.accepted n);
       }
 
   -- the octets that the answer counts are the writing
-  output-string : (g : Given) → take (writerAnswer rs o work (length out) .count) (writerOutput rs o work out) ≡ writing (g .units) (fresh .sets)
+  output-string : (g : Given) → string ≡ shortestOf (g .units)
   output-string g =
-      let w = writing (g .units) (fresh .sets) in
-      let rest = drop (cost (g .units) (fresh .sets)) out in
-      let n : writerAnswer rs o work (length out) .count ≡ length w = ap (λ (a : Answer). a .count) (g .answers) ∙ sym (writing-length (g .units) (fresh .sets)) in
+      let w = shortestOf (g .units) in
+      let rest = drop (shortestCount (g .units)) out in
+      let n : answered .count ≡ length w = ap (λ (a : Answer). a .count) (g .answers) ∙ sym (writing-length (g .units) (fresh .sets)) in
       ap₂ (λ (k : ℕ) (xs : List ℕ). take k xs) n (g .holds) ∙ take-append-seam w rest
 
   -- they are the string that document 01 names, and there is no other such string
-  pub output-chosen : writerAnswer rs o work (length out) .number ≡ refusal.accepted
+  pub output-chosen : answered .number ≡ refusal.accepted
       → (us : List TextUnit) × (os : List (Option Standing)) × (listReading o rs ≡ some us)
-      × Chosen us (fresh .sets) os (take (writerAnswer rs o work (length out) .count) (writerOutput rs o work out))
+      × Chosen us (fresh .sets) os string
   output-chosen e =
       let g = accepted-output e in (
         g .units,
         choices (g .units) (fresh .sets),
         g .reading,
-        subst (Chosen (g .units) (fresh .sets) (choices (g .units) (fresh .sets))) (sym (output-string g)) (the-choice (g .units) (fresh .sets) fresh-legal (g .good-ones)),
+        subst (Chosen (g .units) (fresh .sets) (choices (g .units) (fresh .sets))) (sym (output-string g))
+            (the-choice (g .units) (fresh .sets) fresh-legal (g .good-ones)),
       )
 
-  pub output-one : writerAnswer rs o work (length out) .number ≡ refusal.accepted → (us : List TextUnit) (os : List (Option Standing)) (t : List ℕ)
-      → listReading o rs ≡ some us → Chosen us (fresh .sets) os t → t ≡ take (writerAnswer rs o work (length out) .count) (writerOutput rs o work out)
+  pub output-one : answered .number ≡ refusal.accepted → (us : List TextUnit) (os : List (Option Standing)) (t : List ℕ)
+      → listReading o rs ≡ some us → Chosen us (fresh .sets) os t → t ≡ string
   output-one e us os t q c =
       let g = accepted-output e in
       let s : us ≡ g .units = Option·some-injective us (g .units) (sym q ∙ g .reading) in
-      one-choice us (fresh .sets) os t fresh-legal (subst Good (sym s) (g .good-ones)) c ∙ ap (λ (v : List TextUnit). writing v (fresh .sets)) s ∙ sym (output-string g)
+      one-choice us (fresh .sets) os t fresh-legal (subst Good (sym s) (g .good-ones)) c ∙ ap (λ (v : List TextUnit). shortestOf v) s ∙ sym (output-string g)
 
   -- they are accepted and read as the list: "the writer's string, read again, gives back every unit it was made from"
-  pub output-read : Octets o → writerAnswer rs o work (length out) .number ≡ refusal.accepted
-      → (us : List TextUnit) × (listReading o rs ≡ some us) × ReadAs (take (writerAnswer rs o work (length out) .count) (writerOutput rs o work out)) us
+  pub output-read : Octets o → answered .number ≡ refusal.accepted
+      → (us : List TextUnit) × (listReading o rs ≡ some us) × ReadAs string us
   output-read h e =
       let g = accepted-output e in
       let w = accepted-where rs o work (length out) .0 e in (
@@ -126,14 +134,12 @@ module _ (rs : List UnitRecord) (o : List ℕ) (work : ℕ) (out : List ℕ) whe
 
   -- the output keeps its length
   pub output-length : length (writerOutput rs o work out) ≡ length out
-  output-length = go (eqb (writerAnswer rs o work (length out) .number) refusal.accepted) refl
-    where
-      go : (b : Bool) → eqb (writerAnswer rs o work (length out) .number) refusal.accepted ≡ b → length (writerOutput rs o work out) ≡ length out
-      go true e =
-          let g = accepted-output (eqb-true (writerAnswer rs o work (length out) .number) refusal.accepted e) in
-          let n = cost (g .units) (fresh .sets) in
-          ap length (g .holds)
-          ∙ (let z : length (writing (g .units) (fresh .sets) ++ drop n out) ≡ length out =
-          omega (arith, length-append (writing (g .units) (fresh .sets)) (drop n out), length-drop n out, writing-length (g .units) (fresh .sets), g .fits) in
-          z)
-      go false e = ap length (refused-output (eqb-false (writerAnswer rs o work (length out) .number) refusal.accepted e))
+  output-length =
+      test (eqb (answered .number) refusal.accepted)
+      (λ e. let g = accepted-output (eqb-true (answered .number) refusal.accepted e) in
+      let w = shortestOf (g .units) in
+      let n = shortestCount (g .units) in
+      let z : length (w ++ drop n out) ≡ length out =
+      omega (arith, length-append w (drop n out), length-drop n out, writing-length (g .units) (fresh .sets), g .fits) in
+      ap length (g .holds) ∙ z)
+      (λ e. ap length (refused-output (eqb-false (answered .number) refusal.accepted e)))

@@ -9,19 +9,20 @@ use mathlib.Core.List.{List, [], _∷_}
 use mathlib.Core.Option.{Option, none, some, Option·none-ne-some, Option·some-injective}
 use mathlib.Core.Logic.{_↔_}
 use lib.ListN.{length, take, drop}
-use lib.Dec.{eqb}
+use lib.Dec.{eqb, ltb}
 use Rattle.base.specs.Kind as kind
 use Rattle.base.specs.Limit as limit
 use Rattle.base.specs.declared.Unit.{Unit as UnitRecord}
+use Rattle.base.proofs.Bools.{test, cond-by}
 use Rattle.state.specs.State.{fresh}
 use Rattle.state.specs.Directions.{undirected}
 use Rattle.state.specs.declared.directions.Directions.{Directions}
 use Rattle.state.specs.declared.directions.Step.{Step}
 use Rattle.state.specs.declared.directions.Step.the-variants.{Goes, Stops}
-use Rattle.grammar.specs.Units.{TextUnit, char, space, tab, newline, ltr, rtl, revert, ext, unitOf, good}
+use Rattle.grammar.specs.Units.{TextUnit, space, unitOf, good}
 use Rattle.grammar.specs.Reading.{direct, Octets, ReadAs}
 use Rattle.grammar.proofs.Rule.{directed, passes, direction-rule}
-use Rattle.shortest.specs.Writing.{cost, writing}
+use Rattle.shortest.specs.Writing.{shortestOf, shortestCount}
 use Rattle.grammar.specs.Records.{readable, unitRead, prepend, listReading}
 use Rattle.shortest.specs.Records.{fault, own, fine, faulty, onStep, checkRecords}
 use Rattle.shortest.specs.Offence.{NoneOffends, Grammatical}
@@ -31,17 +32,30 @@ use Rattle.shortest.proofs.Written.{Contents}
 use Rattle.shortest.proofs.Shortest.{good-all, accepted, writing-grammatical, within-limit, no-shorter, units-within}
 use Rattle.shortest.proofs.Offence.{no-offence}
 
+-- where a list has a reading, its first record stands for a unit and the rest has a reading
+record FirstRead (o : List ℕ) (r : UnitRecord) (rs : List UnitRecord) (us : List TextUnit) : Type 0 where
+  unit : TextUnit
+  rest : List TextUnit
+  first : unitRead o r ≡ some unit
+  others : listReading o rs ≡ some rest
+  whole : unit ∷ rest ≡ us
+
+first-read : (o : List ℕ) (r : UnitRecord) (rs : List UnitRecord) (us : List TextUnit) → listReading o (r ∷ rs) ≡ some us → FirstRead o r rs us
+unfolding listReading
+first-read o r rs us e = go (unitRead o r) (listReading o rs) refl refl e
+  where
+    go : (x : Option TextUnit) (y : Option (List TextUnit)) → unitRead o r ≡ x → listReading o rs ≡ y → prepend x y ≡ some us → FirstRead o r rs us
+    go none y p q e = absurd (Option·none-ne-some us e)
+    go (some u) none p q e = absurd (Option·none-ne-some us e)
+    go (some u) (some vs) p q e = record { unit = u; rest = vs; first = p; others = q; whole = Option·some-injective (u ∷ vs) us e }
+
 -- a reading has a unit for each record
 pub reading-length : (o : List ℕ) (rs : List UnitRecord) (us : List TextUnit) → listReading o rs ≡ some us → length us ≡ length rs
 unfolding listReading
 reading-length o [] us e = ap length (sym (Option·some-injective [] us e))
-reading-length o (r ∷ rs) us e = go (unitRead o r) (listReading o rs) refl e (λ vs q. reading-length o rs vs q)
-  where
-    go : (x : Option TextUnit) (y : Option (List TextUnit)) → listReading o rs ≡ y → prepend x y ≡ some us
-        → ((vs : List TextUnit) → listReading o rs ≡ some vs → length vs ≡ length rs) → length us ≡ suc (length rs)
-    go none y q e k = absurd (Option·none-ne-some us e)
-    go (some u) none q e k = absurd (Option·none-ne-some us e)
-    go (some u) (some vs) q e k = ap length (sym (Option·some-injective (u ∷ vs) us e)) ∙ ap suc (k vs q)
+reading-length o (r ∷ rs) us e =
+    let w = first-read o r rs us e in
+    ap length (sym (w .whole)) ∙ ap suc (reading-length o rs (w .rest) (w .others))
 
 -- ---- good units that keep the direction rule, and lists with no offending record
 
@@ -49,23 +63,16 @@ pub units-fine : (o : List ℕ) (rs : List UnitRecord) (us : List TextUnit) (i :
     → directed us d ≡ true → checkRecords o rs i d ≡ fine
 unfolding checkRecords listReading directed
 units-fine o [] us i d e g h = refl
-units-fine o (r ∷ rs) us i d e g h = go (unitRead o r) (listReading o rs) refl e (λ vs next q gs f. units-fine o rs vs (suc i) next q gs f)
+units-fine o (r ∷ rs) us i d e g h =
+    let w = first-read o r rs us e in
+    let g′ : Good (w .unit ∷ w .rest) = subst Good (sym (w .whole)) g in
+    let h′ : directed (w .unit ∷ w .rest) d ≡ true = subst (λ (us : List TextUnit). directed us d ≡ true) (sym (w .whole)) h in
+    rw (w .first, g′ .0) (go (w .rest) (direct d (w .unit)) h′ (λ next f. units-fine o rs (w .rest) (suc i) next (w .others) (g′ .1) f))
   where
-    turn : (vs : List TextUnit) (x : Step) → passes x (λ next. directed vs next) ≡ true
+    go : (vs : List TextUnit) (x : Step) → passes x (λ next. directed vs next) ≡ true
         → ((next : Directions) → directed vs next ≡ true → checkRecords o rs (suc i) next ≡ fine) → onStep x i (λ next. checkRecords o rs (suc i) next) ≡ fine
-    turn vs (Stops n) h k = absurd (false≢true h)
-    turn vs (Goes next) h k = k next h
-
-    go : (x : Option TextUnit) (y : Option (List TextUnit)) → listReading o rs ≡ y → prepend x y ≡ some us
-        → ((vs : List TextUnit) (next : Directions) → listReading o rs ≡ some vs → Good vs → directed vs next ≡ true → checkRecords o rs (suc i) next ≡ fine)
-        → onStep (fault x d) i (λ next. checkRecords o rs (suc i) next) ≡ fine
-    go none y q e k = absurd (Option·none-ne-some us e)
-    go (some u) none q e k = absurd (Option·none-ne-some us e)
-    go (some u) (some vs) q e k =
-        let s = Option·some-injective (u ∷ vs) us e in
-        let g′ : Good (u ∷ vs) = subst Good (sym s) g in
-        let h′ : passes (direct d u) (λ next. directed vs next) ≡ true = subst (λ (w : List TextUnit). directed w d ≡ true) (sym s) h in
-        rw (g′ .0) (turn vs (direct d u) h′ (λ next f. k vs next q (g′ .1) f))
+    go vs (Stops n) h k = absurd (false≢true h)
+    go vs (Goes next) h k = k next h
 
 -- the units of a list with no offending record
 pub record Fine (o : List ℕ) (rs : List UnitRecord) (d : Directions) : Type 0 where
@@ -96,15 +103,11 @@ fine-units o (r ∷ rs) i d e = go (unitRead o r) refl e (λ next q. fine-units 
           rule = rw q (f .rule);
         }
 
-    test : (u : TextUnit) → unitRead o r ≡ some u → (b : Bool) → good u ≡ b → onStep (cond b (direct d u) (Stops (own u))) i (λ next. checkRecords o rs (suc i) next) ≡ fine
-        → ((next : Directions) → checkRecords o rs (suc i) next ≡ fine → Fine o rs next) → Fine o (r ∷ rs) d
-    test u p true g e k = step u p g (direct d u) refl e k
-    test u p false g e k = absurd (never (own u) i e)
-
     go : (x : Option TextUnit) → unitRead o r ≡ x → onStep (fault x d) i (λ next. checkRecords o rs (suc i) next) ≡ fine
         → ((next : Directions) → checkRecords o rs (suc i) next ≡ fine → Fine o rs next) → Fine o (r ∷ rs) d
     go none p e k = absurd (never 11 i e)
-    go (some u) p e k = test u p (good u) refl e k
+    go (some u) p e k =
+        test (good u) (λ g. step u p g (direct d u) refl (rw g at e) k) (λ g. absurd (never (own u) i (rw g at e)))
 
 -- ---- the octets of extended segments
 
@@ -122,40 +125,34 @@ take-octets (suc n) (x ∷ xs) o (suc i) = take-octets n xs (λ j. o (suc j)) i
 unit-contents : (k c code : ℕ) (xs : List ℕ) → Octets xs → Contents (unitOf k c code xs)
 unfolding unitOf
 unit-contents k c code xs o =
-    go (eqb k kind.character) (char c code) _ tt
-    (go (eqb k kind.space) space _ tt
-    (go (eqb k kind.tab) tab _ tt
-    (go (eqb k kind.newline) newline _ tt
-    (go (eqb k kind.left-to-right) ltr _ tt
-    (go (eqb k kind.right-to-left) rtl _ tt (go (eqb k kind.revert) revert (ext code xs) tt o))))))
+    cond-by Contents (eqb k kind.character) (λ _. tt)
+    (λ _. cond-by Contents (eqb k kind.space) (λ _. tt) (λ _. cond-by Contents (ltb k kind.segment) (λ _. tt) (λ _. o)))
+
+read-contents : (o : List ℕ) (r : UnitRecord) (u : TextUnit) → Octets o → unitRead o r ≡ some u → Contents u
+unfolding unitRead
+read-contents o r u h e = go (readable o r) e
   where
-    go : (b : Bool) (u v : TextUnit) → Contents u → Contents v → Contents (cond b u v)
-    go true u v x y = x
-    go false u v x y = y
+    xs : List ℕ
+    xs = take (r .length) (drop (r .start) o)
+
+    go : (b : Bool) → cond b (some (unitOf (r .kind) (r .set) (r .code) xs)) none ≡ some u → Contents u
+    go true e =
+        subst Contents (Option·some-injective (unitOf (r .kind) (r .set) (r .code) xs) u e)
+        (unit-contents (r .kind) (r .set) (r .code) xs (take-octets (r .length) (drop (r .start) o) (drop-octets (r .start) o h)))
+    go false e = absurd (Option·none-ne-some u e)
 
 pub list-contents : (o : List ℕ) (rs : List UnitRecord) (us : List TextUnit) → Octets o → listReading o rs ≡ some us → Every Contents us
-unfolding listReading unitRead
+unfolding listReading
 list-contents o [] us h e = subst (Every Contents) (Option·some-injective [] us e) tt
-list-contents o (r ∷ rs) us h e = go (readable o r) (listReading o rs) refl e (λ vs q. list-contents o rs vs h q)
-  where
-    u : TextUnit
-    u = unitOf (r .kind) (r .set) (r .code) (take (r .length) (drop (r .start) o))
-
-    go : (b : Bool) (y : Option (List TextUnit)) → listReading o rs ≡ y → prepend (cond b (some u) none) y ≡ some us
-        → ((vs : List TextUnit) → listReading o rs ≡ some vs → Every Contents vs) → Every Contents us
-    go false y q e k = absurd (Option·none-ne-some us e)
-    go true none q e k = absurd (Option·none-ne-some us e)
-    go true (some vs) q e k =
-        subst (Every Contents) (Option·some-injective (u ∷ vs) us e) (
-          unit-contents (r .kind) (r .set) (r .code) (take (r .length) (drop (r .start) o)) (take-octets (r .length) (drop (r .start) o) (drop-octets (r .start) o h)),
-          k vs q,
-        )
+list-contents o (r ∷ rs) us h e =
+    let w = first-read o r rs us e in
+    subst (Every Contents) (w .whole) (read-contents o r (w .unit) h (w .first), list-contents o rs (w .rest) h (w .others))
 
 -- ---- the theorems
 
 -- the writing of a list with no offending record reads as the list
 pub list-grammatical : (o : List ℕ) (rs : List UnitRecord) (us : List TextUnit) → Octets o → checkRecords o rs 0 undirected ≡ fine → listReading o rs ≡ some us
-    → Grammatical (writing us (fresh .sets)) us
+    → Grammatical (shortestOf us) us
 list-grammatical o rs us h c e =
     let f = fine-units o rs 0 undirected c in
     let s : f .units ≡ us = Option·some-injective (f .units) us (sym (f .reading) ∙ e) in
@@ -164,7 +161,7 @@ list-grammatical o rs us h c e =
 
 -- and is accepted, where it is not over the limit
 pub list-written : (o : List ℕ) (rs : List UnitRecord) (us : List TextUnit) → Octets o → checkRecords o rs 0 undirected ≡ fine → listReading o rs ≡ some us
-    → cost us (fresh .sets) ≤ limit.octets → ReadAs (writing us (fresh .sets)) us
+    → shortestCount us ≤ limit.octets → ReadAs (shortestOf us) us
 list-written o rs us h c e l = within-limit (list-grammatical o rs us h c e) (omega (arith, writing-length us (fresh .sets)))
 
 abbrev pub SomeString : List ℕ → List UnitRecord → Type 0
@@ -173,7 +170,7 @@ SomeString o rs = (us : List TextUnit) × (t : List ℕ) × (listReading o rs �
 fine-read : (o : List ℕ) (rs : List UnitRecord) → Octets o → (checkRecords o rs 0 undirected ≡ fine) ↔ SomeString o rs
 fine-read o rs h = (
   λ c. let f = fine-units o rs 0 undirected c in
-      (f .units, writing (f .units) (fresh .sets), f .reading, list-grammatical o rs (f .units) h c (f .reading)),
+      (f .units, shortestOf (f .units), f .reading, list-grammatical o rs (f .units) h c (f .reading)),
   λ w. units-fine o rs (w .0) 0 undirected (w .2) (good-all (w .3 .reads)) (direction-rule (w .0) .1 (w .3 .rule)),
 )
 
@@ -185,7 +182,7 @@ no-offence-read o rs h = (λ n. fine-read o rs h .0 (no-offence o rs .1 n), λ w
 pub record ReadList (o : List ℕ) (rs : List UnitRecord) (us : List TextUnit) : Type 0 where
   pub short : length rs ≤ limit.units
   pub none : NoneOffends o rs
-  pub within : cost us (fresh .sets) ≤ limit.octets
+  pub within : shortestCount us ≤ limit.octets
 
 pub read-list : (o : List ℕ) (rs : List UnitRecord) (us : List TextUnit) (t : List ℕ) → listReading o rs ≡ some us → ReadAs t us → ReadList o rs us
 read-list o rs us t e r =

@@ -20,11 +20,12 @@ use Rattle.grammar.specs.Grammar.{Reads, done, designate, show, Lawful, Accepte
 use Rattle.grammar.specs.Reading.{ReadAs}
 use Rattle.grammar.proofs.Complete.{part-size, part-some}
 use Rattle.grammar.proofs.Agrees.{agrees, fresh-legal}
-use Rattle.shortest.specs.Writing.{cost, writing}
+use Rattle.shortest.specs.Writing.{shortestOf, shortestCount}
 use Rattle.shortest.specs.Demand.{writeAnswer, outputAfter, Least, Demand3}
 use Rattle.shortest.specs.Offence.{Grammatical}
 use Rattle.shortest.proofs.Costs.{writing-length}
-use Rattle.shortest.proofs.Bounds.{lower, upper, Every, Good}
+use Rattle.shortest.proofs.Bounds.{lower, Every, Good}
+use Rattle.shortest.proofs.Choice.{lazy-reads, writing-lazy}
 use Rattle.shortest.proofs.Written.{Contents, reads-contents, writing-octets}
 
 pub good-all : {s : Sets} {t : List ℕ} {us : List TextUnit} → Reads s t us → Good us
@@ -42,24 +43,24 @@ pub accepted : {t : List ℕ} {us : List TextUnit} → ReadAs t us → Accepted 
 accepted {t} {us} r = agrees t us (r .octets) .0 r
 
 -- the writing is of the grammar and reads as the units, its length aside
-pub writing-grammatical : (us : List TextUnit) → Good us → Every Contents us → Lawful us 0 0 0 → Grammatical (writing us (fresh .sets)) us
+pub writing-grammatical : (us : List TextUnit) → Good us → Every Contents us → Lawful us 0 0 0 → Grammatical (shortestOf us) us
 writing-grammatical us g c l =
-    record { octets = writing-octets us (fresh .sets) g c; reads = upper us (fresh .sets) fresh-legal g; rule = l }
+    record { octets = writing-octets us (fresh .sets) g c; reads = lazy-reads (writing-lazy us (fresh .sets) fresh-legal g); rule = l }
 
 -- within the limit it is accepted
 pub within-limit : {t : List ℕ} {us : List TextUnit} → Grammatical t us → length t ≤ limit.octets → ReadAs t us
 within-limit {t} {us} g h = agrees t us (g .octets) .1 (record { reads = g .reads; rule = g .rule; short = h })
 
 -- the writing is accepted and reads as the units
-pub writing-read : (us : List TextUnit) → Good us → Every Contents us → Lawful us 0 0 0 → cost us (fresh .sets) ≤ limit.octets
-    → ReadAs (writing us (fresh .sets)) us
+pub writing-read : (us : List TextUnit) → Good us → Every Contents us → Lawful us 0 0 0 → shortestCount us ≤ limit.octets
+    → ReadAs (shortestOf us) us
 writing-read us g c l h = within-limit (writing-grammatical us g c l) (omega (arith, writing-length us (fresh .sets)))
 
 -- every string of that reading, with designations anywhere, is at least as long: by the grammar, and by the reader
-pub no-shorter-accepted : {t : List ℕ} {us : List TextUnit} → Accepted t us → cost us (fresh .sets) ≤ length t
+pub no-shorter-accepted : {t : List ℕ} {us : List TextUnit} → Accepted t us → shortestCount us ≤ length t
 no-shorter-accepted a = lower fresh-legal (a .reads)
 
-pub no-shorter : {t : List ℕ} {us : List TextUnit} → ReadAs t us → cost us (fresh .sets) ≤ length t
+pub no-shorter : {t : List ℕ} {us : List TextUnit} → ReadAs t us → shortestCount us ≤ length t
 no-shorter r = no-shorter-accepted (accepted r)
 
 -- and has an octet for each unit
@@ -69,7 +70,7 @@ units-within r =
     omega (arith, units-short (a .reads), a .short)
 
 -- the writing of a reading is accepted and reads as it, and there is no shorter string
-pub shortest : (us : List TextUnit) (t₀ : List ℕ) → ReadAs t₀ us → Least us (cost us (fresh .sets)) (writing us (fresh .sets))
+pub shortest : (us : List TextUnit) (t₀ : List ℕ) → ReadAs t₀ us → Least us (shortestCount us) (shortestOf us)
 shortest us t₀ r =
     record {
       accepted =
@@ -87,10 +88,10 @@ unfolding writeAnswer outputAfter
 demand3 us t₀ out r = go (ltb limit.octets n) (ltb (length out) n) refl refl
   where
     n : ℕ
-    n = cost us (fresh .sets)
+    n = shortestCount us
 
     w : List ℕ
-    w = writing us (fresh .sets)
+    w = shortestOf us
 
     best : Least us n w
     best = shortest us t₀ r

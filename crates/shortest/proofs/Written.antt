@@ -2,25 +2,25 @@
 -- unit's octets and every designation's.
 use Prim.Native.Nat.{ℕ, zero, suc, _+_, _/_, _%_, _≤_, _<_}
 use native.Mathlib.Omega.{arith}
-use mathlib.Core.Path.{_≡_, refl, sym, subst}
-use mathlib.Core.Bool.{Bool, true, false, cond, _&&_}
+use mathlib.Core.Path.{_≡_, refl}
+use mathlib.Core.Bool.{Bool, true, false, _&&_}
 use mathlib.Core.List.{List, [], _∷_, _++_}
 use mathlib.Core.Option.{Option, none, some}
-use lib.Dec.{eqb, leb, ltb}
-use lib.ListN.{length, List·getD-eq-default}
-use borrow.Author.Tests.{ltb-true, ltb-false, leb-true}
+use lib.Dec.{eqb, ltb}
+use lib.ListN.{length}
+use borrow.Author.Tests.{ltb-true}
+use Rattle.base.proofs.Bools.{and-left, and-right}
 use Rattle.charset.specs.declared.Side.{Side}
 use Rattle.charset.specs.declared.Side.the-variants.{GL, GR}
-use Rattle.charset.specs.Charsets.{Row, no-set, form-96, form-94x94, row, rows, rowOf, formOf}
-use Rattle.state.specs.State.{Standing}
-use Rattle.text.specs.Text.{graphicOf}
+use Rattle.charset.specs.Charsets.{no-set, form-94x94, formOf}
+use Rattle.charset.proofs.Laws.{row-past, by-rows}
+use Rattle.state.specs.State.{Standing, on}
 use Rattle.state.specs.declared.Sets.{Sets}
-use Rattle.grammar.specs.Units.{TextUnit, char, space, tab, newline, ltr, rtl, revert, ext, wide, top, shown, octets, lead, designation, codeUsed, segment, mostOfSegment, good}
+use Rattle.grammar.specs.Units.{TextUnit, char, space, control, tab, newline, ltr, rtl, revert, ext}
+use Rattle.grammar.specs.Units.{wide, top, shown, octets, designation, codeUsed, good}
 use Rattle.grammar.specs.Grammar.{Reads, done, designate, show}
 use Rattle.grammar.specs.Reading.{Octets}
-use Rattle.grammar.proofs.Sound.{graphic-low}
-use Rattle.grammar.proofs.Complete.{and-left, and-right}
-use Rattle.shortest.proofs.Sets.{up-to}
+use Rattle.grammar.proofs.Good.{one-code, two-code, good-segment}
 use Rattle.shortest.specs.Writing.{need, cost, choose, after, designated, used, writing}
 use Rattle.shortest.proofs.Bounds.{Every, Good}
 
@@ -33,6 +33,18 @@ small : (xs : List ℕ) → Small xs → Octets xs
 small [] h i = omega arith
 small (x ∷ xs) h zero = h .0
 small (x ∷ xs) h (suc i) = small xs (h .1) i
+
+-- as antt computes
+abbrev below : List ℕ → Bool
+below [] = true
+below (x ∷ xs) = ltb x 256 && below xs
+
+computed : (xs : List ℕ) → below xs ≡ true → Octets xs
+computed xs e = small xs (go xs e)
+  where
+    go : (xs : List ℕ) → below xs ≡ true → Small xs
+    go [] e = tt
+    go (x ∷ xs) e = (ltb-true x 256 (and-left (ltb x 256) (below xs) e), go xs (and-right (ltb x 256) (below xs) e))
 
 join : (xs ys : List ℕ) → Octets xs → Octets ys → Octets (xs ++ ys)
 join [] ys a b i = b i
@@ -48,73 +60,45 @@ pub back : (xs ys : List ℕ) → Octets (xs ++ ys) → Octets ys
 back [] ys o i = o i
 back (x ∷ xs) ys o i = back xs ys (λ j. o (suc j)) i
 
--- the final octet of a set
-last-octet : (c : ℕ) → rowOf c .last < 256
-last-octet c = go (ltb c no-set) refl
-  where
-    go : (b : Bool) → ltb c no-set ≡ b → rowOf c .last < 256
-    go true e = ltb-true (rowOf c .last) 256 (up-to no-set (λ m. ltb (rowOf m .last) 256) refl c (ltb-true c no-set e))
-    go false e =
-        subst (λ (w : Row). w .last < 256) (sym (List·getD-eq-default rows (row 0 0 false false) (ltb-false c no-set e)))
-        (let z : 0 < 256 = omega arith in z)
-
-designation-octets : (p : Standing) → Octets (designation p)
-unfolding designation
-designation-octets p = go (p .side) (eqb (formOf (p .set)) form-94x94) (eqb (formOf (p .set)) form-96) refl refl
-  where
-    x : ℕ
-    x = rowOf (p .set) .last
-
-    l : x < 256
-    l = last-octet (p .set)
-
-    go : (d : Side) (a b : Bool) → eqb (formOf (p .set)) form-94x94 ≡ a → eqb (formOf (p .set)) form-96 ≡ b → Octets (lead (formOf (p .set)) d (x ∷ []))
-    go GL true b e f = rw e (small (0x1B ∷ 0x24 ∷ 0x28 ∷ x ∷ []) (omega arith, (omega arith, (omega arith, (l, tt)))))
-    go GL false b e f = rw e (small (0x1B ∷ 0x28 ∷ x ∷ []) (omega arith, (omega arith, (l, tt))))
-    go GR true b e f = rw e (small (0x1B ∷ 0x24 ∷ 0x29 ∷ x ∷ []) (omega arith, (omega arith, (omega arith, (l, tt)))))
-    go GR false true e f = rw (e, f) (small (0x1B ∷ 0x2D ∷ x ∷ []) (omega arith, (omega arith, (l, tt))))
-    go GR false false e f = rw (e, f) (small (0x1B ∷ 0x29 ∷ x ∷ []) (omega arith, (omega arith, (l, tt))))
+designation-octets : (d : Side) (c : ℕ) → Octets (designation (on d c))
+unfolding designation formOf
+designation-octets GL c = computed (designation (on GL c)) (by-rows (λ n. below (designation (on GL n))) refl (λ n h. rw (row-past n h)) c)
+designation-octets GR c = computed (designation (on GR c)) (by-rows (λ n. below (designation (on GR n))) refl (λ n h. rw (row-past n h)) c)
 
 topped : (d : Side) (k : ℕ) → k ≤ 0x7F → top d + k < 256
 topped GL k h = omega arith
 topped GR k h = omega arith
 
 char-octets : (d : Side) (c k : ℕ) → codeUsed (formOf c) k ≡ true → Octets (octets d (char c k))
-unfolding octets wide codeUsed
-char-octets d c k u = go (eqb (formOf c) form-94x94) (eqb (formOf c) form-96) u
+unfolding octets wide
+char-octets d c k u = go (eqb (formOf c) form-94x94) refl
   where
-    go : (x y : Bool) → cond x (graphicOf (k / 256) && graphicOf (k % 256)) (cond y (leb 0x20 k && leb k 0x7F) (graphicOf k)) ≡ true → Octets (shown x (top d) k)
-    go true y e =
-        let a = graphic-low (k / 256) (and-left (graphicOf (k / 256)) (graphicOf (k % 256)) e) in
-        let b = graphic-low (k % 256) (and-right (graphicOf (k / 256)) (graphicOf (k % 256)) e) in
-        small ((top d + k / 256) ∷ (top d + k % 256) ∷ []) (topped d (k / 256) (omega arith), (topped d (k % 256) (omega arith), tt))
-    go false true e = small ((top d + k) ∷ []) (topped d k (leb-true k 0x7F (and-right (leb 0x20 k) (leb k 0x7F) e)), tt)
-    go false false e = let a = graphic-low k e in small ((top d + k) ∷ []) (topped d k (omega arith), tt)
+    go : (x : Bool) → eqb (formOf c) form-94x94 ≡ x → Octets (shown x (top d) k)
+    go true e =
+        let b = two-code (formOf c) k e u in
+        small ((top d + k / 256) ∷ (top d + k % 256) ∷ []) (topped d (k / 256) (b .0), (topped d (k % 256) (b .1), tt))
+    go false e = small ((top d + k) ∷ []) (topped d k (one-code (formOf c) k e u), tt)
 
 -- the octets of an extended segment are octets
 abbrev pub Contents : TextUnit → Type 0
 Contents (char c k) = Unit {0}
 Contents space = Unit {0}
-Contents tab = Unit {0}
-Contents newline = Unit {0}
-Contents ltr = Unit {0}
-Contents rtl = Unit {0}
-Contents revert = Unit {0}
+Contents (control x) = Unit {0}
 Contents (ext e xs) = Octets xs
 
 unit-octets : (u : TextUnit) (d : Side) → good u ≡ true → Contents u → Octets (octets d u)
 unfolding octets good
 unit-octets (char c k) d g o = char-octets d c k (and-right (ltb c no-set) (codeUsed (formOf c) k) g)
-unit-octets space d g o = small (0x20 ∷ []) (omega arith, tt)
-unit-octets tab d g o = small (0x09 ∷ []) (omega arith, tt)
-unit-octets newline d g o = small (0x0A ∷ []) (omega arith, tt)
-unit-octets ltr d g o = small (0x9B ∷ 0x31 ∷ 0x5D ∷ []) (omega arith, (omega arith, (omega arith, tt)))
-unit-octets rtl d g o = small (0x9B ∷ 0x32 ∷ 0x5D ∷ []) (omega arith, (omega arith, (omega arith, tt)))
-unit-octets revert d g o = small (0x9B ∷ 0x5D ∷ []) (omega arith, (omega arith, tt))
+unit-octets space d g o = computed (0x20 ∷ []) refl
+unit-octets (control tab) d g o = computed (0x09 ∷ []) refl
+unit-octets (control newline) d g o = computed (0x0A ∷ []) refl
+unit-octets (control ltr) d g o = computed (0x9B ∷ 0x31 ∷ 0x5D ∷ []) refl
+unit-octets (control rtl) d g o = computed (0x9B ∷ 0x32 ∷ 0x5D ∷ []) refl
+unit-octets (control revert) d g o = computed (0x9B ∷ 0x5D ∷ []) refl
 unit-octets (ext e xs) d g o =
-    let h = and-left (leb 0x30 e && leb e 0x34 && leb (length xs) mostOfSegment) (segment e 0 xs) g in
-    let a = leb-true e 0x34 (and-right (leb 0x30 e) (leb e 0x34) (and-left (leb 0x30 e && leb e 0x34) (leb (length xs) mostOfSegment) h)) in
-    let b = leb-true (length xs) mostOfSegment (and-right (leb 0x30 e && leb e 0x34) (leb (length xs) mostOfSegment) h) in
+    let h = good-segment e xs g in
+    let a = h .high in
+    let b = h .few in
     join (0x1B ∷ 0x25 ∷ 0x2F ∷ e ∷ (128 + length xs / 128) ∷ (128 + length xs % 128) ∷ []) xs
     (small (0x1B ∷ 0x25 ∷ 0x2F ∷ e ∷ (128 + length xs / 128) ∷ (128 + length xs % 128) ∷ [])
     (omega arith, (omega arith, (omega arith, (omega arith, (omega arith, (omega arith, tt)))))))
@@ -125,11 +109,7 @@ unit-contents : (u : TextUnit) (d : Side) → Octets (octets d u) → Contents u
 unfolding octets
 unit-contents (char c k) d o = tt
 unit-contents space d o = tt
-unit-contents tab d o = tt
-unit-contents newline d o = tt
-unit-contents ltr d o = tt
-unit-contents rtl d o = tt
-unit-contents revert d o = tt
+unit-contents (control x) d o = tt
 unit-contents (ext e xs) d o = λ i. o (suc (suc (suc (suc (suc (suc i))))))
 
 pub reads-contents : {s : Sets} {t : List ℕ} {us : List TextUnit} → Reads s t us → Octets t → Every Contents us
@@ -139,7 +119,7 @@ reads-contents (show {t = t} u d g h r) o = (unit-contents u d (front (octets d 
 
 designated-octets : (o : Option Standing) → Octets (designated o)
 designated-octets none i = omega arith
-designated-octets (some p) i = designation-octets p i
+designated-octets (some p) i = designation-octets (p .side) (p .set) i
 
 pub writing-octets : (us : List TextUnit) (s : Sets) → Good us → Every Contents us → Octets (writing us s)
 unfolding writing

@@ -6,13 +6,12 @@ use lib.ListN.{length}
 use Rattle.base.specs.Answers.{answer, refusedAt}
 use Rattle.base.specs.Refusal as refusal
 use Rattle.base.specs.declared.Answer.{Answer}
-use Rattle.state.specs.State.{fresh}
-use Rattle.grammar.specs.Units.{TextUnit, char, space, tab, ltr, ext}
+use Rattle.grammar.specs.Units.{TextUnit, char, space, control, tab, ltr, ext}
 use Rattle.grammar.specs.Reading.{checkOf, readingOf}
-use Rattle.shortest.specs.Writing.{writing}
+use Rattle.shortest.specs.Writing.{shortestOf}
 
 -- a string, the units that it reads as, and what they are written as
-pub record Row : Type 0 where
+pub record Example : Type 0 where
   pub string : List ℕ
   pub units : List TextUnit
   pub written : List ℕ
@@ -27,50 +26,50 @@ A = char 0 0x41
 abbrev E9 : TextUnit
 E9 = char 3 0x69
 
-abbrev row : List ℕ → List TextUnit → List ℕ → Row
-row s us w = record { string = s; units = us; written = w }
+abbrev example : List ℕ → List TextUnit → List ℕ → Example
+example s us w = record { string = s; units = us; written = w }
 
 -- a string that is its own shortest form
-abbrev own : List ℕ → List TextUnit → Row
-own s us = row s us s
+abbrev itself : List ℕ → List TextUnit → Example
+itself s us = example s us s
 
-abbrev pub table : List Row
+abbrev pub table : List Example
 table =
-    own [] []
-    ∷ own (0x48 ∷ 0x09 ∷ 0xE9 ∷ []) (char 0 0x48 ∷ tab ∷ E9 ∷ [])
-    ∷ row (0x1B ∷ 0x28 ∷ 0x42 ∷ 0x41 ∷ []) (A ∷ []) (0x41 ∷ [])
-    ∷ own (0x1B ∷ 0x24 ∷ 0x28 ∷ 0x42 ∷ 0x30 ∷ 0x21 ∷ []) (X ∷ [])
-    ∷ row (0x1B ∷ 0x24 ∷ 0x28 ∷ 0x42 ∷ 0x30 ∷ 0x21 ∷ 0x1B ∷ 0x28 ∷ 0x42 ∷ 0x41 ∷ []) (X ∷ A ∷ [])
+    itself [] []
+    ∷ itself (0x48 ∷ 0x09 ∷ 0xE9 ∷ []) (char 0 0x48 ∷ control tab ∷ E9 ∷ [])
+    ∷ example (0x1B ∷ 0x28 ∷ 0x42 ∷ 0x41 ∷ []) (A ∷ []) (0x41 ∷ [])
+    ∷ itself (0x1B ∷ 0x24 ∷ 0x28 ∷ 0x42 ∷ 0x30 ∷ 0x21 ∷ []) (X ∷ [])
+    ∷ example (0x1B ∷ 0x24 ∷ 0x28 ∷ 0x42 ∷ 0x30 ∷ 0x21 ∷ 0x1B ∷ 0x28 ∷ 0x42 ∷ 0x41 ∷ []) (X ∷ A ∷ [])
     (0x1B ∷ 0x24 ∷ 0x29 ∷ 0x42 ∷ 0xB0 ∷ 0xA1 ∷ 0x41 ∷ [])
-    ∷ own (0x41 ∷ 0x1B ∷ 0x24 ∷ 0x28 ∷ 0x42 ∷ 0x30 ∷ 0x21 ∷ 0xE9 ∷ 0x1B ∷ 0x28 ∷ 0x42 ∷ 0x41 ∷ []) (A ∷ X ∷ E9 ∷ A ∷ [])
-    ∷ own (0x1B ∷ 0x24 ∷ 0x28 ∷ 0x42 ∷ 0x30 ∷ 0x21 ∷ 0xE9 ∷ 0x30 ∷ 0x21 ∷ 0x1B ∷ 0x28 ∷ 0x4A ∷ 0x20 ∷ 0x5C ∷ []) (X ∷ E9 ∷ X ∷ space ∷ char 2 0x5C ∷ [])
-    ∷ own (0x9B ∷ 0x31 ∷ 0x5D ∷ 0x41 ∷ []) (ltr ∷ A ∷ [])
-    ∷ own (0x1B ∷ 0x25 ∷ 0x2F ∷ 0x31 ∷ 0x80 ∷ 0x84 ∷ 0x61 ∷ 0x62 ∷ 0x02 ∷ 0xFF ∷ []) (ext 0x31 (0x61 ∷ 0x62 ∷ 0x02 ∷ 0xFF ∷ []) ∷ [])
+    ∷ itself (0x41 ∷ 0x1B ∷ 0x24 ∷ 0x28 ∷ 0x42 ∷ 0x30 ∷ 0x21 ∷ 0xE9 ∷ 0x1B ∷ 0x28 ∷ 0x42 ∷ 0x41 ∷ []) (A ∷ X ∷ E9 ∷ A ∷ [])
+    ∷ itself (0x1B ∷ 0x24 ∷ 0x28 ∷ 0x42 ∷ 0x30 ∷ 0x21 ∷ 0xE9 ∷ 0x30 ∷ 0x21 ∷ 0x1B ∷ 0x28 ∷ 0x4A ∷ 0x20 ∷ 0x5C ∷ []) (X ∷ E9 ∷ X ∷ space ∷ char 2 0x5C ∷ [])
+    ∷ itself (0x9B ∷ 0x31 ∷ 0x5D ∷ 0x41 ∷ []) (control ltr ∷ A ∷ [])
+    ∷ itself (0x1B ∷ 0x25 ∷ 0x2F ∷ 0x31 ∷ 0x80 ∷ 0x84 ∷ 0x61 ∷ 0x62 ∷ 0x02 ∷ 0xFF ∷ []) (ext 0x31 (0x61 ∷ 0x62 ∷ 0x02 ∷ 0xFF ∷ []) ∷ [])
     ∷ []
 
 -- a string and the number and place of its refusal
-pub record Refusal : Type 0 where
+pub record RefusedString : Type 0 where
   pub string : List ℕ
   pub number : ℕ
   pub place : ℕ
 
-abbrev refused : List ℕ → ℕ → ℕ → Refusal
-refused s n p = record { string = s; number = n; place = p }
+abbrev refusedString : List ℕ → ℕ → ℕ → RefusedString
+refusedString s n p = record { string = s; number = n; place = p }
 
-abbrev pub refusals : List Refusal
+abbrev pub refusals : List RefusedString
 refusals =
-    refused (0x41 ∷ 0x9B ∷ 0x31 ∷ 0x5D ∷ []) refusal.direction 1
-    ∷ refused (0x9B ∷ 0x31 ∷ 0x5D ∷ 0x9B ∷ 0x5D ∷ 0x41 ∷ []) refusal.direction 5
-    ∷ refused (0x1B ∷ 0x25 ∷ 0x2F ∷ 0x32 ∷ 0x80 ∷ 0x84 ∷ 0x61 ∷ 0x62 ∷ 0x02 ∷ 0xFF ∷ []) refusal.bad-segment 0
-    ∷ refused (0x1B ∷ 0x24 ∷ 0x42 ∷ []) refusal.unknown 0
-    ∷ refused (0x1B ∷ 0x28 ∷ []) refusal.cut 0
-    ∷ refused (0x1B ∷ 0x29 ∷ 0x42 ∷ []) refusal.not-approved 0
-    ∷ refused (0x1B ∷ 0x28 ∷ 0x21 ∷ 0x42 ∷ []) refusal.not-approved 0
-    ∷ refused (0x1B ∷ 0x24 ∷ 0x28 ∷ 0x42 ∷ 0x20 ∷ []) refusal.unused 4
-    ∷ refused (0x1B ∷ 0x24 ∷ 0x28 ∷ 0x42 ∷ 0x30 ∷ []) refusal.cut 4
+    refusedString (0x41 ∷ 0x9B ∷ 0x31 ∷ 0x5D ∷ []) refusal.direction 1
+    ∷ refusedString (0x9B ∷ 0x31 ∷ 0x5D ∷ 0x9B ∷ 0x5D ∷ 0x41 ∷ []) refusal.direction 5
+    ∷ refusedString (0x1B ∷ 0x25 ∷ 0x2F ∷ 0x32 ∷ 0x80 ∷ 0x84 ∷ 0x61 ∷ 0x62 ∷ 0x02 ∷ 0xFF ∷ []) refusal.bad-segment 0
+    ∷ refusedString (0x1B ∷ 0x24 ∷ 0x42 ∷ []) refusal.unknown 0
+    ∷ refusedString (0x1B ∷ 0x28 ∷ []) refusal.cut 0
+    ∷ refusedString (0x1B ∷ 0x29 ∷ 0x42 ∷ []) refusal.not-approved 0
+    ∷ refusedString (0x1B ∷ 0x28 ∷ 0x21 ∷ 0x42 ∷ []) refusal.not-approved 0
+    ∷ refusedString (0x1B ∷ 0x24 ∷ 0x28 ∷ 0x42 ∷ 0x20 ∷ []) refusal.unused 4
+    ∷ refusedString (0x1B ∷ 0x24 ∷ 0x28 ∷ 0x42 ∷ 0x30 ∷ []) refusal.cut 4
     ∷ []
 
--- what the definitions say of a row: the string's answer, its reading, and its units' writing
+-- what the definitions say of an example: the string's answer, its reading, and its units' writing
 pub record Said : Type 0 where
   pub said : Answer
   pub reading : List TextUnit
@@ -79,21 +78,21 @@ pub record Said : Type 0 where
 abbrev saying : Answer → List TextUnit → List ℕ → Said
 saying a us w = record { said = a; reading = us; writes = w }
 
-abbrev pub defined : List Row → List Said
+abbrev pub defined : List Example → List Said
 defined [] = []
-defined (r ∷ rs) = saying (checkOf (r .string)) (readingOf (r .string)) (writing (r .units) (fresh .sets)) ∷ defined rs
+defined (r ∷ rs) = saying (checkOf (r .string)) (readingOf (r .string)) (shortestOf (r .units)) ∷ defined rs
 
 -- what document 01 says of it
-abbrev pub expected : List Row → List Said
+abbrev pub expected : List Example → List Said
 expected [] = []
 expected (r ∷ rs) =
     saying (answer refusal.accepted (length (r .string)) (length (r .units))) (r .units) (r .written) ∷ expected rs
 
 -- the same of a refused string
-abbrev pub answersDefined : List Refusal → List Answer
+abbrev pub answersDefined : List RefusedString → List Answer
 answersDefined [] = []
 answersDefined (r ∷ rs) = checkOf (r .string) ∷ answersDefined rs
 
-abbrev pub answersExpected : List Refusal → List Answer
+abbrev pub answersExpected : List RefusedString → List Answer
 answersExpected [] = []
 answersExpected (r ∷ rs) = refusedAt (r .number) (r .place) ∷ answersExpected rs

@@ -12,7 +12,7 @@ use Rattle.charset.specs.declared.Side.the-variants.{GL, GR}
 use Rattle.charset.specs.Charsets.{allowed}
 use Rattle.state.specs.State.{Standing, get}
 use Rattle.state.specs.declared.Sets.{Sets}
-use Rattle.grammar.specs.Units.{TextUnit, char, space, tab, newline, ltr, rtl, revert, ext, octets, good}
+use Rattle.grammar.specs.Units.{TextUnit, char, space, control, ext, octets, good}
 use Rattle.grammar.specs.Grammar.{Shows}
 use Rattle.shortest.specs.Writing.{stands, after, designated}
 
@@ -20,11 +20,7 @@ use Rattle.shortest.specs.Writing.{stands, after, designated}
 abbrev pub Serves : TextUnit → Standing → Type 0
 Serves (char c k) p = (p .set ≡ c) × (allowed (p .side) (p .set) ≡ true)
 Serves space p = (p .side ≡ GL) × ((p .set ≡ 0) ⊎ (p .set ≡ 2))
-Serves tab p = ⊥
-Serves newline p = ⊥
-Serves ltr p = ⊥
-Serves rtl p = ⊥
-Serves revert p = ⊥
+Serves (control x) p = ⊥
 Serves (ext e xs) p = ⊥
 
 -- what may stand directly before a unit: "A designation stands only directly before a character or space whose set stands on no side it
@@ -37,11 +33,7 @@ MayPrecede u s (some p) = Serves u p × ((q : Standing) → Serves u q → stand
 abbrev pub LeftFirst : TextUnit → Side → Sets → Type 0
 LeftFirst (char c k) d s = get GL s ≡ c → d ≡ GL
 LeftFirst space d s = Unit {0}
-LeftFirst tab d s = Unit {0}
-LeftFirst newline d s = Unit {0}
-LeftFirst ltr d s = Unit {0}
-LeftFirst rtl d s = Unit {0}
-LeftFirst revert d s = Unit {0}
+LeftFirst (control x) d s = Unit {0}
 LeftFirst (ext e xs) d s = Unit {0}
 
 -- such a string of units from sets in force, with what it designates before each unit
@@ -55,11 +47,7 @@ pub data Lazy : Sets → List TextUnit → List (Option Standing) → List ℕ �
 abbrev pub Preferred : TextUnit → Standing → Standing → Type 0
 Preferred (char c k) a b = (a .side ≡ GL) × (b .side ≡ GR)
 Preferred space a b = (a .set ≡ 0) × (b .set ≡ 2)
-Preferred tab a b = ⊥
-Preferred newline a b = ⊥
-Preferred ltr a b = ⊥
-Preferred rtl a b = ⊥
-Preferred revert a b = ⊥
+Preferred (control x) a b = ⊥
 Preferred (ext e xs) a b = ⊥
 
 -- "at the first difference": what the first designates there is preferred to what the second does

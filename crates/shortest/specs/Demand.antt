@@ -10,15 +10,14 @@ use Rattle.base.specs.Answers.{answer, refusedAt}
 use Rattle.base.specs.Limit as limit
 use Rattle.base.specs.Refusal as refusal
 use Rattle.base.specs.declared.Answer.{Answer}
-use Rattle.state.specs.State.{fresh}
 use Rattle.grammar.specs.Units.{TextUnit}
 use Rattle.grammar.specs.Reading.{ReadAs}
-use Rattle.shortest.specs.Writing.{cost, writing}
+use Rattle.shortest.specs.Writing.{shortestOf, shortestCount}
 
 -- the writer's answer for an output of m octets: "1 for the writing, 10"; "A refusal has count 0, but 10 has the count needed."
 unfoldable pub writeAnswer : List TextUnit → ℕ → Answer
 writeAnswer us m =
-    let n = cost us (fresh .sets) in
+    let n = shortestCount us in
     cond (ltb limit.octets n) (refusedAt refusal.too-long 0)
     (cond (ltb m n) (answer refusal.no-room 0 n) (answer refusal.accepted (length us) n))
 
@@ -26,7 +25,7 @@ writeAnswer us m =
 unfoldable pub outputAfter : List TextUnit → List ℕ → List ℕ
 outputAfter us out =
     cond (eqb (writeAnswer us (length out) .number) refusal.accepted)
-    (writing us (fresh .sets) ++ drop (cost us (fresh .sets)) out)
+    (shortestOf us ++ drop (shortestCount us) out)
     out
 
 -- a string that reads as the units, of n octets, and none is shorter

@@ -8,9 +8,8 @@ use lib.ListN.{length}
 use Rattle.base.specs.Limit as limit
 use Rattle.base.specs.Refusal as refusal
 use Rattle.base.specs.declared.Unit.{Unit as UnitRecord}
-use Rattle.state.specs.State.{fresh}
 use Rattle.grammar.specs.Units.{TextUnit}
-use Rattle.shortest.specs.Writing.{cost}
+use Rattle.shortest.specs.Writing.{shortestCount}
 use Rattle.grammar.specs.Records.{listReading}
 use Rattle.shortest.specs.Records.{workRoom}
 use Rattle.shortest.specs.Offence.{FirstOffends, NoneOffends}
@@ -27,8 +26,8 @@ pub data Outcome (rs : List UnitRecord) (o : List ℕ) (work m : ℕ) : ℕ → 
   long-list : limit.units < length rs → Outcome rs o work m refusal.too-long 0 0
   offending : {n i : ℕ} → length rs ≤ limit.units → FirstOffends o rs n i → Outcome rs o work m n i 0
   short-work : length rs ≤ limit.units → NoneOffends o rs → work < workRoom (length rs) → Outcome rs o work m refusal.no-work-room 0 0
-  long-writing : (us : List TextUnit) → Served rs o work us → limit.octets < cost us (fresh .sets) → Outcome rs o work m refusal.too-long 0 0
-  short-output : (us : List TextUnit) → Served rs o work us → cost us (fresh .sets) ≤ limit.octets → m < cost us (fresh .sets)
-      → Outcome rs o work m refusal.no-room 0 (cost us (fresh .sets))
-  written : (us : List TextUnit) → Served rs o work us → cost us (fresh .sets) ≤ limit.octets → cost us (fresh .sets) ≤ m
-      → Outcome rs o work m refusal.accepted (length rs) (cost us (fresh .sets))
+  long-writing : (us : List TextUnit) → Served rs o work us → limit.octets < shortestCount us → Outcome rs o work m refusal.too-long 0 0
+  short-output : (us : List TextUnit) → Served rs o work us → shortestCount us ≤ limit.octets → m < shortestCount us
+      → Outcome rs o work m refusal.no-room 0 (shortestCount us)
+  written : (us : List TextUnit) → Served rs o work us → shortestCount us ≤ limit.octets → shortestCount us ≤ m
+      → Outcome rs o work m refusal.accepted (length rs) (shortestCount us)

@@ -1,12 +1,11 @@
 -- The writer over unit records: their reading, the refusals in their order, the answer and the output.
 use Prim.Native.Nat.{ℕ, suc, _+_, _*_}
-use mathlib.Core.Bool.{Bool, cond, _&&_}
+use mathlib.Core.Bool.{cond, _&&_}
 use mathlib.Core.List.{List, [], _∷_}
 use mathlib.Core.Option.{Option, none, some}
-use lib.ListN.{length, take, drop}
+use lib.ListN.{length}
 use lib.Dec.{eqb, leb, ltb}
 use Rattle.base.specs.Answers.{refusedAt}
-use Rattle.base.specs.Kind as kind
 use Rattle.base.specs.Limit as limit
 use Rattle.base.specs.Refusal as refusal
 use Rattle.base.specs.declared.Answer.{Answer}
@@ -15,9 +14,9 @@ use Rattle.state.specs.Directions.{undirected}
 use Rattle.state.specs.declared.directions.Directions.{Directions}
 use Rattle.state.specs.declared.directions.Step.{Step}
 use Rattle.state.specs.declared.directions.Step.the-variants.{Goes, Stops}
-use Rattle.grammar.specs.Units.{TextUnit, char, space, tab, newline, ltr, rtl, revert, ext, unitOf, good}
+use Rattle.grammar.specs.Units.{TextUnit, char, space, control, ext, good}
 use Rattle.grammar.specs.Reading.{direct}
-use Rattle.grammar.specs.Records.{readable, unitRead, prepend, listReading}
+use Rattle.grammar.specs.Records.{unitRead, listReading}
 use Rattle.shortest.specs.Demand.{writeAnswer, outputAfter}
 
 -- the refusal of a unit by itself: 11 for "kind, set, code not used in its set, d outside 30-34, or a part outside its octets", 7 for a
@@ -25,11 +24,7 @@ use Rattle.shortest.specs.Demand.{writeAnswer, outputAfter}
 abbrev pub own : TextUnit → ℕ
 own (char c k) = refusal.bad-unit
 own space = refusal.bad-unit
-own tab = refusal.bad-unit
-own newline = refusal.bad-unit
-own ltr = refusal.bad-unit
-own rtl = refusal.bad-unit
-own revert = refusal.bad-unit
+own (control x) = refusal.bad-unit
 own (ext e xs) = cond (leb 0x30 e && leb e 0x34) refusal.bad-segment refusal.bad-unit
 
 -- "the first offending unit (11, 7, 8, 9)": its own refusal before the direction rule's
@@ -38,20 +33,20 @@ fault none d = Stops refusal.bad-unit
 fault (some u) d = cond (good u) (direct d u) (Stops (own u))
 
 -- the first offending record: its number and index
-pub data Checked : Type 0 where
-  fine : Checked
-  faulty : ℕ → ℕ → Checked
+pub data Finding : Type 0 where
+  fine : Finding
+  faulty : ℕ → ℕ → Finding
 
-abbrev pub onStep : Step → ℕ → (Directions → Checked) → Checked
+abbrev pub onStep : Step → ℕ → (Directions → Finding) → Finding
 onStep (Goes d) i f = f d
 onStep (Stops n) i f = faulty n i
 
 -- of records that are counted from i
-unfoldable pub checkRecords : List ℕ → List UnitRecord → ℕ → Directions → Checked
+unfoldable pub checkRecords : List ℕ → List UnitRecord → ℕ → Directions → Finding
 checkRecords o [] i d = fine
 checkRecords o (r ∷ rs) i d = onStep (fault (unitRead o r) d) i (λ next. checkRecords o rs (suc i) next)
 
-abbrev pub afterCheck : Checked → Answer → Answer
+abbrev pub afterCheck : Finding → Answer → Answer
 afterCheck fine a = a
 afterCheck (faulty n i) a = refusedAt n i
 

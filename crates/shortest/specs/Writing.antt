@@ -8,9 +8,9 @@ use lib.ListN.{length}
 use Rattle.charset.specs.declared.Side.{Side}
 use Rattle.charset.specs.declared.Side.the-variants.{GL, GR}
 use Rattle.charset.specs.Charsets.{allowed}
-use Rattle.state.specs.State.{Standing, on, get, put}
+use Rattle.state.specs.State.{Standing, on, get, put, fresh}
 use Rattle.state.specs.declared.Sets.{Sets}
-use Rattle.grammar.specs.Units.{TextUnit, char, space, tab, newline, ltr, rtl, revert, ext, octets, designation}
+use Rattle.grammar.specs.Units.{TextUnit, char, space, control, ext, octets, designation}
 
 -- a set stands on a side already
 unfoldable pub stands : Standing → Sets → Bool
@@ -40,17 +40,17 @@ placesOf false r c = either (on GR c) (on GR c)
 unfoldable pub need : TextUnit → Need
 need (char c k) = placesOf (allowed GL c) (allowed GR c) c
 need space = either (on GL 0) (on GL 2)
-need tab = free
-need newline = free
-need ltr = free
-need rtl = free
-need revert = free
+need (control x) = free
 need (ext e xs) = free
 
--- the least cost of a need and what follows it, where f is the least cost of what follows: no designation where the need is met
+-- what a designation costs, and what follows it, where f is the least cost of what follows
+abbrev pub via : Standing → (Sets → ℕ) → Sets → ℕ
+via p f s = price p + f (put p s)
+
+-- the least cost of a need and what follows it: no designation where the need is met
 unfoldable pub least : Need → (Sets → ℕ) → Sets → ℕ
 least free f s = f s
-least (either a b) f s = cond (met (either a b) s) (f s) (min (price a + f (put a s)) (price b + f (put b s)))
+least (either a b) f s = cond (met (either a b) s) (f s) (min (via a f s) (via b f s))
 
 -- the octets of a unit, the same on either side
 unfoldable pub size : TextUnit → ℕ
@@ -64,8 +64,7 @@ cost (u ∷ us) s = size u + least (need u) (cost us) s
 -- what to designate for a need: nothing where it is met, and the preferred one where it costs no more
 unfoldable pub choose : Need → (Sets → ℕ) → Sets → Option Standing
 choose free f s = none
-choose (either a b) f s =
-    cond (met (either a b) s) none (cond (leb (price a + f (put a s)) (price b + f (put b s))) (some a) (some b))
+choose (either a b) f s = cond (met (either a b) s) none (cond (leb (via a f s) (via b f s)) (some a) (some b))
 
 -- the sets in force after it
 abbrev pub after : Option Standing → Sets → Sets
@@ -88,3 +87,10 @@ writing [] s = []
 writing (u ∷ us) s =
     let o = choose (need u) (cost us) s in
     designated o ++ (octets (used (need u) (after o s)) u ++ writing us (after o s))
+
+-- from the fresh state: the shortest writing of units, and its octets
+abbrev pub shortestOf : List TextUnit → List ℕ
+shortestOf us = writing us (fresh .sets)
+
+abbrev pub shortestCount : List TextUnit → ℕ
+shortestCount us = cost us (fresh .sets)

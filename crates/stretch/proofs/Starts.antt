@@ -1,17 +1,18 @@
 -- What starts where a test of the stretches passes: an element of one octet, or of two, that gives a unit and leaves the state. Of text this
 -- holds in a state that text leaves as it is, and of a tab or newline in any.
-use Prim.Native.Nat.{ℕ, suc, _+_, _*_, _/_, _%_, _<_, _≤_}
+use Prim.Native.Nat.{ℕ, _+_, _*_, _/_, _%_, _<_, _≤_}
 use native.Mathlib.Omega.{arith}
 use native.Mathlib.Nat.{eq-or-lt-of-le, mod-eq-of-lt}
 use mathlib.Core.Path.{_≡_, refl, ap, sym, _∙_}
-use mathlib.Core.Bool.{Bool, true, false, not, false≢true}
+use mathlib.Core.Bool.{Bool, true, false, false≢true}
 use mathlib.Core.List.{List, [], _∷_}
 use mathlib.Core.Logic.{_⊎_, inl, inr, ⊎-elim}
-use lib.Dec.{eqb, leb, ltb}
+use lib.Dec.{eqb, ltb}
 use borrow.Author.Tests.{eqb-true, eqb-false, ltb-true, ltb-false, leb-true, le-leb}
 use Rattle.base.specs.Choice.{pick}
 use Rattle.base.specs.Kind as kind
 use Rattle.base.proofs.Ladder.{on-true, on-false, on-eq, on-ne, on-lt, on-ge}
+use Rattle.base.proofs.Bools.{pick-both, pick-last}
 use Rattle.charset.specs.Charsets.{form-94, form-96, form-94x94, formOf}
 use Rattle.element.specs.Element.{shapeOf, steppedOf, directedOf, elementOf}
 use Rattle.grammar.specs.Reading.{size}
@@ -19,8 +20,7 @@ use Rattle.state.specs.Directions.{directions, writtenOf, stepOf}
 use Rattle.state.specs.Elements.{part, unit, next}
 use Rattle.state.specs.declared.State.{State}
 use Rattle.state.specs.declared.directions.Directions.{Directions}
-use Rattle.state.specs.declared.directions.Step.{Step}
-use Rattle.state.specs.declared.directions.Step.the-variants.{Goes, Stops}
+use Rattle.state.specs.declared.directions.Step.the-variants.{Goes}
 use Rattle.state.specs.declared.elements.Part.{Part}
 use Rattle.state.specs.declared.elements.Element.{Element}
 use Rattle.state.specs.declared.elements.Shape.{Shape}
@@ -37,32 +37,22 @@ unfolding pick
 which true x y e = inl (refl, e)
 which false x y e = inr (refl, e)
 
-both : (a x : Bool) → pick a x false ≡ true → (a ≡ true) × (x ≡ true)
-unfolding pick
-both true x e = (refl, e)
-both false x e = absurd (false≢true e)
-
-last : (a y : Bool) → pick a false y ≡ true → (a ≡ false) × (y ≡ true)
-unfolding pick
-last true y e = absurd (false≢true e)
-last false y e = (refl, e)
-
 gl-octet : (b : ℕ) → glOctet b ≡ true → (0x20 ≤ b) × (b < 0x7F)
 unfolding glOctet
 gl-octet b e =
-    let h = last (ltb b 0x20) _ e in
+    let h = pick-last (ltb b 0x20) _ e in
     (ltb-false b 0x20 (h .0), ltb-true b 0x7F (h .1))
 
 graphic : (c : ℕ) → graphicOf c ≡ true → (0x21 ≤ c) × (c ≤ 0x7E)
 unfolding graphicOf
 graphic c e =
-    let h = last (ltb c 0x21) _ e in
+    let h = pick-last (ltb c 0x21) _ e in
     (ltb-false c 0x21 (h .0), leb-true c 0x7E (h .1))
 
 graphic-on : (side b : ℕ) → graphicOn side b ≡ true → (b / 128 ≡ side) × (graphicOf (b % 128) ≡ true)
 unfolding graphicOn
 graphic-on side b e =
-    let h = both (eqb (b / 128) side) _ e in
+    let h = pick-both (eqb (b / 128) side) _ e in
     (eqb-true _ _ (h .0), h .1)
 
 -- ---- a step that leaves the directions
@@ -70,13 +60,13 @@ graphic-on side b e =
 module _ (d : Directions) (settled : settledOf d ≡ true) where
   texted : d .texted ≡ true
   unfolding settledOf
-  texted = both (d .texted) _ settled .0
+  texted = pick-both (d .texted) _ settled .0
 
   open-or-unmarked : (d .marked ≡ false) ⊎ ((d .marked ≡ true) × (eqb (d .depth) 0 ≡ false))
   unfolding settledOf
   open-or-unmarked =
-      ⊎-elim (λ h. inr (h .0, last (eqb (d .depth) 0) true (h .1) .0)) (λ h. inl (h .0))
-      (which (d .marked) _ _ (both (d .texted) _ settled .1))
+      ⊎-elim (λ h. inr (h .0, pick-last (eqb (d .depth) 0) true (h .1) .0)) (λ h. inl (h .0))
+      (which (d .marked) _ _ (pick-both (d .texted) _ settled .1))
 
   same : directions (d .depth) (d .levels) (d .marked) true ≡ d
   same = let e : true ≡ d .texted = sym texted in rw e
@@ -116,7 +106,7 @@ module _ (st : State) where
       (λ k. absurd (false≢true (k .1)))
       (λ k. ⊎-elim
       (λ x. blank-by b t (leb-true 0x09 b (x .1)) (ltb-true b 0x0B (x .0)))
-      (λ x. absurd (false≢true (last (ltb b 0xA0) _ (x .1) .1)))
+      (λ x. absurd (false≢true (pick-last (ltb b 0xA0) _ (x .1) .1)))
       (which (ltb b 0x0B) _ _ (k .1)))
       (which (glOctet b) _ _ e)
 
@@ -203,16 +193,16 @@ module _ (st : State) (settled : settledOf (st .directions) ≡ true) where
   right-by : (b : ℕ) (t : List ℕ) → grOctet (formOf (st .sets .gr)) b ≡ true → One 1 st (elementOf (b ∷ t) st)
   unfolding grOctet
   right-by b t e =
-      let l = last (ltb b 0xA0) _ e in
+      let l = pick-last (ltb b 0xA0) _ e in
       let h = ltb-false b 0xA0 (l .0) in
       ⊎-elim
       (λ k. right-one b t h (one-96 (st .sets .gr) b t (eqb-true _ _ (k .0))))
-      (λ k. let x = both (eqb (formOf (st .sets .gr)) form-94) _ (k .1) in right-94 b t h (eqb-true _ _ (x .0)) (x .1))
+      (λ k. let x = pick-both (eqb (formOf (st .sets .gr)) form-94) _ (k .1) in right-94 b t h (eqb-true _ _ (x .0)) (x .1))
       (which (eqb (formOf (st .sets .gr)) form-96) _ _ (l .1))
 
   left-by : (b : ℕ) (t : List ℕ) → (0x20 ≤ b) × (b < 0x7F) → pick (eqb (formOf (st .sets .gl)) form-94x94) false true ≡ true → One 1 st (elementOf (b ∷ t) st)
   left-by b t h e =
-      let n : formOf (st .sets .gl) ≡ form-94x94 → ⊥ = eqb-false _ _ (last (eqb (formOf (st .sets .gl)) form-94x94) true e .0) in
+      let n : formOf (st .sets .gl) ≡ form-94x94 → ⊥ = eqb-false _ _ (pick-last (eqb (formOf (st .sets .gl)) form-94x94) true e .0) in
       ⊎-elim
       (λ (q : 0x20 ≡ b). space-one b t n (sym q))
       (λ (q : 0x20 < b). left-one b t n (omega arith) (h .1))
@@ -235,7 +225,7 @@ module _ (st : State) (settled : settledOf (st .directions) ≡ true) where
   unfolding twoAt
   two-left k b [] e = absurd (false≢true e)
   two-left k b (d ∷ t) e =
-      let x = both (graphicOn 0 b) _ e in
+      let x = pick-both (graphicOn 0 b) _ e in
       let y = graphic-on 0 b (x .0) in
       let z = graphic (b % 128) (y .1) in
       found (b ∷ d ∷ t) 2 (part kind.character (st .sets .gl) (b % 128 * 256 + d % 128) 0 2 true) refl refl
@@ -245,7 +235,7 @@ module _ (st : State) (settled : settledOf (st .directions) ≡ true) where
   unfolding twoAt
   two-right k b [] e = absurd (false≢true e)
   two-right k b (d ∷ t) e =
-      let x = both (graphicOn 1 b) _ e in
+      let x = pick-both (graphicOn 1 b) _ e in
       let y = graphic-on 1 b (x .0) in
       let z = graphic (b % 128) (y .1) in
       found (b ∷ d ∷ t) 2 (part kind.character (st .sets .gr) (b % 128 * 256 + d % 128) 0 2 true) refl refl

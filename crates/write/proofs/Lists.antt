@@ -19,7 +19,7 @@ use Rattle.state.specs.declared.directions.Step.{Step}
 use Rattle.state.specs.declared.directions.Step.the-variants.{Goes, Stops}
 use Rattle.grammar.specs.Units.{TextUnit, good}
 use Rattle.grammar.specs.Records.{unitRead, listReading, prepend}
-use Rattle.shortest.specs.Records.{fault, Checked, fine, faulty, onStep, checkRecords}
+use Rattle.shortest.specs.Records.{fault, Finding, fine, faulty, onStep, checkRecords}
 use Rattle.shortest.specs.Offence.{noRecord}
 use Rattle.shortest.proofs.Bounds.{Good}
 use Rattle.rows.specs.Rows.{startFrom, unitTagged, unitFrom, unitsIn, tagOf, sevenOctets, withRecord}
@@ -43,7 +43,7 @@ unfolding over turnOf
 over-faulty o [] i n j = refl
 over-faulty o (r ∷ rs) i n j = over-faulty o rs (suc i) n j
 
-abbrev pub checkedOf : Progress → Checked
+abbrev pub checkedOf : Progress → Finding
 checkedOf (Fine d) = fine
 checkedOf (Faulty n i) = faulty n i
 

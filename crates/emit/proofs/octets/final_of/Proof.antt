@@ -5,8 +5,8 @@ use lib.ListN.{getD}
 use mathlib.Core.List.{List, [], _∷_}
 use Prim.Native.Nat.{ℕ}
 use borrow.Author.Tests.{eqb-true}
+use Rattle.base.proofs.Bools.{up-to}
 use Rattle.charset.specs.Charsets.{rowOf}
-use Rattle.shortest.proofs.Sets.{up-to}
 use borrow.Author.Needs.{needs}
 use Rattle.emit.proofs.octets.final_of.Statement.{statement}
 use Rattle.emit.proofs.octets.final_of.Tie as tie

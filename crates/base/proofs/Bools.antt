@@ -1,0 +1,81 @@
+-- What tests say that were put together: by `&&`, by `||`, by a choice, and over the first n numbers, which antt computes (`up-to`).
+use Prim.Native.Nat.{ℕ, zero, suc, _<_}
+use native.Mathlib.Omega.{arith}
+use native.Mathlib.Nat.{not-suc-le-zero}
+use mathlib.Core.Path.{_≡_, refl, sym, subst}
+use mathlib.Core.Bool.{Bool, true, false, cond, _&&_, _||_, not, false≢true, true≢false}
+use mathlib.Core.Logic.{_⊎_, inl, inr}
+use lib.Dec.{eqb}
+use borrow.Author.Tests.{eqb-true, eqb-false}
+use Rattle.base.specs.Choice.{pick}
+
+pub off : {A : Type 0} → false ≡ true → A
+off e = absurd (false≢true e)
+
+-- by a test: where it holds, and where it does not
+pub test : {P : Type 0} (b : Bool) → (b ≡ true → P) → (b ≡ false → P) → P
+test true f g = f refl
+test false f g = g refl
+
+-- what holds of a choice by a test
+pub pick-by : {X : Type 0} (P : X → Type 0) {x y : X} (b : Bool) → (b ≡ true → P x) → (b ≡ false → P y) → P (pick b x y)
+unfolding pick
+pick-by P true f g = f refl
+pick-by P false f g = g refl
+
+pub cond-by : {X : Type 0} (P : X → Type 0) {x y : X} (b : Bool) → (b ≡ true → P x) → (b ≡ false → P y) → P (cond b x y)
+cond-by P true f g = f refl
+cond-by P false f g = g refl
+
+pub and-left : (a b : Bool) → (a && b) ≡ true → a ≡ true
+and-left true b e = refl
+and-left false b e = e
+
+pub and-right : (a b : Bool) → (a && b) ≡ true → b ≡ true
+and-right true b e = e
+and-right false b e = off e
+
+pub and-first : (a b : Bool) → a ≡ false → (a && b) ≡ false
+and-first true b e = absurd (true≢false e)
+and-first false b e = refl
+
+pub and-second : (a b : Bool) → b ≡ false → (a && b) ≡ false
+and-second true b e = e
+and-second false b e = refl
+
+pub or-cases : (a b : Bool) → (a || b) ≡ true → (a ≡ true) ⊎ (b ≡ true)
+or-cases true b e = inl refl
+or-cases false b e = inr e
+
+pub or-none : (a b : Bool) → (a || b) ≡ false → (a ≡ false) × (b ≡ false)
+or-none true b e = absurd (true≢false e)
+or-none false b e = (refl, e)
+
+abbrev pub implies : Bool → Bool → Bool
+implies a b = not a || b
+
+pub implies-elim : (a b : Bool) → implies a b ≡ true → a ≡ true → b ≡ true
+implies-elim true b e h = e
+implies-elim false b e h = off h
+
+-- a choice that is true, where one side of it is false
+pub pick-both : (a b : Bool) → pick a b false ≡ true → (a ≡ true) × (b ≡ true)
+unfolding pick
+pick-both true b e = (refl, e)
+pick-both false b e = off e
+
+pub pick-last : (a b : Bool) → pick a false b ≡ true → (a ≡ false) × (b ≡ true)
+unfolding pick
+pick-last true b e = off e
+pick-last false b e = (refl, e)
+
+-- a test of each number below n holds of each
+abbrev pub upTo : ℕ → (ℕ → Bool) → Bool
+upTo zero f = true
+upTo (suc n) f = f n && upTo n f
+
+pub up-to : (n : ℕ) (f : ℕ → Bool) → upTo n f ≡ true → (k : ℕ) → k < n → f k ≡ true
+up-to zero f t k h = absurd (not-suc-le-zero h)
+up-to (suc n) f t k h =
+    test (eqb k n) (λ e. subst (λ (m : ℕ). f m ≡ true) (sym (eqb-true k n e)) (and-left (f n) (upTo n f) t))
+    (λ e. let ne : k ≡ n → ⊥ = eqb-false k n e in up-to n f (and-right (f n) (upTo n f) t) k (omega arith))
