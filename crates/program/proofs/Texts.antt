@@ -40,15 +40,16 @@ module _ (text old : List ℕ) (end : ℕ) (room : length text ≤ end) (within 
       let stands : at + length text ≡ end + i = h .stands in
       let same : length l ≡ length old = h .same in
       let e : suc (i - 1) ≡ i = omega arith in
-      let text-octet : drop (i - 1) text ≡ getD text (i - 1) 0 ∷ drop i text = drop-cons text (i - 1) 0 (omega arith) ∙ ap (λ (k : ℕ). getD text (i - 1) 0 ∷ drop k text) e in
+      let b = getD text (i - 1) 0 in
+      let octet : drop (i - 1) text ≡ b ∷ drop i text = drop-cons text (i - 1) 0 (omega arith) ∙ ap (λ (k : ℕ). b ∷ drop k text) e in
       record {
         few = omega arith;
         stands = omega arith;
         holds =
-            before-place l at (getD text (i - 1) 0) (omega arith) (omega arith)
-            ∙ ap (λ (xs : List ℕ). getD text (i - 1) 0 ∷ xs) (h .holds)
-            ∙ ap (λ (xs : List ℕ). xs ++ drop end old) (sym text-octet);
-        same = length-set l (at - 1) (getD text (i - 1) 0) ∙ same;
+            before-place l at b (omega arith) (omega arith)
+            ∙ ap (λ (xs : List ℕ). b ∷ xs) (h .holds)
+            ∙ ap (λ (xs : List ℕ). xs ++ drop end old) (sym octet);
+        same = length-set l (at - 1) b ∙ same;
       }
 
 -- numbers below have at most k + 1 digits

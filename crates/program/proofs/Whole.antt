@@ -47,7 +47,7 @@ printed-form : (s : List ℕ) (p c : ℕ) → shortestAnswer s room limit.octets
 unfolding printedOf pick
 printed-form s p c e = rw e
 
-printed-line : (s : List ℕ) (n p c : ℕ) → shortestAnswer s room limit.octets ≡ answer n p c → (n ≡ refusal.accepted → ⊥) → printedOf s ≡ refusalLine n p
+pub printed-line : (s : List ℕ) (n p c : ℕ) → shortestAnswer s room limit.octets ≡ answer n p c → (n ≡ refusal.accepted → ⊥) → printedOf s ≡ refusalLine n p
 unfolding printedOf pick
 printed-line s n p c e z = rw (e, ne-eqb n refusal.accepted z)
 
@@ -61,7 +61,7 @@ module _ (s : List ℕ) (no : checkOf s .number ≡ refusal.accepted → ⊥) wh
   unfolding shortestOutput pick
   output-stays out = rw (ne-eqb (checkOf s .number) refusal.accepted no)
 
-  line-of-check : (out : List ℕ) → Line s out (checkOf s .number) (checkOf s .place)
+  pub line-of-check : (out : List ℕ) → Line s out (checkOf s .number) (checkOf s .place)
   line-of-check out =
       record { printed = printed-line s (checkOf s .number) (checkOf s .place) (checkOf s .count) (answers-check limit.octets) no; stays = output-stays out }
 
@@ -78,19 +78,19 @@ module _ (s : List ℕ) (ok : checkOf s .number ≡ refusal.accepted) where
   unfolding shortestOutput pick
   output-writer out = rw (eq-eqb (checkOf s .number) refusal.accepted ok)
 
-  known : {n p c : ℕ} → Outcome rs s room limit.octets n p c → shortestAnswer s room limit.octets ≡ answer n p c
+  pub known : {n p c : ℕ} → Outcome rs s room limit.octets n p c → shortestAnswer s room limit.octets ≡ answer n p c
   known x = answers-writer limit.octets ∙ outcome-is rs s room limit.octets x
 
   reading : (us : List TextUnit) → listReading s rs ≡ some us → us ≡ readingOf s
   reading us e = Option·some-injective us (readingOf s) (sym e ∙ records-read s)
 
   -- the shortest form is printed
-  form : (us : List TextUnit) → Served rs s room us → cost us (fresh .sets) ≤ limit.octets → printedOf s ≡ writing us (fresh .sets)
+  pub form : (us : List TextUnit) → Served rs s room us → cost us (fresh .sets) ≤ limit.octets → printedOf s ≡ writing us (fresh .sets)
   form us v h =
       printed-form s (length rs) (cost us (fresh .sets)) (known (written us v h h))
       ∙ ap (λ (vs : List TextUnit). writing vs (fresh .sets)) (sym (reading us (v .reading)))
 
-  form-length : (us : List TextUnit) → Served rs s room us → cost us (fresh .sets) ≤ limit.octets → cost us (fresh .sets) ≡ length (printedOf s)
+  pub form-length : (us : List TextUnit) → Served rs s room us → cost us (fresh .sets) ≤ limit.octets → cost us (fresh .sets) ≡ length (printedOf s)
   form-length us v h = sym (ap length (form us v h) ∙ writing-length us (fresh .sets))
 
   module _ (out : List ℕ) where

@@ -1,7 +1,7 @@
 // What the program prints for an input, all of it but the reading and the writing of descriptors.
 ghost use Prim.Native.Nat.{_+_, _≤_};
 ghost use mathlib.Core.Path.{_≡_};
-ghost use lib.ListN.{length};
+ghost use lib.ListN.{length, take};
 ghost use Rattle.base.specs.Limit.{octets};
 ghost use Rattle.rewrite.specs.Shortest.{shortestAnswer};
 ghost use Rattle.program.specs.Printed.{room, printedOf, storedIn};
@@ -62,4 +62,18 @@ pub fn print(s: &[u8], out: &mut [u8]) -> Printed
         answer: a,
         length: n,
     }
+}
+
+// What is printed for the first n octets of an input's room, or for all of it where n is not less.
+pub fn print_input(input: &[u8; 65536], n: usize, out: &mut [u8]) -> Printed
+    ensures { λ r. ⌜ (r .answer ≡ shortestAnswer (take n (now (input .entry))) room (length (now (out .entry))))
+        × (r .length ≡ length (printedOf (take n (now (input .entry)))))
+        × (now (out .exit) ≡ storedIn (printedOf (take n (now (input .entry)))) (now (out .entry)))
+        × (octets ≤ length (now (out .entry)) → r .length ≤ length (now (out .entry))) ⌝ }
+{
+    let all: &[u8] = input;
+    if n < all.len() {
+        return print(&all[..n], out);
+    }
+    print(all, out)
 }

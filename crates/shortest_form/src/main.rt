@@ -54,9 +54,8 @@ fn main() {
         io::write_all(STDERR_FILENO, b"ctext: the input cannot be read\n");
         return;
     }
-    let n = input.octets;
     let mut out = program::output_room();
-    let printed = program::print(&room[..n], &mut out);
+    let printed = program::print_input(&room, input.octets, &mut out);
     let m = printed.length;
     if !io::write_all(STDOUT_FILENO, &out[..m]) {
         io::write_all(STDERR_FILENO, b"ctext: the output cannot be written\n");

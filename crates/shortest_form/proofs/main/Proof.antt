@@ -1,4 +1,4 @@
--- `main` lends parts that are there: of the room what was read, and of the output what is printed, which has at most as many octets.
+-- `main` lends a part of the output that is there: what is printed has at most as many octets.
 use native.Mathlib.Omega.{arith}
 use mathlib.Core.Path.{sym}
 use lib.Seq.{length-take-le}
@@ -27,28 +27,22 @@ returns c = search needs
 output-room-requires : tie.Need-output-room-requires
 output-room-requires c κs = search needs
 
-array-share-prefix-room : tie.Need-array-share-prefix-room
-array-share-prefix-room c = search needs
+slice-aggregate-print-input : tie.Need-slice-aggregate-print-input
+slice-aggregate-print-input c = search needs
 
-slice-aggregate-print : tie.Need-slice-aggregate-print
-slice-aggregate-print c = search needs
-
-slice-aggregate-print-2 : tie.Need-slice-aggregate-print-2
-slice-aggregate-print-2 c = search needs
-
-print-requires : tie.Need-print-requires
-print-requires c κs = search needs
+print-input-requires : tie.Need-print-input-requires
+print-input-requires c κs = search needs
 
 array-share-prefix-out : tie.Need-array-share-prefix-out
 array-share-prefix-out c =
     let room = c .before .before .before .before .output-room .ensures in
-    omega (arith, c .before .print .ensures .3 (omega (arith, room)), room)
+    omega (arith, c .before .print-input .ensures .3 (omega (arith, room)), room)
 
 slice-aggregate-write-all-2 : tie.Need-slice-aggregate-write-all-2
 slice-aggregate-write-all-2 c =
-    let print = c .before .before .print in
+    let print = c .before .before .print-input in
     let room = c .before .before .before .before .before .output-room .ensures in
-    sym (length-take-le _ _ (omega (arith, print .ensures .3 (omega (arith, room)), print .kept .1 .0, room)))
+    sym (length-take-le _ _ (omega (arith, print .ensures .3 (omega (arith, room)), print .kept .1 .1 .0, room)))
 
 write-all-requires-2 : tie.Need-write-all-requires-2
 write-all-requires-2 c κs = search needs
@@ -76,10 +70,8 @@ main-spec =
     write-all-requires
     returns
     output-room-requires
-    array-share-prefix-room
-    slice-aggregate-print
-    slice-aggregate-print-2
-    print-requires
+    slice-aggregate-print-input
+    print-input-requires
     array-share-prefix-out
     slice-aggregate-write-all-2
     write-all-requires-2

@@ -59,7 +59,8 @@ add-n : tie.Need-add-n Inv-loop μ-loop
 add-n c =
     let room = c .before .before .before .before .before .before .before .before .loop in
     let call = c .before .before .before .before .before .read-some in
-    omega (arith, call .ensures, part-length (room .n) (room .room), room .inv, c .before .before .before .before .before .before .before .before .before .before .good .0)
+    let start = c .before .before .before .before .before .before .before .before .before .before in
+    omega (arith, call .ensures, part-length (room .n) (room .room), room .inv, start .good .0)
 
 loop-less : tie.Need-loop-less Inv-loop μ-loop
 loop-less c =
