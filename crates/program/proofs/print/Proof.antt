@@ -51,7 +51,8 @@ returns-3 c =
     let call = no-form .before .before .before .before .before in
     let args = call .before .before .before .before .before .args in
     let answers = call .shortest .ensures .0 in
-    let line = refused-line (now (args .s)) (now (args .out)) (call .shortest .result) answers (no-form .if1 .left) (λ q. omega (arith, q, no-count .if2 .left)) in (
+    let none = no-count .if2 .left in
+    let line = refused-line (now (args .s)) (now (args .out)) (call .shortest .result) answers (no-form .if1 .left) (λ q. omega (arith, q, none)) in (
       answers,
       refused .ensures .0 ∙ sym (ap length (line .printed)),
       refused .ensures .1 ∙ ap₂ storedIn (sym (line .printed)) (call .shortest .ensures .1 ∙ line .stays),

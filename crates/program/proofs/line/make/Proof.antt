@@ -41,10 +41,11 @@ returns c =
     let put2 = number .before .before .before .before in
     let place = put2 .before .before .before .before .before in
     let put1 = place .before .before .before .before in
-    let start = put1 .before .before .before .before in (
+    let start = put1 .before .before .before .before in
+    let ends = drop-of-length-le (now (start .args .buffer)) {i = 64} (omega (arith, start .pre)) in (
       omega (arith, put3 .put3 .ensures .0),
-      line-of _ _ _ _ _ _ _ _ (drop-of-length-le (now (start .args .buffer)) {i = 64} (omega (arith, start .pre))) (put1 .put .ensures .1) (place .put-decimal .ensures .1)
-          (put2 .put2 .ensures .1) (number .put-decimal2 .ensures .1) (put3 .put3 .ensures .1),
+      line-of _ _ _ _ _ _ _ _ ends (put1 .put .ensures .1) (place .put-decimal .ensures .1) (put2 .put2 .ensures .1)
+          (number .put-decimal2 .ensures .1) (put3 .put3 .ensures .1),
       omega arith,
     )
 
