@@ -10,7 +10,8 @@
      records stand there for the whole call. Beside a length of 0 the pointer
      is not followed and may be null.
    - What is lent for an answer (units of ctext_read, work and out of
-     ctext_write) overlaps nothing else that is lent to the same call.
+     ctext_write, out of ctext_program) overlaps nothing else that is lent to
+     the same call.
    - While a call runs, nobody else writes to what it was lent, and nobody
      else looks at what it was lent for an answer.
    Nothing else is left to the caller. Any octets, records, readers and
@@ -286,9 +287,32 @@ ctext_answer ctext_write(const ctext_unit *units, size_t count,
                          uint8_t *work, size_t w,
                          uint8_t *out, size_t o);
 
+/* ---- The program ------------------------------------------------------- */
+
+/* What the program ctext prints, of which length octets are printed. */
+typedef struct ctext_printed {
+    ctext_answer answer;
+    size_t length;
+} ctext_printed;
+
+/* What the program ctext prints for the n octets at s: their shortest form,
+   nothing added, or "refused N at P" and a newline, N and P in decimal. It is
+   stored at the start of the o octets at out, and the rest of out stays as it
+   was. Up to 909 units are served; an accepted string of more is refused with
+   CTEXT_NO_WORK_ROOM at 0. The work room for them, 65,520 octets, lies on the
+   stack.
+
+   length is the octets that are printed, and answer says why: accepted, with
+   the units as place and the octets as count, or the refusal that is printed.
+   CTEXT_MOST_OCTETS octets of output always suffice. Where length is over o
+   nothing is stored; answer is then CTEXT_NO_ROOM with the octets needed, or
+   the refusal whose line does not fit. What is printed depends on the octets
+   at s alone. */
+ctext_printed ctext_program(const uint8_t *s, size_t n, uint8_t *out, size_t o);
+
 /* The archive is for x86-64 Linux; another layout does not compile. */
 typedef char ctext_layout[sizeof(ctext_answer) == 24 && sizeof(ctext_unit) == 12
-                          && sizeof(ctext_run_bounds) == 48
+                          && sizeof(ctext_run_bounds) == 48 && sizeof(ctext_printed) == 32
                           && sizeof(ctext_reader) == 32 && sizeof(ctext_step) == 72
                           ? 1 : -1];
 

@@ -165,6 +165,54 @@ static void written(const uint8_t *s, size_t n, const ctext_unit *units, size_t 
     free(work);
 }
 
+/* The octets are those that ctext_write gives for the string's units. */
+static void same_form(const uint8_t *s, size_t n, const ctext_unit *units, size_t count,
+                      const uint8_t *form, size_t length)
+{
+    uint8_t *work = (uint8_t *)lend(CTEXT_WORK_ROOM(count));
+    uint8_t *out = (uint8_t *)lend(n);
+    ctext_answer a = ctext_write(units, count, s, n, work, CTEXT_WORK_ROOM(count), out, n);
+    expect(a.number == CTEXT_ACCEPTED && a.count == length
+               && (length == 0 || memcmp(out, form, length) == 0),
+           "the form printed, and that written", s, n);
+    free(out);
+    free(work);
+}
+
+/* What the program prints: into no output, one too short, exact, and larger. */
+static void printed(const uint8_t *s, size_t n, const ctext_unit *units, ctext_answer check)
+{
+    ctext_printed needed = ctext_program(s, n, NULL, 0), p;
+    size_t length = needed.length;
+    uint8_t *exact = (uint8_t *)lend(length);
+    uint8_t *large = (uint8_t *)lend(length + 1);
+    char line[64];
+    memset(large, PATTERN, length + 1);
+    p = ctext_program(s, n, large, length + 1);
+    expect(p.length == length && untouched(large + length, 1), "what is printed", s, n);
+    if (p.answer.number == CTEXT_ACCEPTED) {
+        expect(check.number == CTEXT_ACCEPTED && p.answer.count == length, "a form printed", s, n);
+        same_form(s, n, units, check.count, large, length);
+        expect(length == 0 || (needed.answer.number == CTEXT_NO_ROOM && needed.answer.count == length),
+               "the octets needed", s, n);
+    } else {
+        int m = snprintf(line, sizeof line, "refused %u at %lu\n", (unsigned)p.answer.number,
+                         (unsigned long)p.answer.place);
+        expect(m > 0 && (size_t)m == length && memcmp(large, line, length) == 0, "a line printed", s, n);
+        expect(same_answer(p.answer, check) && same_answer(needed.answer, check), "a line's answer", s, n);
+    }
+    p = ctext_program(s, n, exact, length);
+    expect(p.length == length && (length == 0 || memcmp(exact, large, length) == 0),
+           "what is printed into exact output", s, n);
+    if (length > 0) {
+        memset(exact, PATTERN, length);
+        p = ctext_program(s, n, exact, length - 1);
+        expect(p.length == length && untouched(exact, length), "what does not fit", s, n);
+    }
+    free(large);
+    free(exact);
+}
+
 static void try_string(const uint8_t *octets, size_t n)
 {
     uint8_t *s = (uint8_t *)lend(n);
@@ -189,6 +237,7 @@ static void try_string(const uint8_t *octets, size_t n)
     expect(same_answer(a, check), "the answer of the list", s, n);
     steps(s, n, units, check);
     runs(s, n, units, check);
+    printed(s, n, units, check);
     if (a.number == CTEXT_ACCEPTED)
         written(s, n, units, a.count);
     expect(n == 0 || memcmp(s, octets, n) == 0, "the string itself", s, n);
@@ -246,6 +295,28 @@ static void try_readers(void)
                 }
 }
 
+/* The program's 909 units, one more, and one octet more than a string has. */
+static void try_program(void)
+{
+    static const struct { size_t n; const char *line; } most[] = {
+        { 909, NULL }, { 910, "refused 12 at 0\n" }, { CTEXT_MOST_OCTETS, "refused 12 at 0\n" },
+        { CTEXT_MOST_OCTETS + 1, "refused 1 at 0\n" }
+    };
+    uint8_t *s = (uint8_t *)lend(CTEXT_MOST_OCTETS + 1);
+    uint8_t *out = (uint8_t *)lend(CTEXT_MOST_OCTETS);
+    size_t i;
+    memset(s, 0x20, CTEXT_MOST_OCTETS + 1);
+    for (i = 0; i < sizeof most / sizeof most[0]; i++) {
+        ctext_printed p = ctext_program(s, most[i].n, out, CTEXT_MOST_OCTETS);
+        const void *expected = most[i].line ? (const void *)most[i].line : s;
+        expect(p.length == (most[i].line ? strlen(most[i].line) : most[i].n)
+                   && memcmp(out, expected, p.length) == 0,
+               "the program's limits", s, 1);
+    }
+    free(out);
+    free(s);
+}
+
 /* Sixteen directions open, and a seventeenth. */
 static void try_depth(void)
 {
@@ -292,6 +363,7 @@ int main(int argc, char **argv)
         most = 5;
     try_elements(most, NULL, 0);
     try_readers();
+    try_program();
     try_depth();
     try_limits();
     printf("bounds: %lu strings, %lu accepted, %lu failures\n", strings, accepted, failures);

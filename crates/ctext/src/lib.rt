@@ -6,6 +6,7 @@ use base::Answer;
 use runs::Bounds;
 
 pub mod lists;
+pub mod printing;
 pub mod stepping;
 
 // Whether a string is accepted, and what of it is refused.

@@ -1,0 +1,65 @@
+-- `line::refused` meets its contract: the line is put before the place of its own length (`stored-line`), where there is room for it.
+use borrow.Author.Needs.{needs}
+use native.Mathlib.Omega.{arith}
+use mathlib.Core.Path.{refl}
+use denote.Ref.{now}
+use Rattle.program.proofs.Texts.{line-length, stored-line, stored-not}
+use Rattle.program.proofs.line.refused.Statement.{statement}
+use Rattle.program.proofs.line.refused.Tie as tie
+
+slice-aggregate-make : tie.Need-slice-aggregate-make
+slice-aggregate-make c = search needs
+
+make-requires : tie.Need-make-requires
+make-requires c κs = search needs
+
+sub-n : tie.Need-sub-n
+sub-n c = search needs
+
+sub-put : tie.Need-sub-put
+sub-put c = search needs
+
+part-put-start : tie.Need-part-put-start
+part-put-start c = search needs
+
+part-put-end : tie.Need-part-put-end
+part-put-end c = search needs
+
+put-requires : tie.Need-put-requires
+put-requires c κs = search needs
+
+same-length : tie.Need-same-length
+same-length c = search needs
+
+returns : tie.Need-returns
+returns c =
+    let put = c .before .before .put in
+    let make = c .before .before .before .before .before .before .before .before .make in
+    let args = c .before .before .before .before .before .before .before .before .before .before .before .args in (
+      line-length _ (make .last .1 .1 .0) (make .result) (make .ensures .1) (make .ensures .2),
+      stored-line _ (make .last .1 .1 .0) (now (args .out)) (put .last .1 .0) (make .result) (put .result) (make .ensures .1) (make .ensures .2)
+          (omega arith) (put .ensures .0) (put .ensures .1),
+      omega arith,
+    )
+
+returns-2 : tie.Need-returns-2
+returns-2 c =
+    let make = c .before .before .make in
+    let args = c .before .before .before .before .before .args in
+    let n = line-length _ (make .last .1 .1 .0) (make .result) (make .ensures .1) (make .ensures .2) in
+    (n, stored-not _ (now (args .out)) (now (args .out)) (rw n at (c .if1 .left)) refl, omega arith)
+
+pub refused-spec : {M : Type 1} → statement M
+refused-spec =
+    tie.close
+    (tie.spec
+    slice-aggregate-make
+    make-requires
+    sub-n
+    sub-put
+    part-put-start
+    part-put-end
+    put-requires
+    same-length
+    returns
+    returns-2)

@@ -1,0 +1,74 @@
+-- `print` meets its contract, by the cases of the answer (proofs/Whole).
+use borrow.Author.Needs.{needs}
+use native.Mathlib.Omega.{arith}
+use mathlib.Core.Path.{ap, ap₂, sym, _∙_}
+use lib.ListN.{length}
+use denote.Ref.{now}
+use Rattle.program.specs.Printed.{storedIn}
+use Rattle.program.proofs.Whole.{accepted-form, counted-form, refused-line}
+use Rattle.program.proofs.print.Statement.{statement}
+use Rattle.program.proofs.print.Tie as tie
+
+slice-aggregate-shortest : tie.Need-slice-aggregate-shortest
+slice-aggregate-shortest c = search needs
+
+shortest-requires : tie.Need-shortest-requires
+shortest-requires c κs = search needs
+
+same-length : tie.Need-same-length
+same-length c = search needs
+
+returns : tie.Need-returns
+returns c =
+    let call = c .before .before .before .before .before in
+    let args = call .before .before .before .before .before .args in
+    let answers = call .shortest .ensures .0 in
+    let form = accepted-form (now (args .s)) (now (args .out)) (call .shortest .result) answers (c .if1 .taken) in
+    (answers, form .counts, call .shortest .ensures .1 ∙ form .stored, λ long. omega (arith, form .short, long))
+
+same-length-2 : tie.Need-same-length-2
+same-length-2 c = search needs
+
+returns-2 : tie.Need-returns-2
+returns-2 c =
+    let call = c .before .before .before .before .before .before .before in
+    let args = call .before .before .before .before .before .args in
+    let answers = call .shortest .ensures .0 in
+    let form = counted-form (now (args .s)) (now (args .out)) (call .shortest .result) answers (c .if2 .taken) in
+    (answers, form .counts, call .shortest .ensures .1 ∙ form .stored, λ long. omega (arith, form .short, long))
+
+refused-requires : tie.Need-refused-requires
+refused-requires c κs = search needs
+
+same-length-3 : tie.Need-same-length-3
+same-length-3 c = search needs
+
+returns-3 : tie.Need-returns-3
+returns-3 c =
+    let refused = c .before .before .refused in
+    let no-count = c .before .before .before .before in
+    let no-form = no-count .before .before in
+    let call = no-form .before .before .before .before .before in
+    let args = call .before .before .before .before .before .args in
+    let answers = call .shortest .ensures .0 in
+    let none = no-count .if2 .left in
+    let line = refused-line (now (args .s)) (now (args .out)) (call .shortest .result) answers (no-form .if1 .left) (λ q. omega (arith, q, none)) in (
+      answers,
+      refused .ensures .0 ∙ sym (ap length (line .printed)),
+      refused .ensures .1 ∙ ap₂ storedIn (sym (line .printed)) (call .shortest .ensures .1 ∙ line .stays),
+      λ long. omega (arith, refused .ensures .2, long),
+    )
+
+pub print-spec : {M : Type 1} → statement M
+print-spec =
+    tie.close
+    (tie.spec
+    slice-aggregate-shortest
+    shortest-requires
+    same-length
+    returns
+    same-length-2
+    returns-2
+    refused-requires
+    same-length-3
+    returns-3)

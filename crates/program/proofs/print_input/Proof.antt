@@ -1,0 +1,54 @@
+-- `print_input` meets its contract, which is `print`'s: the first n octets of the room are all of it where n is not less than its length.
+use Prim.Native.Nat.{ℕ}
+use native.Mathlib.Omega.{arith}
+use mathlib.Core.Path.{ap, sym, _∙_}
+use mathlib.Core.List.{List}
+use lib.ListN.{length}
+use lib.Seq.{length-take-le, take-all}
+use borrow.Author.Needs.{needs}
+use denote.Ref.{now}
+use Rattle.rewrite.specs.Shortest.{shortestAnswer}
+use Rattle.program.specs.Printed.{room, printedOf, storedIn}
+use Rattle.program.proofs.print_input.Statement.{statement}
+use Rattle.program.proofs.print_input.Tie as tie
+
+slice-aggregate-print : tie.Need-slice-aggregate-print
+slice-aggregate-print c = sym (length-take-le _ _ (omega arith))
+
+print-requires : tie.Need-print-requires
+print-requires c κs = search needs
+
+same-length : tie.Need-same-length
+same-length c = search needs
+
+returns : tie.Need-returns
+returns c = search needs
+
+print-requires-2 : tie.Need-print-requires-2
+print-requires-2 c κs = search needs
+
+same-length-2 : tie.Need-same-length-2
+same-length-2 c = search needs
+
+returns-2 : tie.Need-returns-2
+returns-2 c =
+    let args = c .before .before .before .before .before .before .before .args in
+    let is = c .before .before .print2 .ensures in
+    let all = sym (take-all (args .n) (now (args .input)) (c .before .before .before .before .if1 .left)) in (
+      is .0 ∙ ap (λ (s : List ℕ). shortestAnswer s room (length (now (args .out)))) all,
+      is .1 ∙ ap (λ (s : List ℕ). length (printedOf s)) all,
+      is .2 ∙ ap (λ (s : List ℕ). storedIn (printedOf s) (now (args .out))) all,
+      is .3,
+    )
+
+pub print-input-spec : {M : Type 1} → statement M
+print-input-spec =
+    tie.close
+    (tie.spec
+    slice-aggregate-print
+    print-requires
+    same-length
+    returns
+    print-requires-2
+    same-length-2
+    returns-2)

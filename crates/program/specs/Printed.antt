@@ -1,0 +1,47 @@
+-- What the program prints for an input: "The program reads a string and writes its shortest form, nothing added; or `refused N at P` and a
+-- newline."
+use Prim.Native.Nat.{ℕ, zero, suc, _+_, _/_, _%_}
+use mathlib.Core.List.{List, [], _∷_, _++_}
+use lib.ListN.{length, drop}
+use lib.Dec.{eqb, leb, ltb}
+use Rattle.base.specs.Choice.{pick}
+use Rattle.base.specs.Limit as limit
+use Rattle.base.specs.Refusal as refusal
+use Rattle.grammar.specs.Reading.{readingOf}
+use Rattle.rewrite.specs.Shortest.{shortestAnswer}
+use Rattle.shortest.specs.Records.{workRoom}
+use Rattle.shortest.specs.Writing.{writing}
+use Rattle.state.specs.State.{fresh}
+
+-- "It serves up to 909 units (65,520 octets of work room); an accepted string of more is refused 12 at 0."
+abbrev pub room : ℕ
+room = workRoom 909
+
+-- the octet of a digit, 30 to 39
+abbrev pub digit : ℕ → ℕ
+digit d = 0x30 + d
+
+-- the decimal digits of a number that has at most k + 1, the first digit first and no zero before it
+unfoldable pub digits : ℕ → ℕ → List ℕ
+digits zero n = digit n ∷ []
+digits (suc k) n = pick (ltb n 10) (digit n ∷ []) (digits k (n / 10) ++ (digit (n % 10) ∷ []))
+
+-- every number of the machine has at most 20
+abbrev pub decimal : ℕ → List ℕ
+decimal n = digits 19 n
+
+-- `refused N at P` and a newline
+unfoldable pub refusalLine : ℕ → ℕ → List ℕ
+refusalLine number place =
+    (0x72 ∷ 0x65 ∷ 0x66 ∷ 0x75 ∷ 0x73 ∷ 0x65 ∷ 0x64 ∷ 0x20 ∷ [])
+    ++ (decimal number ++ ((0x20 ∷ 0x61 ∷ 0x74 ∷ 0x20 ∷ []) ++ (decimal place ++ (0x0A ∷ []))))
+
+-- the octets that are printed, for an output of as many octets as a string may have
+unfoldable pub printedOf : List ℕ → List ℕ
+printedOf s =
+    let a = shortestAnswer s room limit.octets in
+    pick (eqb (a .number) refusal.accepted) (writing (readingOf s) (fresh .sets)) (refusalLine (a .number) (a .place))
+
+-- an output after a text was stored from its first place on: "the rest of the output stays"; where the text has more octets, all of it
+unfoldable pub storedIn : List ℕ → List ℕ → List ℕ
+storedIn text out = pick (leb (length text) (length out)) (text ++ drop (length text) out) out
