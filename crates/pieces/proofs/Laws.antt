@@ -155,7 +155,7 @@ module _ (s : List ℕ) where
   abbrev StateLater : ℕ → State → Piece → Type 0
   StateLater at st q = (i : ℕ) → q .end ≤ i → stateFrom s at st i ≡ stateFrom s (q .end) (q .state) i
 
-  abbrev StateAfter : ℕ → State → Piece → Type 0
+  abbrev pub StateAfter : ℕ → State → Piece → Type 0
   StateAfter at st q = (i : ℕ) → (q .end ≡ at → ⊥) → (i < q .end → stateFrom s at st i ≡ st) × (q .end ≤ i → stateFrom s at st i ≡ stateFrom s (q .end) (q .state) i)
 
   -- an element of k octets
@@ -165,7 +165,7 @@ module _ (s : List ℕ) where
   past at st next k i es e f =
       (λ h. e ∙ rw (lt-ltb i (at + k) h), λ h. e ∙ rw (le-ltb i (at + k) h) (ap (λ (x : List Element). stateAt (at + k) next x i) f))
 
-  state-after : (at : ℕ) (st : State) (e : Element) → elementAt s at st ≡ e → StateAfter at st (pieceOf s at e)
+  pub state-after : (at : ℕ) (st : State) (e : Element) → elementAt s at st ≡ e → StateAfter at st (pieceOf s at e)
   unfolding pieceOf stateAt
   state-after at st End is i n = absurd (n refl)
   state-after at st (Refused r o) is i n = absurd (n refl)
@@ -175,7 +175,7 @@ module _ (s : List ℕ) where
       past at st next (size p) i _ (ap (λ (x : List Element). stateAt at st x i) (elements-found (from at s) st (found-fits s at st is .0) is)) (ap (λ (x : List ℕ). elements x 0 next) (from-from s at (size p)))
 
   -- at the place itself
-  first-state : (at : ℕ) (st : State) (e : Element) → elementAt s at st ≡ e → stateFrom s at st at ≡ st
+  pub first-state : (at : ℕ) (st : State) (e : Element) → elementAt s at st ≡ e → stateFrom s at st at ≡ st
   unfolding pieceOf stateAt
   first-state at st End is = ap (λ (x : List Element). stateAt at st x at) (elements-end (from at s) st is)
   first-state at st (Refused r o) is = ap (λ (x : List Element). stateAt at st x at) (elements-refused (from at s) st is)
