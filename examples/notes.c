@@ -46,17 +46,17 @@ static void print_unit(size_t index, ctext_unit unit)
     printf(", octets %" PRIu32 " to %" PRIu32 "\n", unit.start, unit.start + unit.length);
 }
 
-/* The runs are asked for by number, until there is no such run. */
+/* The runs one after the other, until none is left. */
 static void print_runs(const uint8_t *note, size_t n)
 {
+    ctext_run_step step = ctext_next_run(note, n, ctext_open_runs());
     size_t k;
-    for (k = 0;; k++) {
-        ctext_run_bounds run = ctext_run(note, n, k);
-        if (run.answer.number != CTEXT_ACCEPTED)
-            return;
+    for (k = 0; step.run.answer.number == CTEXT_ACCEPTED; k++) {
+        ctext_run_bounds run = step.run;
         printf("  run %zu: set %d, width %d, direction %s:", k, run.set, run.width,
                DIRECTIONS[run.direction]);
         print_octets(ctext_run_octets(note, run), run.end - run.start);
+        step = ctext_next_run(note, n, step.reader);
     }
 }
 

@@ -185,9 +185,9 @@ typedef struct ctext_run_bounds {
    of GL or of GR octets of characters and spaces, unbroken by any other octet.
    Shown: 0, n and the run's octets. A refused string: its refusal. Past the
    last run: CTEXT_BAD_UNIT at 0. Beside a refusal all else is 0. Reads s,
-   touches nothing. Each call checks the whole string and reads it from its
-   start up to the run: the runs 0, 1, 2, .. of a string of many, asked for by
-   number, cost the square of its length. */
+   touches nothing. Each call checks all n octets and reads on to run k, so all
+   runs of a string by number take time in the square of n: go through them by
+   ctext_next_run. */
 ctext_run_bounds ctext_run(const uint8_t *s, size_t n, size_t k);
 
 /* The run's octets, end - start of them, where they stand in the string. */
@@ -195,6 +195,48 @@ static inline const uint8_t *ctext_run_octets(const uint8_t *s, ctext_run_bounds
 {
     return run.start == 0 ? s : s + run.start;
 }
+
+/* Where a reader of runs stands. The caller keeps it, and the string. It may be
+   copied, stored, and made by hand. Its fields are those of a ctext_reader
+   (below) but for the count, and
+   checked  whether the whole string is known to be accepted: 0 is no and
+            anything else yes; a step gives 0 or 1 */
+typedef struct ctext_run_reader {
+    uint64_t levels;
+    size_t place;
+    uint8_t gl;
+    uint8_t gr;
+    uint8_t depth;
+    uint8_t marked;
+    uint8_t texted;
+    uint8_t checked;
+} ctext_run_reader;
+
+/* A run, or the answer where none is shown, and the reader after it. */
+typedef struct ctext_run_step {
+    ctext_run_reader reader;
+    ctext_run_bounds run;
+} ctext_run_step;
+
+/* A reader of runs at the start of a string, in the fresh state, not checked. */
+ctext_run_reader ctext_open_runs(void);
+
+/* The next run of the n octets at s. A reader of ctext_open_runs, taken on over
+   the same octets, shows in its steps 0, 1, 2, .. what ctext_run gives for those
+   numbers. The first step checks the whole string, and each further one reads
+   on from where the reader stands, so all runs of a string take time in
+   proportion to n. Where a step shows no run (run.answer.number is not
+   CTEXT_ACCEPTED), every further step repeats its answer; of a refused string
+   each checks the string again.
+
+   A string over 65,535 octets gives CTEXT_TOO_LONG, whatever the reader. Else a
+   reader made by hand whose place lies past the string, with a set on a side it
+   may not use, or whose depth is over 16, gives CTEXT_BAD_UNIT at 0. Else, where
+   checked is 0, a refused string gives its refusal. Then the next run from where
+   the reader stands is shown by the rules; an element that is refused before it
+   gives its refusal, and the end of the string CTEXT_BAD_UNIT at 0. Reads s,
+   touches nothing. */
+ctext_run_step ctext_next_run(const uint8_t *s, size_t n, ctext_run_reader reader);
 
 /* ---- A reader that steps ----------------------------------------------- */
 
@@ -313,6 +355,8 @@ ctext_printed ctext_program(const uint8_t *s, size_t n, uint8_t *out, size_t o);
 /* The archive is for x86-64 Linux; another layout does not compile. */
 typedef char ctext_layout[sizeof(ctext_answer) == 24 && sizeof(ctext_unit) == 12
                           && sizeof(ctext_run_bounds) == 48 && sizeof(ctext_printed) == 32
+                          && sizeof(ctext_run_reader) == 24
+                          && sizeof(ctext_run_step) == 72
                           && sizeof(ctext_reader) == 32 && sizeof(ctext_step) == 72
                           ? 1 : -1];
 

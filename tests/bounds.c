@@ -86,6 +86,25 @@ static void steps(const uint8_t *s, size_t n, const ctext_unit *units, ctext_ans
     expect(!step.given && same_answer(step.answer, check), "the answer repeated", s, n);
 }
 
+static int same_run(ctext_run_bounds a, ctext_run_bounds b)
+{
+    return a.start == b.start && a.end == b.end && a.set == b.set && a.width == b.width
+        && a.direction == b.direction && same_answer(a.answer, b.answer);
+}
+
+/* The runs of ctext_next_run are those of ctext_run, also past the last. */
+static void runs_in_order(const uint8_t *s, size_t n)
+{
+    ctext_run_step step = ctext_next_run(s, n, ctext_open_runs());
+    size_t k = 0, past = 0;
+    while (past < 2) {
+        expect(same_run(step.run, ctext_run(s, n, k)), "a run in order", s, n);
+        past += step.run.answer.number != CTEXT_ACCEPTED;
+        k++;
+        step = ctext_next_run(s, n, step.reader);
+    }
+}
+
 /* The runs stand one after the other and hold every character and space. */
 static void runs(const uint8_t *s, size_t n, const ctext_unit *units, ctext_answer check)
 {
@@ -238,6 +257,7 @@ static void try_string(const uint8_t *octets, size_t n)
     steps(s, n, units, check);
     runs(s, n, units, check);
     printed(s, n, units, check);
+    runs_in_order(s, n);
     if (a.number == CTEXT_ACCEPTED)
         written(s, n, units, a.count);
     expect(n == 0 || memcmp(s, octets, n) == 0, "the string itself", s, n);
@@ -317,6 +337,36 @@ static void try_program(void)
     free(s);
 }
 
+/* Readers of runs made by hand, good and bad ones: from the last run on, and
+   past the string. */
+static void try_run_readers(void)
+{
+    static const uint8_t octets[] = { 0x41, 0x09, 0xE9 };
+    uint8_t *s = (uint8_t *)lend(sizeof octets);
+    unsigned gr, depth, place;
+    memcpy(s, octets, sizeof octets);
+    for (gr = 0; gr < 20; gr++)
+        for (depth = 0; depth < 20; depth++)
+            for (place = 0; place < 8; place++) {
+                int good = (gr == 1 || (gr >= 3 && gr <= 14)) && depth <= CTEXT_MOST_OPEN
+                    && place <= sizeof octets;
+                int shown = good && place < sizeof octets && (gr < 12 || place == 0);
+                ctext_run_reader r = ctext_open_runs();
+                ctext_run_step step;
+                r.gr = (uint8_t)gr;
+                r.depth = (uint8_t)depth;
+                r.place = place;
+                r.levels = UINT64_MAX;
+                r.checked = (uint8_t)(depth * 7);
+                step = ctext_next_run(s, sizeof octets, r);
+                expect((step.run.answer.number == CTEXT_ACCEPTED) == shown, "a reader of runs", s, 3);
+                expect(shown || step.run.start == step.run.end, "no run", s, 3);
+                expect(good || (step.run.answer.number == CTEXT_BAD_UNIT && step.reader.place == place),
+                       "a bad reader of runs", s, 3);
+            }
+    free(s);
+}
+
 /* Sixteen directions open, and a seventeenth. */
 static void try_depth(void)
 {
@@ -345,6 +395,8 @@ static void try_limits(void)
         expect(ctext_check(s, n).number == expected, "a check at the limit", s, 1);
         expect(ctext_read(s, n, units, most + 1).number == expected, "a list at the limit", s, 1);
         expect(ctext_run(s, n, 0).answer.number == expected, "a run at the limit", s, 1);
+        expect(ctext_next_run(s, n, ctext_open_runs()).run.answer.number == expected,
+               "a run in order at the limit", s, 1);
         expect(ctext_next(s, n, ctext_open()).given == (expected == CTEXT_ACCEPTED),
                "a step at the limit", s, 1);
         units[most] = units[0];
@@ -364,6 +416,7 @@ int main(int argc, char **argv)
     try_elements(most, NULL, 0);
     try_readers();
     try_program();
+    try_run_readers();
     try_depth();
     try_limits();
     printf("bounds: %lu strings, %lu accepted, %lu failures\n", strings, accepted, failures);

@@ -7,6 +7,7 @@ use runs::Bounds;
 
 pub mod lists;
 pub mod printing;
+pub mod running;
 pub mod stepping;
 
 // Whether a string is accepted, and what of it is refused.
@@ -17,7 +18,8 @@ pub extern "C" fn ctext_check(s: &[u8]) -> Answer
     check_string::check(s)
 }
 
-// Where the k-th run of a string lies, and its numbers.
+// Where the k-th run of a string lies, and its numbers. Each call checks the string and reads it up to the run that is asked for: for all
+// runs, `ctext_next_run`.
 #[no_mangle]
 pub extern "C" fn ctext_run(s: &[u8], k: usize) -> Bounds
     ensures { λ r. ⌜ r ≡ runAt (now (s .entry)) k ⌝ }

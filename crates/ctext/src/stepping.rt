@@ -32,7 +32,7 @@ pub struct Handed {
     pub given: u8,
 }
 
-fn flag(b: bool) -> u8
+pub fn flag(b: bool) -> u8
     ensures { λ r. ⌜ r ≡ flagOf b ⌝ }
 {
     if b {

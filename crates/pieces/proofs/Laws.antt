@@ -155,7 +155,7 @@ module _ (s : List ℕ) where
   abbrev StateLater : ℕ → State → Piece → Type 0
   StateLater at st q = (i : ℕ) → q .end ≤ i → stateFrom s at st i ≡ stateFrom s (q .end) (q .state) i
 
-  abbrev StateAfter : ℕ → State → Piece → Type 0
+  abbrev pub StateAfter : ℕ → State → Piece → Type 0
   StateAfter at st q = (i : ℕ) → (q .end ≡ at → ⊥) → (i < q .end → stateFrom s at st i ≡ st) × (q .end ≤ i → stateFrom s at st i ≡ stateFrom s (q .end) (q .state) i)
 
   -- an element of k octets
@@ -164,7 +164,7 @@ module _ (s : List ℕ) where
   unfolding pick
   past at st next k i e = (λ h. e ∙ rw (lt-ltb i (at + k) h), λ h. e ∙ rw (le-ltb i (at + k) h))
 
-  state-after : (at : ℕ) (st : State) (e : Element) → elementAt s at st ≡ e → StateAfter at st (pieceOf s at e)
+  pub state-after : (at : ℕ) (st : State) (e : Element) → elementAt s at st ≡ e → StateAfter at st (pieceOf s at e)
   unfolding pieceOf stateAt
   state-after at st End is i n = absurd (n refl)
   state-after at st (Refused r o) is i n = absurd (n refl)
@@ -172,7 +172,7 @@ module _ (s : List ℕ) where
   state-after at st (Found p next) is i n = past at st next (size p) i (ap (λ (x : Elements). stateAt st x i) (at-passed s at st _ refl found is))
 
   -- at the place itself
-  first-state : (at : ℕ) (st : State) (e : Element) → elementAt s at st ≡ e → stateFrom s at st at ≡ st
+  pub first-state : (at : ℕ) (st : State) (e : Element) → elementAt s at st ≡ e → stateFrom s at st at ≡ st
   unfolding pieceOf stateAt
   first-state at st End is = ap (λ (x : Elements). stateAt st x at) (at-end s at st _ refl is)
   first-state at st (Refused r o) is = ap (λ (x : Elements). stateAt st x at) (at-refused s at st _ refl is)

@@ -52,11 +52,11 @@ repeats k r i e =
     ap itemAt (stays k r m) ∙ ap (λ (t : Stepped). t .item) e
 
 -- ---- where a reader may stand
-may-stand : (n place : ℕ) (st : State) → place ≤ n → Fit st → mayStand n place st ≡ true
+pub may-stand : (n place : ℕ) (st : State) → place ≤ n → Fit st → mayStand n place st ≡ true
 unfolding mayStand pick
 may-stand n place st h f = rw (le-ltb n place h, f .left, f .right) (le-leb (st .directions .depth) limit.depth (f .depth))
 
-fresh-fit : Fit fresh
+pub fresh-fit : Fit fresh
 unfolding allowed mayUse
 fresh-fit = record { left = refl; right = refl; depth = omega arith }
 

@@ -37,7 +37,7 @@ pub struct Stepped {
 }
 
 // Whether a reader may stand at a place of a string of so many octets, under a state.
-fn may_stand(octets: usize, place: usize, state: State) -> bool
+pub fn may_stand(octets: usize, place: usize, state: State) -> bool
     ensures { λ r. ⌜ r ≡ mayStand octets place state ⌝ }
 {
     if octets < place {

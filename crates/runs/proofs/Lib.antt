@@ -1,3 +1,5 @@
 pub mod Turn
+pub mod Steps
+pub mod InOrder
 pub mod Lies
 pub mod Table

@@ -62,12 +62,12 @@ unfolding from runsOf piecesOf
 head-first s k = record { within = zero-le; starts = zero-le; ends = refl; counts = ap (nthOf (length s) k) (no-run-first (rest s 0 fresh)) }
 
 module _ (s : List ℕ) (at : ℕ) (st : State) (last : Piece) where
-  alone : rest s at st ≡ [] → joined last (rest s at st) ≡ last ∷ []
+  pub alone : rest s at st ≡ [] → joined last (rest s at st) ≡ last ∷ []
   unfolding joined
   alone e = rw e
 
   -- a piece that is not of one run with the next stands by itself
-  apart : {q : Piece} → Step s at st q → sameRunOf (last .kind) (q .kind) ≡ false → joined last (rest s at st) ≡ last ∷ rest s at st
+  pub apart : {q : Piece} → Step s at st q → sameRunOf (last .kind) (q .kind) ≡ false → joined last (rest s at st) ≡ last ∷ rest s at st
   apart (stops e x) f = alone e ∙ ap (λ (ps : List Piece). last ∷ ps) (sym e)
   apart (goes {q} b l u e x) f = rw e (joined-apart last q (rest s (q .end) (q .state)) f)
 
@@ -109,12 +109,12 @@ module _ (s : List ℕ) (at : ℕ) (st : State) (last : Piece) where
         rw (z, extended-apart last q f, e, joined-apart last q (rest s (q .end) (q .state)) f, runs-other last (joined q (rest s (q .end) (q .state))) r)
 
 -- the piece that is read last, once the next is read: it ends where that does, and does not start later
-extends-by : (last q : Piece) (at : ℕ) → last .start ≤ at → q .start ≡ at → at < q .end → Followed (last .kind) (q .kind) → (extendedTo last q .start ≤ q .end) × (extendedTo last q .end ≡ q .end)
+pub extends-by : (last q : Piece) (at : ℕ) → last .start ≤ at → q .start ≡ at → at < q .end → Followed (last .kind) (q .kind) → (extendedTo last q .start ≤ q .end) × (extendedTo last q .end ≡ q .end)
 extends-by last q at h b l (same r i f g) = rw (extended-same last q f) (omega arith, refl)
 extends-by last q at h b l (over r f g) = rw (extended-apart last q f) (omega arith, refl)
 extends-by last q at h b l (other r f g) = rw (extended-apart last q f) (omega arith, refl)
 
-moves : {s : List ℕ} {at : ℕ} {st : State} {q : Piece} → Step s at st q → (q .end ≡ at → ⊥) → (q .start ≡ at) × ((at < q .end) × (q .end ≤ length s))
+pub moves : {s : List ℕ} {at : ℕ} {st : State} {q : Piece} → Step s at st q → (q .end ≡ at → ⊥) → (q .start ≡ at) × ((at < q .end) × (q .end ≤ length s))
 moves (stops e x) i = absurd (i refl)
 moves (goes b m u e x) i = (b, (m, u))
 

@@ -1,4 +1,4 @@
-// Runs: the stretches of text of one side, asked for by number.
+// Runs: the stretches of text of one side, asked for by number; `stepping` has them one after the other.
 ghost use mathlib.Core.Path.{_≡_};
 ghost use Prim.Native.Nat.{_+_, _-_, _≤_};
 ghost use lib.ListN.{length, getD, take, drop};
@@ -10,6 +10,7 @@ use charset::FORM_94X94;
 use pieces::Piece;
 use state::State;
 
+pub mod stepping;
 pub mod view;
 
 use crate::view::Run;
@@ -103,7 +104,8 @@ fn nth(s: &[u8], k: usize) -> Bounds
     }
 }
 
-// The k-th run of a string: where it lies, and its numbers.
+// The k-th run of a string: where it lies, and its numbers. Each call checks the string and reads it up to the run that is asked for; for
+// all runs of a string there is `stepping::next_run`.
 pub fn run_at(s: &[u8], k: usize) -> Bounds
     ensures { λ r. ⌜ r ≡ runAt (now (s .entry)) k ⌝ }
 {

@@ -279,7 +279,7 @@ pub fn pattern_octet(place: usize) -> u8 {
     (place as u8).wrapping_mul(29) ^ 0xC6
 }
 
-fn show_shown(shown: &Shown) -> String {
+pub fn show_shown(shown: &Shown) -> String {
     let part = match shown.part {
         None => "the empty part".to_string(),
         Some((start, length)) => format!("part of {length} at {start}"),

@@ -5,6 +5,7 @@ use std::ops::Range;
 
 use crate::ffi::{Lent, Library};
 use crate::reader::{self, State};
+use crate::run_steps::{self, RunReader, RunStep};
 use crate::runs::{self, Shown};
 use crate::steps::{self, Handed, Position};
 use crate::unit::*;
@@ -49,6 +50,10 @@ pub enum Fault {
     CountWraps,
     /// A flag is yes only if it is 1.
     FlagIsOne,
+    /// The runs in order of a refused string are shown up to the offence.
+    RunBeforeRefusal,
+    /// A run of GR octets is joined to that of GL octets behind it.
+    RunsJoined,
 }
 
 pub struct Faulty {
@@ -162,6 +167,32 @@ impl Library for Faulty {
         let s = &memory[string];
         let from = self.taken(position);
         self.spoil(s, position, &steps::steps(s, from))
+    }
+
+    fn open_runs(&self) -> RunReader {
+        RunReader::OPENED
+    }
+
+    fn next_run(&self, memory: &mut [u8], string: Range<usize>, reader: RunReader) -> RunStep {
+        let s = &memory[string];
+        let mut step = run_steps::run_steps(s, reader)[0];
+        let early = run_steps::run_steps(
+            s,
+            RunReader {
+                checked: 1,
+                ..reader
+            },
+        )[0];
+        if self.fault == Fault::RunBeforeRefusal && early.shown.part.is_some() {
+            step = early;
+        }
+        if let (Fault::RunsJoined, Some((start, length))) = (self.fault, &mut step.shown.part) {
+            let end = *start + *length;
+            if s[*start] >= 0xA0 && s.get(end).is_some_and(|octet| *octet == 0x20) {
+                *length += 1;
+            }
+        }
+        step
     }
 
     fn write(&self, units: &[Unit], segments: &[u8], work: Lent, out: Lent) -> Answer {

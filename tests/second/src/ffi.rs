@@ -11,6 +11,7 @@
         feature = "read",
         feature = "run",
         feature = "next",
+        feature = "runs",
         feature = "write"
     )),
     allow(dead_code)
@@ -19,6 +20,7 @@
 use std::mem::size_of;
 use std::ops::Range;
 
+use crate::run_steps::{RunReader, RunStep};
 use crate::runs::Shown;
 use crate::steps::{Handed, Position};
 use crate::unit::{Answer, Unit};
@@ -38,6 +40,11 @@ pub trait Library {
     /// mutable so that what a call may not change can be looked at after it.
     fn next(&self, memory: &mut [u8], string: Range<usize>, position: Position) -> Handed;
 
+    fn open_runs(&self) -> RunReader;
+
+    /// As for a step.
+    fn next_run(&self, memory: &mut [u8], string: Range<usize>, reader: RunReader) -> RunStep;
+
     /// Lends the first octets of the work room and of the output; the rest are
     /// guards.
     fn write(&self, units: &[Unit], segments: &[u8], work: Lent, out: Lent) -> Answer;
@@ -56,6 +63,7 @@ pub struct Functions {
     pub read: bool,
     pub run: bool,
     pub next: bool,
+    pub runs: bool,
     pub write: bool,
 }
 
@@ -65,6 +73,7 @@ impl Functions {
         read: false,
         run: false,
         next: false,
+        runs: false,
         write: false,
     };
 }
@@ -75,6 +84,7 @@ pub const LINKED: Functions = Functions {
     read: cfg!(feature = "read"),
     run: cfg!(feature = "run"),
     next: cfg!(feature = "next"),
+    runs: cfg!(feature = "runs"),
     write: cfg!(feature = "write"),
 };
 
@@ -140,9 +150,46 @@ struct CStep {
     given: u8,
 }
 
+#[repr(C)]
+struct CRunReader {
+    levels: u64,
+    place: usize,
+    gl: u8,
+    gr: u8,
+    depth: u8,
+    marked: u8,
+    texted: u8,
+    checked: u8,
+}
+
+/// A reader of runs that is passed, with the octets behind its fields.
+#[repr(C)]
+struct CPassedRunReader {
+    levels: u64,
+    place: usize,
+    gl: u8,
+    gr: u8,
+    depth: u8,
+    marked: u8,
+    texted: u8,
+    checked: u8,
+    behind: [u8; 2],
+}
+
+#[repr(C)]
+struct CRunStep {
+    reader: CRunReader,
+    run: CRun,
+}
+
 /// The header's sizes.
 const _: () = assert!(
     size_of::<CReader>() == 32 && size_of::<CPassedReader>() == 32 && size_of::<CStep>() == 72
+);
+const _: () = assert!(
+    size_of::<CRunReader>() == 24
+        && size_of::<CPassedRunReader>() == 24
+        && size_of::<CRunStep>() == 72
 );
 
 extern "C" {
@@ -151,6 +198,8 @@ extern "C" {
     fn ctext_run(s: *const u8, n: usize, k: usize) -> CRun;
     fn ctext_open() -> CReader;
     fn ctext_next(s: *const u8, n: usize, reader: CPassedReader) -> CStep;
+    fn ctext_open_runs() -> CRunReader;
+    fn ctext_next_run(s: *const u8, n: usize, reader: CPassedRunReader) -> CRunStep;
     fn ctext_write(
         units: *const CUnit,
         count: usize,
@@ -196,13 +245,7 @@ impl Library for Proved {
         let run = unsafe { ctext_run(s.as_ptr(), s.len(), number) };
         #[cfg(not(feature = "run"))]
         let run: CRun = not_linked((s, number));
-        Shown {
-            part: (run.end != run.start).then_some((run.start, run.end.wrapping_sub(run.start))),
-            answer: from_c(run.answer),
-            set: run.set,
-            width: run.width,
-            direction: run.direction,
-        }
+        shown_from_c(run)
     }
 
     fn open(&self) -> Position {
@@ -227,6 +270,29 @@ impl Library for Proved {
             answer: from_c(step.answer),
             unit: unit_from_c(&step.unit),
             given: step.given,
+        }
+    }
+
+    fn open_runs(&self) -> RunReader {
+        #[cfg(feature = "runs")]
+        // Safety: nothing is lent.
+        let reader = unsafe { ctext_open_runs() };
+        #[cfg(not(feature = "runs"))]
+        let reader = not_linked(());
+        run_reader_from_c(reader)
+    }
+
+    fn next_run(&self, memory: &mut [u8], string: Range<usize>, reader: RunReader) -> RunStep {
+        assert!(string.start <= string.end && string.end <= memory.len());
+        let (s, n) = (memory.as_mut_ptr().wrapping_add(string.start), string.len());
+        #[cfg(feature = "runs")]
+        // Safety: so many octets stand at the pointer.
+        let step = unsafe { ctext_next_run(s, n, run_reader_to_c(reader)) };
+        #[cfg(not(feature = "runs"))]
+        let step: CRunStep = not_linked((s, n, run_reader_to_c(reader)));
+        RunStep {
+            reader: run_reader_from_c(step.reader),
+            shown: shown_from_c(step.run),
         }
     }
 
@@ -259,6 +325,7 @@ impl Library for Proved {
     feature = "read",
     feature = "run",
     feature = "next",
+    feature = "runs",
     feature = "write"
 )))]
 fn not_linked<A, B>(_: A) -> B {
@@ -270,6 +337,16 @@ fn from_c(answer: CAnswer) -> Answer {
         number: answer.number,
         place: answer.place,
         count: answer.count,
+    }
+}
+
+fn shown_from_c(run: CRun) -> Shown {
+    Shown {
+        part: (run.end != run.start).then_some((run.start, run.end.wrapping_sub(run.start))),
+        answer: from_c(run.answer),
+        set: run.set,
+        width: run.width,
+        direction: run.direction,
     }
 }
 
@@ -317,5 +394,36 @@ fn position_to_c(position: Position) -> CPassedReader {
         marked: position.marked,
         texted: position.texted,
         behind: [0xA5, 0x5A, 0xC6],
+    }
+}
+
+fn run_reader_from_c(reader: CRunReader) -> RunReader {
+    let at = Position {
+        levels: reader.levels,
+        place: reader.place,
+        count: 0,
+        gl: reader.gl,
+        gr: reader.gr,
+        depth: reader.depth,
+        marked: reader.marked,
+        texted: reader.texted,
+    };
+    RunReader {
+        at,
+        checked: reader.checked,
+    }
+}
+
+fn run_reader_to_c(reader: RunReader) -> CPassedRunReader {
+    CPassedRunReader {
+        levels: reader.at.levels,
+        place: reader.at.place,
+        gl: reader.at.gl,
+        gr: reader.at.gr,
+        depth: reader.at.depth,
+        marked: reader.at.marked,
+        texted: reader.at.texted,
+        checked: reader.checked,
+        behind: [0xA5, 0x5A],
     }
 }

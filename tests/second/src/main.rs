@@ -13,6 +13,8 @@ mod oracle;
 mod positions;
 mod random;
 mod reader;
+mod run_steps;
+mod running;
 mod runs;
 mod session;
 mod sets;
@@ -34,7 +36,7 @@ use ffi::Functions;
 use session::Plan;
 
 const USAGE: &str = "\
-second compare [--long] [--minutes N] [--seed N] [--only check,read,run,next,write]
+second compare [--long] [--minutes N] [--seed N] [--only check,read,run,next,runs,write]
 second answer|units|runs|write   lines of hexadecimal octets on standard input
 second step                      lines `place gl gr directions marked texted handed octets`";
 
@@ -107,7 +109,7 @@ fn number(word: &str) -> Result<u64, String> {
 /// The functions named, as far as they are linked.
 fn only(names: &str) -> Result<Functions, String> {
     let names: Vec<&str> = names.split(',').collect();
-    let known = ["check", "read", "run", "next", "write"];
+    let known = ["check", "read", "run", "next", "runs", "write"];
     if let Some(name) = names.iter().find(|name| !known.contains(name)) {
         return Err(format!("unknown function {name}"));
     }
@@ -116,6 +118,7 @@ fn only(names: &str) -> Result<Functions, String> {
         read: ffi::LINKED.read && names.contains(&"read"),
         run: ffi::LINKED.run && names.contains(&"run"),
         next: ffi::LINKED.next && names.contains(&"next"),
+        runs: ffi::LINKED.runs && names.contains(&"runs"),
         write: ffi::LINKED.write && names.contains(&"write"),
     })
 }

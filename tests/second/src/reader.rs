@@ -84,7 +84,7 @@ impl State {
     }
 
     /// Whether a reader on a string of this length may hold the state.
-    fn is_good(&self, length: usize) -> bool {
+    pub fn is_good(&self, length: usize) -> bool {
         self.place <= length && self.sets.are_good() && self.marks.open.len() <= DEPTH
     }
 }

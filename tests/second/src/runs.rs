@@ -18,10 +18,10 @@ pub struct Run {
 
 /// What an octet of a character or space stands for.
 #[derive(Clone, Copy, PartialEq, Eq)]
-struct Label {
-    side: Side,
-    set: u8,
-    direction: u8,
+pub struct Label {
+    pub side: Side,
+    pub set: u8,
+    pub direction: u8,
 }
 
 /// All runs of an accepted string, or the string's refusal.
@@ -64,7 +64,8 @@ fn labels(s: &[u8]) -> Result<Vec<Option<Label>>, Answer> {
     }
 }
 
-fn label_of(element: &Element, gl: u8, direction: u8) -> Option<Label> {
+/// The label of an element, with the set in GL and the direction in force.
+pub fn label_of(element: &Element, gl: u8, direction: u8) -> Option<Label> {
     let (side, set) = match element.piece {
         Piece::Space => (Side::Gl, gl),
         Piece::Character { side, set, .. } => (side, set),
@@ -96,18 +97,23 @@ pub fn shown(length: usize, runs: &Result<Vec<Run>, Answer>, number: usize) -> S
     };
     match run {
         None => nothing(Answer::refusal(11, 0)),
-        Some(run) => Shown {
-            part: Some((run.start, run.length)),
-            answer: Answer::accepted(length, run.length),
-            set: run.set,
-            width: run.width,
-            direction: run.direction,
-        },
+        Some(run) => shown_run(length, run),
+    }
+}
+
+/// A run of a string of this length.
+pub fn shown_run(length: usize, run: &Run) -> Shown {
+    Shown {
+        part: Some((run.start, run.length)),
+        answer: Answer::accepted(length, run.length),
+        set: run.set,
+        width: run.width,
+        direction: run.direction,
     }
 }
 
 /// The empty part beside a refusal.
-fn nothing(refusal: Answer) -> Shown {
+pub fn nothing(refusal: Answer) -> Shown {
     Shown {
         part: None,
         answer: refusal,

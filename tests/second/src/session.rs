@@ -42,6 +42,9 @@ pub fn compare<L: Library>(library: L, plan: &Plan) -> u64 {
 /// The comparison of one string by some of the functions.
 type StringComparison<L> = fn(&Comparer<L>, &[u8]) -> Compared;
 
+/// The comparison of readers made by hand at a position.
+type ReaderComparison<L> = fn(&Comparer<L>, &[u8], Position) -> Compared;
+
 struct Session<L: Library> {
     comparer: Comparer<L>,
     random: Random,
@@ -192,6 +195,9 @@ impl<L: Library> Session<L> {
             self.stepped += 1;
             self.compare_string(s, Comparer::opened);
         }
+        if self.comparer.functions.runs {
+            self.compare_string(s, Comparer::opened_runs);
+        }
         self.report();
     }
 
@@ -203,12 +209,23 @@ impl<L: Library> Session<L> {
     }
 
     fn reader(&mut self, s: &[u8], position: Position) {
-        if !self.goes_on() || !self.comparer.functions.next {
+        let functions = self.comparer.functions;
+        if !self.goes_on() || !(functions.next || functions.runs) {
             return;
         }
         self.readers += 1;
-        if let Err(first) = self.comparer.reader(s, position) {
-            let (s, position, difference) = self.smallest_reader(s, position, first);
+        if functions.next {
+            self.compare_reader(s, position, Comparer::reader);
+        }
+        if functions.runs {
+            self.compare_reader(s, position, Comparer::run_readers);
+        }
+        self.report();
+    }
+
+    fn compare_reader(&mut self, s: &[u8], position: Position, compare: ReaderComparison<L>) {
+        if let Err(first) = compare(&self.comparer, s, position) {
+            let (s, position, difference) = self.smallest_reader(s, position, compare, first);
             let input = format!(
                 "{}\n  reader: {}",
                 show_string(&s),
@@ -216,7 +233,6 @@ impl<L: Library> Session<L> {
             );
             self.differ(&input, &difference);
         }
-        self.report();
     }
 
     /// Only the writer takes lists.
@@ -254,13 +270,14 @@ impl<L: Library> Session<L> {
         &self,
         s: &[u8],
         position: Position,
+        compare: ReaderComparison<L>,
         first: Difference,
     ) -> (Vec<u8>, Position, Difference) {
-        let differs = |s: &[u8], position| self.comparer.reader(s, position).is_err();
+        let differs = |s: &[u8], position| compare(&self.comparer, s, position).is_err();
         let s = shrink_string(s, |s| differs(s, position));
         let position = positions::simplest(position, |position| differs(&s, position));
         let s = shrink_string(&s, |s| differs(s, position));
-        let difference = self.comparer.reader(&s, position).err();
+        let difference = compare(&self.comparer, &s, position).err();
         (s, position, difference.unwrap_or(first))
     }
 
@@ -354,6 +371,7 @@ mod tests {
             read: true,
             run: true,
             next: true,
+            runs: true,
             write: true,
         };
         let plan = Plan {
@@ -382,7 +400,7 @@ mod tests {
         assert_eq!(session.comparer.opened(s), Ok(()));
         let first = session.comparer.reader(s, position);
         let first = first.expect_err("a difference");
-        let (s, position, _) = session.smallest_reader(s, position, first);
+        let (s, position, _) = session.smallest_reader(s, position, Comparer::reader, first);
         (s, position)
     }
 
@@ -448,10 +466,20 @@ mod tests {
         assert_eq!(call, "ctext_next number 0");
         let (smallest, call) = found(Fault::WritesBehind, &s);
         assert_eq!(smallest, []);
-        assert_eq!(
-            call,
-            "ctext_next, the string among its guards after all calls"
-        );
+        assert_eq!(call, "the string among its guards after all calls");
+    }
+
+    #[test]
+    fn faults_of_runs_in_order_are_found_and_shrunk() {
+        let s = [0x41, 0x1B, 0x2D, 0x42, 0xB0, 0x20, 0x09, 0x42];
+        let refused = [0x41, 0x41, 0x20, 0x1B, 0x28];
+        let found = |fault, s: &[u8]| smallest_by(Comparer::opened_runs, fault, s);
+        let (smallest, call) = found(Fault::RunBeforeRefusal, &refused);
+        assert_eq!(smallest, [0x20, 0x1B]);
+        assert_eq!(call, "ctext_next_run number 0");
+        let (smallest, call) = found(Fault::RunsJoined, &s);
+        assert_eq!(smallest, [0xB0, 0x20]);
+        assert_eq!(call, "ctext_next_run number 0");
     }
 
     #[test]

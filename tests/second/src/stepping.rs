@@ -12,8 +12,8 @@ const GUARD: usize = 5;
 
 /// The octets behind the string, which would complete most elements that its
 /// end cuts: as a second octet in GR; as one in GL, a final, or a mark's end.
-const IN_GR: u8 = 0xC6;
-const IN_GL: u8 = 0x5D;
+pub const IN_GR: u8 = 0xC6;
+pub const IN_GL: u8 = 0x5D;
 
 /// A call, and what it handed back.
 struct Call {
@@ -81,14 +81,14 @@ fn meant(handed: Handed) -> Handed {
 }
 
 /// A string among octets that are not lent.
-struct Memory {
-    octets: Vec<u8>,
-    string: Range<usize>,
+pub struct Memory {
+    pub octets: Vec<u8>,
+    pub string: Range<usize>,
     behind: u8,
 }
 
 impl Memory {
-    fn around(s: &[u8], behind: u8) -> Memory {
+    pub fn around(s: &[u8], behind: u8) -> Memory {
         let mut octets = Vec::with_capacity(s.len() + 2 * GUARD);
         octets.extend((0..GUARD).map(pattern_octet));
         octets.extend_from_slice(s);
@@ -100,9 +100,9 @@ impl Memory {
         }
     }
 
-    fn is_untouched(&self, s: &[u8]) -> Compared {
+    pub fn is_untouched(&self, s: &[u8]) -> Compared {
         let before = Memory::around(s, self.behind);
-        let call = || "ctext_next, the string among its guards after all calls".to_string();
+        let call = || "the string among its guards after all calls".to_string();
         same(before.octets, self.octets.clone(), call, |o| show_octets(o))
     }
 }

@@ -42,7 +42,7 @@ impl Position {
     }
 
     /// What the position means to the rules.
-    fn state(&self) -> State {
+    pub fn state(&self) -> State {
         State {
             place: self.place,
             sets: Sets {
@@ -70,7 +70,7 @@ impl Position {
     }
 
     /// The position as a step gives it.
-    fn of(state: &State) -> Position {
+    pub fn of(state: &State) -> Position {
         let open = &state.marks.open;
         Position {
             levels: open.iter().fold(0, |levels, direction| {

@@ -1,0 +1,12 @@
+-- `running::position_in` meets its contract, field by field.
+use mathlib.Core.Path.{refl}
+use Rattle.ctext.specs.Running.{positionIn}
+use Rattle.ctext.proofs.running.position_in.Statement.{statement}
+use Rattle.ctext.proofs.running.position_in.Tie as tie
+
+returns : tie.Need-returns
+unfolding positionIn
+returns c = refl
+
+pub position-in-spec : {M : Type 1} → statement M
+position-in-spec = tie.close (tie.spec returns)

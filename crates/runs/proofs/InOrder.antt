@@ -1,0 +1,274 @@
+-- The runs one after the other, from the first position on, are those by number (`in-order`). Each piece of a string is followed by the pieces
+-- from its end on, read with the state there (`cuts`); so a step from a position of an accepted string shows the first of the runs that are
+-- left, and the runs that are left after it are the others (`one-step`). Of a refused string each step answers the refusal and stays.
+use Prim.Native.Nat.{ℕ, zero, suc, _+_, _-_, _≤_, _<_, zero-le}
+use native.Mathlib.Omega.{arith}
+use native.Mathlib.Nat.{not-suc-le-zero}
+use mathlib.Core.Path.{_≡_, refl, ap, sym, _∙_}
+use mathlib.Core.Bool.{Bool, true, false, false≢true}
+use mathlib.Core.List.{List, [], _∷_}
+use lib.Dec.{eqb, ltb}
+use lib.ListN.{length}
+use borrow.Author.Tests.{eqb-true, ltb-false, le-ltb}
+use Rattle.base.specs.Answers.{refusedAt}
+use Rattle.base.specs.Choice.{pick, from}
+use Rattle.base.specs.Limit as limit
+use Rattle.base.specs.Refusal as refusal
+use Rattle.base.specs.declared.Answer.{Answer}
+use Rattle.element.proofs.Sizes.{Fit}
+use Rattle.grammar.specs.Reading.{elements, answerOf, checkOf, noneRefused}
+use Rattle.grammar.proofs.Places.{Ahead, ends, passes, reads, ahead, ahead-from, step-silent, step-found}
+use Rattle.grammar.proofs.Places as places
+use Rattle.reader.specs.Step.{mayStand}
+use Rattle.reader.proofs.Whole.{may-stand, fresh-fit}
+use Rattle.state.specs.State.{fresh}
+use Rattle.state.specs.declared.State.{State}
+use Rattle.state.specs.declared.elements.Element.{Element}
+use Rattle.state.specs.declared.elements.Element.the-variants.{End, Refused, Silent, Found}
+use Rattle.pieces.specs.Pieces.{pieceOf, isRun, sameRunOf, longer, joined, piecesFrom, piecesOf}
+use Rattle.pieces.specs.declared.Piece.{Piece}
+use Rattle.pieces.proofs.Laws.{StateAfter, stateFrom, state-after, first-state}
+use Rattle.pieces.proofs.Step.{Step, stops, goes, step, elementAt, pieceAt, rest, noRefusal}
+use Rattle.runs.specs.Runs.{runsIn, runsOf, shownOf, noRun, nthOf, runAt}
+use Rattle.runs.specs.Steps.{firstPosition, stays, stepTo, stopAt, lastOf, firstOf, runFrom, checkedFrom, nextRunOf, positionAfter}
+use Rattle.runs.specs.declared.stepping.RunPosition.{RunPosition}
+use Rattle.runs.specs.declared.stepping.RunStep.{RunStep}
+use Rattle.runs.proofs.Turn.{runs-first, runs-other}
+use Rattle.runs.proofs.Steps.{first-run, first-other, lastFrom}
+
+-- ---- the pieces that follow a piece
+
+-- pieces are those from a place on, in the state there; ok says whether no element is refused from there on
+record Cut (s : List ℕ) (there : ℕ → State) (ok : Bool) (at : ℕ) (ps : List Piece) : Type 0 where
+  follows : ps ≡ rest s at (there at)
+  clear : noRefusal s at (there at) ≡ ok
+  within : at ≤ length s
+  fit : Fit (there at)
+
+data Cuts (s : List ℕ) (there : ℕ → State) (ok : Bool) : List Piece → Type 0 where
+  nil : Cuts s there ok []
+  cut : {p : Piece} {ps : List Piece} → Cut s there ok (p .end) ps → Cuts s there ok ps → Cuts s there ok (p ∷ ps)
+
+module _ (s : List ℕ) (there : ℕ → State) (ok : Bool) where
+  cuts-by : (t : Bool) (q r : Piece) (rs : List Piece) → Cut s there ok (q .end) (r ∷ rs) → Cut s there ok (r .end) rs → Cuts s there ok rs
+      → Cuts s there ok (pick t (longer q r ∷ rs) (q ∷ r ∷ rs))
+  unfolding pick
+  cuts-by true q r rs c d h = cut {p = longer q r} d h
+  cuts-by false q r rs c d h = cut c (cut d h)
+
+  cuts-joined : (q : Piece) (ps : List Piece) → Cut s there ok (q .end) ps → Cuts s there ok ps → Cuts s there ok (joined q ps)
+  unfolding joined
+  cuts-joined q [] c nil = cut c nil
+  cuts-joined q (r ∷ rs) c (cut d h) = cuts-by (sameRunOf (q .kind) (r .kind)) q r rs c d h
+
+  -- the states from a place on
+  abbrev Agrees : ℕ → State → Type 0
+  Agrees at st = (i : ℕ) → at ≤ i → there i ≡ stateFrom s at st i
+
+  fit-piece : (at : ℕ) (st : State) (e : Element) → elementAt s at st ≡ e → Fit st → Fit (pieceOf s at e .state)
+  unfolding pieceOf
+  fit-piece at st End is f = fresh-fit
+  fit-piece at st (Refused n o) is f = fresh-fit
+  fit-piece at st (Silent k next) is f = step-silent s at st (Silent k next) (sym is) refl .fit f
+  fit-piece at st (Found p next) is f = step-found s at st (Found p next) (sym is) refl .fit f
+
+  cuts-step : (n at : ℕ) (st : State) {q : Piece} → Step s at st q → Fit (q .state) → StateAfter s at st q → length s - at < suc n → Agrees at st → noRefusal s at st ≡ ok
+      → ((b : ℕ) (next : State) → Fit next → length s - b < n → Agrees b next → noRefusal s b next ≡ ok → Cuts s there ok (rest s b next)) → Cuts s there ok (rest s at st)
+  cuts-step n at st (stops e x) f after k a o go = rw e nil
+  cuts-step n at st (goes {q} b l u e x) f after k a o go =
+      let later : Agrees (q .end) (q .state) = λ i h. a i (omega arith) ∙ after i (λ z. absurd (omega arith)) .1 h in
+      let is : there (q .end) ≡ q .state = later (q .end) (omega arith) ∙ first-state s (q .end) (q .state) (elementAt s (q .end) (q .state)) refl in
+      let clear : noRefusal s (q .end) (q .state) ≡ ok = sym x ∙ o in
+      rw e (cuts-joined q (rest s (q .end) (q .state))
+      (record {
+        follows = ap (rest s (q .end)) (sym is);
+        clear = ap (noRefusal s (q .end)) is ∙ clear;
+        within = u;
+        fit = rw is f;
+      })
+      (go (q .end) (q .state) f (omega arith) later clear))
+
+  cuts : (n at : ℕ) (st : State) → Fit st → length s - at < n → Agrees at st → noRefusal s at st ≡ ok → Cuts s there ok (rest s at st)
+  cuts zero at st f k a o = absurd (not-suc-le-zero k)
+  cuts (suc n) at st f k a o =
+      cuts-step n at st (step s at st) (fit-piece at st (elementAt s at st) refl f) (state-after s at st (elementAt s at st) refl) k a o (λ b next g h i j. cuts n b next g h i j)
+
+-- ---- a step among pieces: no run is left, or the first is shown
+
+data Walked (s : List ℕ) (there : ℕ → State) (ok : Bool) (none : RunStep) (ps : List Piece) (r : RunStep) : Type 0 where
+  over : runsIn ps ≡ [] → r ≡ none → Walked s there ok none ps r
+  shows : {p : Piece} {rest-of : List Piece} → runsIn ps ≡ p ∷ runsIn rest-of → Cut s there ok (p .end) rest-of
+      → r ≡ stepTo (p .end) (there (p .end)) (shownOf (length s) p) → Walked s there ok none ps r
+
+module _ (s : List ℕ) (there : ℕ → State) (ok : Bool) (none : RunStep) where
+  passed : (p : Piece) (ps : List Piece) → isRun (p .kind) ≡ false → Walked s there ok none ps (firstOf (length s) there none ps)
+      → Walked s there ok none (p ∷ ps) (firstOf (length s) there none (p ∷ ps))
+  passed p ps e (over x y) = over (runs-other p ps e ∙ x) (first-other (length s) there none p ps e ∙ y)
+  passed p ps e (shows x c y) = shows (runs-other p ps e ∙ x) c (first-other (length s) there none p ps e ∙ y)
+
+  walked : (ps : List Piece) → Cuts s there ok ps → Walked s there ok none ps (firstOf (length s) there none ps)
+  unfolding firstOf runsIn
+  walked [] nil = over refl refl
+  walked (p ∷ ps) (cut c h) = by (isRun (p .kind)) refl (walked ps h)
+    where
+      by : (t : Bool) → isRun (p .kind) ≡ t → Walked s there ok none ps (firstOf (length s) there none ps) → Walked s there ok none (p ∷ ps) (firstOf (length s) there none (p ∷ ps))
+      by true e w = shows (runs-first p ps e) c (first-run (length s) there none p ps e)
+      by false e w = passed p ps e w
+
+-- ---- the end of an accepted string
+
+-- a step that answers 11 at 0, to a place from which no run follows
+record Done (s : List ℕ) (r : RunStep) : Type 0 where
+  place : ℕ
+  state : State
+  is : r ≡ stepTo place state (noRun (refusedAt refusal.bad-unit 0))
+  within : place ≤ length s
+  fit : Fit state
+  empty : rest s place state ≡ []
+  clear : noRefusal s place state ≡ true
+
+last-done : (s : List ℕ) {at : ℕ} {st : State} {es : List Element} → Ahead s at st es → at ≤ length s → Fit st → noneRefused es ≡ true → Done s (lastOf at st es)
+unfolding lastOf stopAt noneRefused piecesFrom
+last-done s {at} {st} (ends e) h f n =
+    record { place = at; state = st; is = refl; within = h; fit = f; empty = ap (piecesFrom s at) e; clear = ap noneRefused e }
+last-done s (places.stops g e) h f n = absurd (false≢true n)
+last-done s (passes t e a) h f n = last-done s a (t .fits) (t .fit f) n
+last-done s (reads t m e a) h f n = last-done s a (t .fits) (t .fit f) n
+
+-- elements that answer 0 are not refused
+none-refused : (s : List ℕ) {at : ℕ} {st : State} {es : List Element} → Ahead s at st es → (count : ℕ) → answerOf at count es .number ≡ refusal.accepted → noneRefused es ≡ true
+unfolding answerOf noneRefused
+none-refused s (ends e) count h = refl
+none-refused s (places.stops {n = n} g e) count h = absurd (let z : n ≡ 0 = h in omega arith)
+none-refused s (passes t e a) count h = none-refused s a count h
+none-refused s (reads t m e a) count h = none-refused s a (count + 1) h
+
+-- ---- the steps of an accepted string
+
+-- what a check that accepts says
+record Good (s : List ℕ) : Type 0 where
+  accepted : eqb (checkOf s .number) refusal.accepted ≡ true
+  short : length s ≤ limit.octets
+  clear : noRefusal s 0 fresh ≡ true
+
+good : (s : List ℕ) → eqb (checkOf s .number) refusal.accepted ≡ true → Good s
+unfolding checkOf pick from
+good s e = by (ltb limit.octets (length s)) refl
+  where
+    by : (b : Bool) → ltb limit.octets (length s) ≡ b → Good s
+    by true l = absurd (let z : _≡_ {A = ℕ} 1 0 = rw l at (eqb-true (checkOf s .number) refusal.accepted e) in omega arith)
+    by false l =
+        let z = rw l at (eqb-true (checkOf s .number) refusal.accepted e) in
+        record { accepted = e; short = ltb-false limit.octets (length s) l; clear = none-refused s (ahead-from s 0 fresh) 0 z }
+
+-- a position from which the runs are those of the string from number k on
+record Stands (s : List ℕ) (k : ℕ) (p : RunPosition) : Type 0 where
+  within : p .place ≤ length s
+  fit : Fit (p .state)
+  clear : noRefusal s (p .place) (p .state) ≡ true
+  runs : (j : ℕ) → nthOf (length s) j (runsIn (rest s (p .place) (p .state))) ≡ nthOf (length s) (k + j) (runsOf s)
+
+-- the k-th run is shown, and the position then stands before the next
+record Stepped (s : List ℕ) (k : ℕ) (r : RunStep) : Type 0 where
+  shown : r .run ≡ nthOf (length s) k (runsOf s)
+  after : Stands s (suc k) (r .position)
+
+module _ (s : List ℕ) (g : Good s) (k : ℕ) (p : RunPosition) (h : Stands s k p) where
+  known-by : (b : Bool) → p .checked ≡ b → checkedFrom s p ≡ runFrom s (p .place) (p .state)
+  unfolding checkedFrom pick
+  known-by true e = rw e
+  known-by false e = rw (e, g .accepted)
+
+  is-run : nextRunOf s p ≡ runFrom s (p .place) (p .state)
+  unfolding nextRunOf pick
+  is-run =
+      rw (le-ltb limit.octets (length s) (g .short), may-stand (length s) (p .place) (p .state) (h .within) (h .fit))
+      (known-by (p .checked) refl)
+
+  abbrev left : List Piece
+  left = rest s (p .place) (p .state)
+
+  abbrev there : ℕ → State
+  there = stateFrom s (p .place) (p .state)
+
+  one-by : {r : RunStep} → Done s (lastFrom s (p .place) (p .state)) → Walked s there true (lastFrom s (p .place) (p .state)) left r → Stepped s k r
+  unfolding nthOf runsIn
+  one-by d (over x y) =
+      let none : (j : ℕ) → nthOf (length s) (k + j) (runsOf s) ≡ noRun (refusedAt refusal.bad-unit 0) = λ j. sym (h .runs j) ∙ ap (nthOf (length s) j) x in
+      let is = y ∙ d .is in
+      let n : k + 0 ≡ k = omega arith in
+      rw is (record {
+        shown = sym (rw n at (none 0));
+        after = record {
+          within = d .within;
+          fit = d .fit;
+          clear = d .clear;
+          runs = λ j. let m : k + suc j ≡ suc k + j = omega arith in rw (d .empty) (sym (rw m at (none (suc j))));
+        };
+      })
+  one-by d (shows x c y) =
+      let n : k + 0 ≡ k = omega arith in
+      let first : nthOf (length s) 0 (runsIn left) ≡ nthOf (length s) k (runsOf s) = rw n at (h .runs 0) in
+      rw y (record {
+        shown = sym (ap (nthOf (length s) 0) x) ∙ first;
+        after = record {
+          within = c .within;
+          fit = c .fit;
+          clear = c .clear;
+          runs = λ j.
+              let m : k + suc j ≡ suc k + j = omega arith in
+              ap (λ (ps : List Piece). nthOf (length s) j (runsIn ps)) (sym (c .follows)) ∙ (sym (ap (nthOf (length s) (suc j)) x) ∙ rw m at (h .runs (suc j)));
+        };
+      })
+
+  one-step : Stepped s k (nextRunOf s p)
+  one-step =
+      rw is-run (one-by (last-done s (ahead-from s (p .place) (p .state)) (h .within) (h .fit) (h .clear))
+      (walked s there true (lastFrom s (p .place) (p .state)) left
+      (cuts s there true (suc (length s)) (p .place) (p .state) (h .fit) (omega arith) (λ i l. refl) (h .clear))))
+
+module _ (s : List ℕ) (g : Good s) where
+  stands-first : Stands s 0 firstPosition
+  unfolding runsOf piecesOf from
+  stands-first = record { within = zero-le; fit = fresh-fit; clear = g .clear; runs = λ j. let n : 0 + j ≡ j = omega arith in rw n }
+
+  stands : (k : ℕ) → Stands s k (positionAfter s k)
+  unfolding positionAfter
+  stands zero = stands-first
+  stands (suc k) = one-step s g k (positionAfter s k) (stands k) .after
+
+  accepted-runs : (k : ℕ) → nextRunOf s (positionAfter s k) .run ≡ nthOf (length s) k (runsOf s)
+  accepted-runs k = one-step s g k (positionAfter s k) (stands k) .shown
+
+-- ---- a refused string: each step from the first position on stays
+
+module _ (s : List ℕ) (no : eqb (checkOf s .number) refusal.accepted ≡ false) where
+  refused-by : (b : Bool) → ltb limit.octets (length s) ≡ b → nextRunOf s firstPosition ≡ stays firstPosition (checkOf s)
+  unfolding nextRunOf checkedFrom checkOf pick
+  refused-by true l = rw l
+  refused-by false l =
+      let m : mayStand (length s) 0 fresh ≡ true = may-stand (length s) 0 fresh zero-le fresh-fit in
+      let n = rw l at no in
+      rw (l, m, n)
+
+  refused-first : nextRunOf s firstPosition ≡ stays firstPosition (checkOf s)
+  refused-first = refused-by (ltb limit.octets (length s)) refl
+
+  refused-stays : (k : ℕ) → positionAfter s k ≡ firstPosition
+  unfolding positionAfter
+  refused-stays zero = refl
+  refused-stays (suc k) = ap (λ (p : RunPosition). nextRunOf s p .position) (refused-stays k) ∙ ap (λ (r : RunStep). r .position) refused-first
+
+  refused-runs : (k : ℕ) → nextRunOf s (positionAfter s k) .run ≡ noRun (checkOf s)
+  refused-runs k = ap (λ (p : RunPosition). nextRunOf s p .run) (refused-stays k) ∙ ap (λ (r : RunStep). r .run) refused-first
+
+-- ---- every string
+
+by-check : (s : List ℕ) (k : ℕ) (b : Bool) → eqb (checkOf s .number) refusal.accepted ≡ b → nextRunOf s (positionAfter s k) .run ≡ runAt s k
+unfolding runAt pick
+by-check s k true e = rw e (accepted-runs s (good s e) k)
+by-check s k false e = rw e (refused-runs s e k)
+
+-- the run of the step after k steps is the k-th run; past the last run, and of a refused string, each step repeats the answer
+pub in-order : (s : List ℕ) (k : ℕ) → nextRunOf s (positionAfter s k) .run ≡ runAt s k
+in-order s k = by-check s k (eqb (checkOf s .number) refusal.accepted) refl

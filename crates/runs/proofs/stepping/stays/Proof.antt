@@ -1,0 +1,15 @@
+-- `stepping::stays` meets its contract, by what `no_run` ensures.
+use mathlib.Core.Path.{ap}
+use Rattle.runs.specs.Steps.{runStep}
+use borrow.Author.Needs.{needs}
+use Rattle.runs.proofs.stepping.stays.Statement.{statement}
+use Rattle.runs.proofs.stepping.stays.Tie as tie
+
+no-run-requires : tie.Need-no-run-requires
+no-run-requires c κs = search needs
+
+returns : tie.Need-returns
+returns c = ap (runStep _) (c .no-run .ensures)
+
+pub stays-spec : {M : Type 1} → statement M
+stays-spec = tie.close (tie.spec no-run-requires returns)

@@ -1,0 +1,107 @@
+-- `stepping::stop_at` meets its contract, element by element; the place of a refusal lies in the string.
+use native.Mathlib.Omega.{arith}
+use mathlib.Core.Path.{sym, ap, _∙_}
+use Rattle.grammar.proofs.Places.{refused-within}
+use Rattle.runs.specs.Steps.{stopAt}
+use borrow.Author.Needs.{needs}
+use Rattle.runs.proofs.stepping.stop_at.Statement.{statement}
+use Rattle.runs.proofs.stepping.stop_at.Tie as tie
+
+refused-requires : tie.Need-refused-requires
+refused-requires c κs = search needs
+
+element-requires : tie.Need-element-requires
+element-requires c κs = search needs
+
+enum-told : tie.Need-enum-told
+enum-told c = search needs
+
+no-run-requires : tie.Need-no-run-requires
+no-run-requires c κs = search needs
+
+step-to-requires : tie.Need-step-to-requires
+step-to-requires c κs = search needs
+
+enum-known-e : tie.Need-enum-known-e
+enum-known-e c = search needs
+
+add-place : tie.Need-add-place
+add-place c =
+    let h = refused-within _ _ _ _ (c .before .before .before .element .ensures) (c .before .e .given .1) in
+    omega arith
+
+refused-requires-2 : tie.Need-refused-requires-2
+refused-requires-2 c κs = search needs
+
+no-run-requires-2 : tie.Need-no-run-requires-2
+no-run-requires-2 c κs = search needs
+
+step-to-requires-2 : tie.Need-step-to-requires-2
+step-to-requires-2 c κs = search needs
+
+enum-known-e-2 : tie.Need-enum-known-e-2
+enum-known-e-2 c = search needs
+
+no-run-requires-3 : tie.Need-no-run-requires-3
+no-run-requires-3 c κs = search needs
+
+step-to-requires-3 : tie.Need-step-to-requires-3
+step-to-requires-3 c κs = search needs
+
+enum-known-e-3 : tie.Need-enum-known-e-3
+enum-known-e-3 c = search needs
+
+no-run-requires-4 : tie.Need-no-run-requires-4
+no-run-requires-4 c κs = search needs
+
+step-to-requires-4 : tie.Need-step-to-requires-4
+step-to-requires-4 c κs = search needs
+
+returns : tie.Need-returns
+unfolding stopAt
+returns c =
+    rw (c .step-to .ensures, c .before .no-run .ensures, c .before .before .before .before .before .refused .ensures)
+    (ap (stopAt _ _) (sym (c .before .before .enum-told .given .1) ∙ c .before .before .before .before .element .ensures))
+
+returns-2 : tie.Need-returns-2
+unfolding stopAt
+returns-2 c =
+    rw (c .step-to2 .ensures, c .before .no-run2 .ensures, c .before .before .refused2 .ensures)
+    (ap (stopAt _ _) (sym (c .before .before .before .before .e .given .1) ∙ c .before .before .before .before .before .before .element .ensures))
+
+returns-3 : tie.Need-returns-3
+unfolding stopAt
+returns-3 c =
+    rw (c .step-to3 .ensures, c .before .no-run3 .ensures, c .before .before .before .before .before .before .refused .ensures)
+    (ap (stopAt _ _) (sym (c .before .before .before .e2 .given .1) ∙ c .before .before .before .before .before .element .ensures))
+
+returns-4 : tie.Need-returns-4
+unfolding stopAt
+returns-4 c =
+    rw (c .step-to4 .ensures, c .before .no-run4 .ensures, c .before .before .before .before .before .before .refused .ensures)
+    (ap (stopAt _ _) (sym (c .before .before .before .e3 .given .1) ∙ c .before .before .before .before .before .element .ensures))
+
+pub stop-at-spec : {M : Type 1} → statement M
+stop-at-spec =
+    tie.close
+    (tie.spec
+    refused-requires
+    element-requires
+    enum-told
+    no-run-requires
+    step-to-requires
+    enum-known-e
+    add-place
+    refused-requires-2
+    no-run-requires-2
+    step-to-requires-2
+    enum-known-e-2
+    no-run-requires-3
+    step-to-requires-3
+    enum-known-e-3
+    no-run-requires-4
+    step-to-requires-4
+    returns
+    returns-2
+    returns-3
+    returns-4)
