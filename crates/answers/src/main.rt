@@ -68,7 +68,7 @@ fn print_answer(a: Answer) {
 fn show(line: &[u8]) {
     let mut space = io::buffer();
     let n = octets_of(line, &mut space);
-    let a = check_string::check(&space[..n]);
+    let a = check_string::answer(&space[..n]);
     io::write_all(1, line);
     io::write_all(1, b"  ");
     print_answer(a);
@@ -78,9 +78,9 @@ fn show(line: &[u8]) {
 fn show_longest() {
     let space = [0x20u8; 65536];
     io::write_all(1, b"65535 spaces\n  ");
-    print_answer(check_string::check(&space[..65535]));
+    print_answer(check_string::answer(&space[..65535]));
     io::write_all(1, b"65536 spaces\n  ");
-    print_answer(check_string::check(&space));
+    print_answer(check_string::answer(&space));
 }
 
 fn show_lines(text: &[u8]) {

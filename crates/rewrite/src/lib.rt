@@ -38,7 +38,7 @@ pub fn shortest(s: &[u8], work: &mut [u8], out: &mut [u8]) -> Answer
         × (now (out .exit) ≡ shortestOutput (now (s .entry)) (length (now (work .entry))) (now (out .entry)))
         × (length (now (work .exit)) ≡ length (now (work .entry))) ⌝ }
 {
-    let a = check_string::check(s);
+    let a = check_string::answer(s);
     if a.number == refusal::ACCEPTED {
         let n = a.count;
         let progress = stow(s, n, work);

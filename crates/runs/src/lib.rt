@@ -109,7 +109,7 @@ fn nth(s: &[u8], k: usize) -> Bounds
 pub fn run_at(s: &[u8], k: usize) -> Bounds
     ensures { λ r. ⌜ r ≡ runAt (now (s .entry)) k ⌝ }
 {
-    let answer = check_string::check(s);
+    let answer = check_string::answer(s);
     if answer.number == refusal::ACCEPTED {
         return nth(s, k);
     }

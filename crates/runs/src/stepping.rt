@@ -105,7 +105,7 @@ fn checked_from(s: &[u8], p: RunPosition) -> RunStep
     if p.checked {
         return run_from(s, p.place, p.state);
     }
-    let answer = check_string::check(s);
+    let answer = check_string::answer(s);
     if answer.number == refusal::ACCEPTED {
         return run_from(s, p.place, p.state);
     }

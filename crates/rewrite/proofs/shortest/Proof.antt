@@ -6,11 +6,11 @@ use borrow.Author.Needs.{needs}
 use Rattle.rewrite.proofs.shortest.Statement.{statement}
 use Rattle.rewrite.proofs.shortest.Tie as tie
 
-check-requires : tie.Need-check-requires
-check-requires c κs = search needs
+answer-requires : tie.Need-answer-requires
+answer-requires c κs = search needs
 
 stow-requires : tie.Need-stow-requires
-stow-requires c κs = (accepts _ _ (c .before .before .before .check .ensures) (c .before .if1 .taken), counts _ _ (c .before .before .before .check .ensures) (c .before .if1 .taken))
+stow-requires c κs = (accepts _ _ (c .before .before .before .answer .ensures) (c .before .if1 .taken), counts _ _ (c .before .before .before .answer .ensures) (c .before .if1 .taken))
 
 finish-requires : tie.Need-finish-requires
 finish-requires c κs = search needs
@@ -23,19 +23,19 @@ same-length-2 c = search needs
 
 returns : tie.Need-returns
 returns c = (
-  accepted-answer _ _ (c .before .before .before .before .before .before .before .before .before .before .before .before .before .check .ensures) (c .before .before .before .before .before .before .before .before .before .before .before .if1 .taken) (now (c .before .before .before .before .before .before .before .before .before .before .before .before .before .before .before .before .before .args .work)) _ (now (c .before .before .before .before .before .before .before .before .before .before .before .before .before .before .before .before .before .args .out)) _ (c .before .before .before .before .before .before .before .before .before .stow .ensures .0) (c .before .before .before .before .before .before .before .before .before .stow .ensures .1) _ (c .before .before .before .before .finish .ensures .0),
-  accepted-output _ _ (c .before .before .before .before .before .before .before .before .before .before .before .before .before .check .ensures) (c .before .before .before .before .before .before .before .before .before .before .before .if1 .taken) (now (c .before .before .before .before .before .before .before .before .before .before .before .before .before .before .before .before .before .args .work)) _ (now (c .before .before .before .before .before .before .before .before .before .before .before .before .before .before .before .before .before .args .out)) _ (c .before .before .before .before .before .before .before .before .before .stow .ensures .0) (c .before .before .before .before .before .before .before .before .before .stow .ensures .1) _ (c .before .before .before .before .finish .ensures .1),
+  accepted-answer _ _ (c .before .before .before .before .before .before .before .before .before .before .before .before .before .answer .ensures) (c .before .before .before .before .before .before .before .before .before .before .before .if1 .taken) (now (c .before .before .before .before .before .before .before .before .before .before .before .before .before .before .before .before .before .args .work)) _ (now (c .before .before .before .before .before .before .before .before .before .before .before .before .before .before .before .before .before .args .out)) _ (c .before .before .before .before .before .before .before .before .before .stow .ensures .0) (c .before .before .before .before .before .before .before .before .before .stow .ensures .1) _ (c .before .before .before .before .finish .ensures .0),
+  accepted-output _ _ (c .before .before .before .before .before .before .before .before .before .before .before .before .before .answer .ensures) (c .before .before .before .before .before .before .before .before .before .before .before .if1 .taken) (now (c .before .before .before .before .before .before .before .before .before .before .before .before .before .before .before .before .before .args .work)) _ (now (c .before .before .before .before .before .before .before .before .before .before .before .before .before .before .before .before .before .args .out)) _ (c .before .before .before .before .before .before .before .before .before .stow .ensures .0) (c .before .before .before .before .before .before .before .before .before .stow .ensures .1) _ (c .before .before .before .before .finish .ensures .1),
   c .before .before .before .before .finish .ensures .2 ∙ c .before .before .before .before .before .before .before .before .before .stow .ensures .1 .same,
 )
 
 returns-2 : tie.Need-returns-2
-returns-2 c = (refused-answer _ _ (c .before .before .check .ensures) _ _ (c .if1 .left), refused-output _ _ (c .before .before .check .ensures) _ _ (c .if1 .left), refl)
+returns-2 c = (refused-answer _ _ (c .before .before .answer .ensures) _ _ (c .if1 .left), refused-output _ _ (c .before .before .answer .ensures) _ _ (c .if1 .left), refl)
 
 pub shortest-spec : {M : Type 1} → statement M
 shortest-spec =
     tie.close
     (tie.spec
-    check-requires
+    answer-requires
     stow-requires
     finish-requires
     same-length

@@ -4,8 +4,8 @@ use Rattle.runs.proofs.Turn.{on-accepted, on-refused}
 use Rattle.runs.proofs.run_at.Statement.{statement}
 use Rattle.runs.proofs.run_at.Tie as tie
 
-check-requires : tie.Need-check-requires
-check-requires c κs = search needs
+answer-requires : tie.Need-answer-requires
+answer-requires c κs = search needs
 
 nth-requires : tie.Need-nth-requires
 nth-requires c κs = search needs
@@ -20,4 +20,4 @@ returns-2 : tie.Need-returns-2
 returns-2 c = search (on-accepted, on-refused)
 
 pub run-at-spec : {M : Type 1} → statement M
-run-at-spec = tie.close (tie.spec check-requires nth-requires returns no-run-requires returns-2)
+run-at-spec = tie.close (tie.spec answer-requires nth-requires returns no-run-requires returns-2)

@@ -10,8 +10,8 @@ run-from-requires c κs = search needs
 returns : tie.Need-returns
 returns c = search on-known
 
-check-requires : tie.Need-check-requires
-check-requires c κs = search needs
+answer-requires : tie.Need-answer-requires
+answer-requires c κs = search needs
 
 run-from-requires-2 : tie.Need-run-from-requires-2
 run-from-requires-2 c κs = search needs
@@ -31,7 +31,7 @@ checked-from-spec =
     (tie.spec
     run-from-requires
     returns
-    check-requires
+    answer-requires
     run-from-requires-2
     returns-2
     stays-requires
