@@ -1,16 +1,20 @@
 -- The choice by tests on the two numbers and on what a row keeps.
 use mathlib.Core.Path.{_≡_, refl, _∙_}
 use mathlib.Core.Bool.{Bool, true, false, cond, _||_, Bool·beq}
-use mathlib.Core.List.{List}
+use mathlib.Core.List.{List, []}
 use Prim.Native.Nat.{ℕ, _+_, _/_, _%_, _≤_, _<_}
 use lib.ListN.{getD}
 use lib.Dec.{eqb, leb}
 use borrow.Author.Tests.{eq-eqb, ne-eqb, lt-ltb, le-ltb, le-leb, lt-leb}
+use Rattle.state.specs.State.{on}
+use Rattle.grammar.specs.Units.{designation}
+use Rattle.shortest.specs.Writing.{designated}
 use Rattle.shortest.proofs.Sets.{implies, implies-elim, upTo, up-to}
 use Rattle.shortest.proofs.Needs.{or-true}
-use Rattle.plan.specs.Numbers.{setsInGL, servedInGL, servedInGR, afterFirst, afterSecond, chosenBy}
-use Rattle.plan.specs.Costs.{secondSlot}
-use Rattle.plan.proofs.Numbers.{beq-eq}
+use Rattle.numbers.specs.Numbers.{setsInGL, setsInGR, servedInGL, servedInGR, afterFirst, afterSecond, chosenBy, change}
+use Rattle.costs.specs.Costs.{secondSlot}
+use Rattle.octets.specs.Octets.{sideOf}
+use Rattle.numbers.proofs.Numbers.{beq-eq}
 
 pub first-stays : (x k a u v : ℕ) → a ≡ afterFirst x k → a ≡ k → k ≡ chosenBy x k u v
 unfolding chosenBy
@@ -75,3 +79,16 @@ module _ (x k a b : ℕ) (w : List ℕ) (row : ℕ) (ea : a ≡ afterFirst x k) 
     pub space-second : 15 ≤ x → getD w (row + (16 + k % 16)) 0 < u → b ≡ chosenBy x k u (getD w (row + secondSlot x k) 0)
     unfolding chosenBy
     space-second h l = rw (← ea, ← eb, ne-eqb a k n, ne-eqb b k m, le-ltb x 15 h, lt-leb u (getD w (row + (16 + k % 16)) 0) l)
+
+-- the designation that makes number k number j, by tests on the numbers
+pub change-none : (k j : ℕ) → j ≡ k → designated (change k j) ≡ []
+unfolding change
+change-none k j e = rw (eq-eqb j k e)
+
+pub change-gr : (k j c : ℕ) → (j ≡ k → ⊥) → j / 16 ≡ k / 16 → c ≡ getD setsInGR (j % 16) 0 → designated (change k j) ≡ designation (on (sideOf false) c)
+unfolding change
+change-gr k j c n e q = rw (ne-eqb j k n, eq-eqb (j / 16) (k / 16) e, q)
+
+pub change-gl : (k j c : ℕ) → (j ≡ k → ⊥) → (j / 16 ≡ k / 16 → ⊥) → c ≡ getD setsInGL (j / 16) 0 → designated (change k j) ≡ designation (on (sideOf true) c)
+unfolding change
+change-gl k j c n e q = rw (ne-eqb j k n, ne-eqb (j / 16) (k / 16) e, q)

@@ -16,14 +16,16 @@ use Rattle.grammar.specs.Units.{TextUnit, octets}
 use Rattle.shortest.specs.Writing.{Need, choose, after, met, need, cost, used, designated, writing}
 use Rattle.shortest.proofs.Needs.{chosen-met}
 use Rattle.rows.specs.Rows.{tagAt, startFrom, unitTagged, unitFrom, unitsIn}
-use Rattle.plan.specs.Numbers.{servedInGL, numbered, classOf, needOfClass, afterFirst, afterSecond, chosenBy, afterChoice, change, sideAt}
-use Rattle.plan.specs.Costs.{restFrom, secondSlot}
-use Rattle.plan.proofs.Numbers.{Choice, choice-at, chosen-base, chosen-single, chosen-free, used-side}
+use Rattle.numbers.specs.Numbers.{servedInGL, numbered, classOf, needOfClass, afterFirst, afterSecond, chosenBy, afterChoice, change, sideAt}
+use Rattle.costs.specs.Costs.{secondSlot}
+use Rattle.plan.specs.Plan.{restFrom}
+use Rattle.numbers.proofs.Numbers.{Choice, choice-at, chosen-base, chosen-single, chosen-free, used-side}
 use Rattle.plan.proofs.Units.{need-tagged}
 use Rattle.plan.proofs.Rest.{class-below, fresh-number}
-use Rattle.emit.specs.Emit.{Written, sideOf, Ready}
+use Rattle.octets.specs.Octets.{Written, sideOf}
+use Rattle.emit.specs.Emit.{Ready}
 use Rattle.emit.proofs.Chosen.{its-place}
-use Rattle.emit.proofs.Stores.{written-both, written-none, written-length, written-as, segment-octets, fixed-octets}
+use Rattle.octets.proofs.Stores.{written-both, written-none, written-length, written-as, segment-octets, fixed-octets}
 
 -- the octets of a unit that is no character are the same on each side
 side-free : (o : List ℕ) (t a b s : ℕ) (d e : Side) → 15 ≤ t → octets d (unitTagged o t a b s) ≡ octets e (unitTagged o t a b s)

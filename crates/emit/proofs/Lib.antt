@@ -1,4 +1,3 @@
-pub mod Stores
 pub mod Chosen
 pub mod Forward
 pub mod Whole

@@ -19,9 +19,11 @@ use Rattle.shortest.specs.Demand.{writeAnswer, outputAfter}
 use Rattle.shortest.specs.Records.{workRoom}
 use Rattle.shortest.proofs.Costs.{writing-length}
 use Rattle.rows.specs.Rows.{tagAt, startFrom, unitTagged, unitFrom, unitsIn}
-use Rattle.plan.specs.Numbers.{numbered, classOf, afterFirst, afterSecond}
-use Rattle.plan.specs.Costs.{rowsOf, TwoStandings, secondSlot, Planned}
-use Rattle.emit.specs.Emit.{rowsAnswer, rowsOutput, Written, Ready}
+use Rattle.numbers.specs.Numbers.{numbered, classOf, afterFirst, afterSecond}
+use Rattle.costs.specs.Costs.{TwoStandings, secondSlot}
+use Rattle.plan.specs.Plan.{rowsOf, Planned}
+use Rattle.octets.specs.Octets.{Written}
+use Rattle.emit.specs.Emit.{rowsAnswer, rowsOutput, Ready}
 
 -- ---- the rows hold the same units before and after the plan
 

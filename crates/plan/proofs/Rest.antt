@@ -21,9 +21,10 @@ use Rattle.shortest.specs.Writing.{Need, least, choose, after, price, cost}
 use Rattle.shortest.proofs.Needs.{spent, least-chosen}
 use Rattle.shortest.proofs.Costs.{cost-steady}
 use Rattle.rows.specs.Rows.{tagAt, startFrom, countOf, partOf, unitsIn}
-use Rattle.plan.specs.Numbers.{numbered, classOf, needOfClass, afterFirst, afterSecond, afterChoice, surcharge}
-use Rattle.plan.specs.Costs.{sizeOf, sizeAt, restFrom, leastBy, Smooth, changes, Turned, TwoStandings, secondSlot, RowKept, CostsKept, Planned}
-use Rattle.plan.proofs.Numbers.{choice-at, chosen-base, below, steady-at}
+use Rattle.numbers.specs.Numbers.{numbered, classOf, needOfClass, afterFirst, afterSecond, afterChoice, surcharge}
+use Rattle.costs.specs.Costs.{leastBy, Smooth, changes, Turned, TwoStandings, secondSlot, RowKept}
+use Rattle.plan.specs.Plan.{sizeOf, sizeAt, restFrom, CostsKept, Planned}
+use Rattle.numbers.proofs.Numbers.{choice-at, chosen-base, below, steady-at}
 use Rattle.plan.proofs.Again.{least-again, least-plus, least-space}
 use Rattle.plan.proofs.Units.{rest-end, rest-cons}
 

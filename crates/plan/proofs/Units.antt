@@ -16,9 +16,9 @@ use Rattle.shortest.specs.Writing.{Need, free, either, need, least, size, cost}
 use Rattle.shortest.proofs.Sets.{up-to}
 use Rattle.rows.proofs.Units.{part-length, ltb-ge, unit-segment, unit-spare}
 use Rattle.rows.specs.Rows.{tagAt, startFrom, countOf, partOf, unitTagged, unitsIn}
-use Rattle.plan.specs.Numbers.{classOf, needOfClass}
-use Rattle.plan.specs.Costs.{sizeOf, sizeAt, restFrom}
-use Rattle.plan.proofs.Numbers.{sameStanding, sameStanding-eq}
+use Rattle.numbers.specs.Numbers.{classOf, needOfClass}
+use Rattle.plan.specs.Plan.{sizeOf, sizeAt, restFrom}
+use Rattle.numbers.proofs.Numbers.{sameStanding, sameStanding-eq}
 
 abbrev sameNeed : Need → Need → Bool
 sameNeed free free = true

@@ -1,5 +1,5 @@
 -- `emit::choose` meets its contract, by the two numbers and what the row keeps.
-use Rattle.plan.proofs.Numbers.{chosen-only}
+use Rattle.numbers.proofs.Numbers.{chosen-only}
 use Rattle.emit.proofs.Chosen.{first-stays, second-stays, character-first, character-second, space-first, space-second}
 use borrow.Author.Needs.{needs}
 use Rattle.emit.proofs.choose.Statement.{statement}

@@ -4,8 +4,8 @@ use native.Mathlib.Omega.{arith}
 use Prim.Native.Nat.{_≤_}
 use mathlib.Core.Path.{_≡_, refl, _∙_}
 use lib.ListN.{length, replicate}
-use Rattle.plan.specs.Costs.{rowsOf, Planned}
-use Rattle.plan.proofs.Numbers.{bounded}
+use Rattle.plan.specs.Plan.{rowsOf, Planned}
+use Rattle.numbers.proofs.Numbers.{bounded}
 use Rattle.plan.proofs.Rest.{Known, known-none, planned-none, known-low, known-bound, known-smooth, turn-near, turn-known, turn-planned, plan-end}
 use Rattle.plan.proofs.plan.Statement.{statement}
 use Rattle.plan.proofs.plan.Tie as tie

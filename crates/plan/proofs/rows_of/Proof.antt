@@ -1,7 +1,7 @@
 -- `plan::rows_of` meets its contract, test by test.
 use native.Mathlib.Omega.{arith}
 use Rattle.base.proofs.Ladder.{ladder}
-use Rattle.plan.specs.Costs.{rowsOf}
+use Rattle.plan.specs.Plan.{rowsOf}
 use borrow.Author.Needs.{needs}
 use Rattle.plan.proofs.rows_of.Statement.{statement}
 use Rattle.plan.proofs.rows_of.Tie as tie

@@ -4,7 +4,7 @@ use Prim.Native.Nat.{ℕ, _+_}
 use mathlib.Core.Path.{ap, ap₂, _∙_}
 use Rattle.base.proofs.Ladder.{ladder, on-lt, on-ge}
 use Rattle.rows.specs.Rows.{partOf}
-use Rattle.plan.specs.Costs.{sizeOf}
+use Rattle.plan.specs.Plan.{sizeOf}
 use borrow.Author.Needs.{needs}
 use Rattle.plan.proofs.size_from.Statement.{statement}
 use Rattle.plan.proofs.size_from.Tie as tie

@@ -1,0 +1,67 @@
+-- `costs::keep_column` meets its contract. The invariant: the costs of the first g rows are kept.
+use borrow.Author.Needs.{needs}
+use native.Mathlib.Omega.{arith}
+use Prim.Native.Nat.{_+_, _-_, _*_, _≤_}
+use mathlib.Core.Path.{_≡_, refl}
+use lib.ListN.{length, getD, length-set}
+use Rattle.costs.specs.Costs.{Filled}
+use Rattle.costs.proofs.Filled.{filled-none, filled-more, filled-end}
+use Rattle.costs.proofs.keep_column.Statement.{statement}
+use Rattle.costs.proofs.keep_column.Tie as tie
+
+abbrev Inv-loop : tie.InvT-loop
+Inv-loop cur r work₀ at g₀ work g = (g ≤ 5) × (length work ≡ length work₀) × Filled (λ q. getD cur (16 * q + r) 0) at g work₀ work
+
+abbrev μ-loop : tie.MeasureT-loop
+μ-loop cur r work₀ at g₀ work g = 5 - g
+
+loop-holds : tie.Need-loop-holds Inv-loop μ-loop
+loop-holds c = (search needs, refl, filled-none _ _ _)
+
+mul-work : tie.Need-mul-work Inv-loop μ-loop
+mul-work c = search needs
+
+add-work : tie.Need-add-work Inv-loop μ-loop
+add-work c = search needs
+
+element-copy-out-work : tie.Need-element-copy-out-work Inv-loop μ-loop
+element-copy-out-work c = search needs
+
+add-work-2 : tie.Need-add-work-2 Inv-loop μ-loop
+add-work-2 c = search needs
+
+slice-write-work : tie.Need-slice-write-work Inv-loop μ-loop
+slice-write-work c = search needs
+
+add-g : tie.Need-add-g Inv-loop μ-loop
+add-g c = search needs
+
+loop-less : tie.Need-loop-less Inv-loop μ-loop
+loop-less c = search needs
+
+loop-again : tie.Need-loop-again Inv-loop μ-loop
+loop-again c = (omega arith, simp length-set (c .before .before .loop .inv .1), filled-more _ _ _ _ _ _ (c .before .before .loop .inv .2) (omega arith) refl)
+
+same-length : tie.Need-same-length Inv-loop μ-loop
+same-length c = search needs
+
+returns : tie.Need-returns Inv-loop μ-loop
+returns c = filled-end 5 (c .before .loop .inv .2) (search needs) (search needs)
+
+pub keep-column-spec : {M : Type 1} → statement M
+keep-column-spec =
+    tie.close
+    (tie.spec
+    Inv-loop
+    μ-loop
+    loop-holds
+    mul-work
+    add-work
+    element-copy-out-work
+    add-work-2
+    slice-write-work
+    add-g
+    loop-less
+    loop-again
+    same-length
+    returns)

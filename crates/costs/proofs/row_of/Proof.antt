@@ -1,0 +1,55 @@
+-- `costs::row_of` meets its contract. The invariant: the first r costs are there.
+use borrow.Author.Needs.{needs}
+use native.Mathlib.Omega.{arith}
+use Prim.Native.Nat.{_+_, _-_, _≤_}
+use mathlib.Core.Path.{_≡_, refl}
+use lib.ListN.{length, getD, length-set}
+use Rattle.costs.specs.Costs.{Filled}
+use Rattle.costs.proofs.Filled.{filled-none, filled-at, filled-end, row-filled}
+use Rattle.costs.proofs.row_of.Statement.{statement}
+use Rattle.costs.proofs.row_of.Tie as tie
+
+abbrev Inv-loop : tie.InvT-loop
+Inv-loop costs from row₀ r₀ row r = (r ≤ 16) × (length row ≡ 16) × Filled (λ q. getD costs (from + q) 0) 0 r row₀ row
+
+abbrev μ-loop : tie.MeasureT-loop
+μ-loop costs from row₀ r₀ row r = 16 - r
+
+loop-holds : tie.Need-loop-holds Inv-loop μ-loop
+loop-holds c = (search needs, refl, filled-none _ _ _)
+
+add-row : tie.Need-add-row Inv-loop μ-loop
+add-row c = search needs
+
+element-copy-out-row : tie.Need-element-copy-out-row Inv-loop μ-loop
+element-copy-out-row c = search needs
+
+array-write-row : tie.Need-array-write-row Inv-loop μ-loop
+array-write-row c = search needs
+
+add-r : tie.Need-add-r Inv-loop μ-loop
+add-r c = search needs
+
+loop-less : tie.Need-loop-less Inv-loop μ-loop
+loop-less c = search needs
+
+loop-again : tie.Need-loop-again Inv-loop μ-loop
+loop-again c = (omega arith, simp length-set (c .before .before .loop .inv .1), filled-at _ _ _ _ _ (c .before .before .loop .inv .2) (omega arith) refl)
+
+returns : tie.Need-returns Inv-loop μ-loop
+returns c = row-filled _ _ _ _ (c .before .loop .inv .1) (filled-end 16 (c .before .loop .inv .2) (search needs) (search needs))
+
+pub row-of-spec : {M : Type 1} → statement M
+row-of-spec =
+    tie.close
+    (tie.spec
+    Inv-loop
+    μ-loop
+    loop-holds
+    add-row
+    element-copy-out-row
+    array-write-row
+    add-r
+    loop-less
+    loop-again
+    returns)

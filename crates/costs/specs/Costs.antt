@@ -1,0 +1,129 @@
+-- The least costs from all numbers, unit by unit from the last to the first: tables of them, what a unit put before does to them, and what a
+-- row keeps of them.
+use Prim.Native.Nat.{ℕ, _+_, _-_, _*_, _/_, _%_, _≤_, _<_, min}
+use mathlib.Core.Path.{_≡_}
+use mathlib.Core.Bool.{Bool, true, false, cond, not}
+use mathlib.Core.List.{List, [], _∷_}
+use mathlib.Core.Logic.{_⊎_}
+use lib.Dec.{eqb, ltb}
+use lib.ListN.{length, getD}
+use Rattle.base.specs.Choice.{pick}
+use Rattle.numbers.specs.Numbers.{placesInGL, placesInGR, servedInGR, afterFirst, afterSecond, afterChoice, surcharge, priceOfClass}
+
+-- ---- lists of costs
+
+-- m places from a place on hold the numbers that f gives, and the others what they held
+pub record Filled (f : ℕ → ℕ) (at m : ℕ) (before after : List ℕ) : Type 0 where
+  pub there : (r : ℕ) → r < m → getD after (at + r) 0 ≡ f r
+  pub kept : (p : ℕ) → (p < at) ⊎ (at + m ≤ p) → getD after p 0 ≡ getD before p 0
+  pub long : length after ≡ length before
+
+-- in a table of five rows by 16, the first m places of column r hold the numbers that f gives by row, and the other columns what they held
+pub record ColumnFilled (f : ℕ → ℕ) (r m : ℕ) (before after : List ℕ) : Type 0 where
+  pub there : (g : ℕ) → g < m → getD after (16 * g + r) 0 ≡ f g
+  pub kept : (g q : ℕ) → q < 16 → (q ≡ r → ⊥) → getD after (16 * g + q) 0 ≡ getD before (16 * g + q) 0
+  pub long : length after ≡ length before
+
+-- the first m columns of such a table hold the numbers that f gives by row and column
+pub record Columns (f : ℕ → ℕ → ℕ) (m : ℕ) (table : List ℕ) : Type 0 where
+  pub there : (g r : ℕ) → g < 5 → r < m → getD table (16 * g + r) 0 ≡ f g r
+  pub long : length table ≡ 80
+
+-- the same where the other columns hold what they held
+pub record Swept (f : ℕ → ℕ → ℕ) (m : ℕ) (before after : List ℕ) : Type 0 where
+  pub there : (g r : ℕ) → g < 5 → r < m → getD after (16 * g + r) 0 ≡ f g r
+  pub kept : (g r : ℕ) → m ≤ r → r < 16 → getD after (16 * g + r) 0 ≡ getD before (16 * g + r) 0
+  pub long : length after ≡ length before
+
+-- 16 costs from a place on and a surcharge, whose sums each fit an octet
+pub record SumFits (costs : List ℕ) (at added : ℕ) : Type 0 where
+  pub inside : at + 16 ≤ length costs
+  pub sums : (r : ℕ) → r < 16 → getD costs (at + r) 0 + added ≤ 255
+
+-- the same with each of five surcharges
+abbrev pub SumsFit : List ℕ → ℕ → List ℕ → Type 0
+SumsFit costs at added = (g : ℕ) → g < 5 → SumFits costs at (getD added g 0)
+
+-- five surcharges: a designation's price in each row, but nothing in the row of a place
+pub record Charges (price place : ℕ) (added : List ℕ) : Type 0 where
+  pub five : length added ≡ 5
+  pub each : (g : ℕ) → g < 5 → getD added g 0 ≡ cond (eqb g place) 0 price
+
+-- the costs of the five rows in a column
+pub record Column (costs : List ℕ) (r : ℕ) (added : List ℕ) : Type 0 where
+  pub five : length added ≡ 5
+  pub each : (g : ℕ) → g < 5 → getD added g 0 ≡ getD costs (16 * g + r) 0
+
+-- 16 costs from a place on
+pub record Row (costs : List ℕ) (from : ℕ) (row : List ℕ) : Type 0 where
+  pub sixteen : length row ≡ 16
+  pub each : (r : ℕ) → r < 16 → getD row r 0 ≡ getD costs (from + r) 0
+
+-- a designation's price 31 times, but nothing in the middle, and then the price once more: from 15 - r on nothing stands at place r
+abbrev pub surcharges : ℕ → List ℕ
+surcharges p =
+    p ∷ p ∷ p ∷ p ∷ p ∷ p ∷ p ∷ p ∷ p ∷ p ∷ p ∷ p ∷ p ∷ p ∷ p ∷ 0
+    ∷ p ∷ p ∷ p ∷ p ∷ p ∷ p ∷ p ∷ p ∷ p ∷ p ∷ p ∷ p ∷ p ∷ p ∷ p ∷ p ∷ []
+
+-- a column before a unit that GL alone serves, from the costs a and b with sets 0 and 2 in GL, and from what each costs more
+abbrev pub fromGL : ℕ → ℕ → ℕ → ℕ → ℕ → List ℕ
+fromGL a p b q price =
+    let other = min (a + p) (b + q) + price in
+    min (a + p) (b + price) ∷ min (b + q) (a + price) ∷ other ∷ other ∷ other ∷ []
+
+-- the classes that GL alone serves: those of sets 0 and 2, and that of a space
+abbrev pub OfGL : ℕ → Type 0
+OfGL x = (x < 16) × (13 ≤ getD servedInGR x 0)
+
+-- a class whose set has a place in GR alone, and on both sides
+
+abbrev pub InGR : ℕ → ℕ → Type 0
+InGR x r = (x < 15) × (r ≡ getD placesInGR x 0) × (r < 13) × (5 ≤ getD placesInGL x 0)
+
+abbrev pub OnBoth : ℕ → ℕ → ℕ → Type 0
+OnBoth x l r = (x < 15) × (l ≡ getD placesInGL x 0) × (r ≡ getD placesInGR x 0) × (l < 5) × (r < 13)
+
+-- ---- a unit before the rest
+
+-- the least cost from number k, but for the unit's own octets, of a unit of class x where next has what the rest costs from each number
+unfoldable pub leastBy : ℕ → List ℕ → ℕ → ℕ
+leastBy x next k =
+    let j = afterChoice x k (λ i. getD next i 0) in
+    surcharge x k j + getD next j 0
+
+-- no cost is more than a designation above that after the first designation or the second, and all are small
+pub record Smooth (x : ℕ) (next : List ℕ) : Type 0 where
+  pub first-near : (k : ℕ) → k < 80 → getD next k 0 ≤ priceOfClass x + getD next (afterFirst x k) 0
+  pub second-near : (k : ℕ) → k < 80 → getD next k 0 ≤ priceOfClass x + getD next (afterSecond x k) 0
+  pub small : (j : ℕ) → getD next j 0 ≤ 208
+
+-- a unit of class x changes the costs, where last is the class that changed them last: not where it needs no set, has that class, or is a
+-- space where that class is set 0
+unfoldable pub changes : ℕ → ℕ → Bool
+changes last x = pick (eqb x 16) false (pick (eqb x last) false (pick (eqb x 15) (not (eqb last 0)) true))
+
+-- the costs after a unit of class x is put before: the same, or the new ones less r
+pub record Turned (last x : ℕ) (before : List ℕ) (r last′ : ℕ) (after : List ℕ) : Type 0 where
+  pub still : changes last x ≡ false → (r ≡ 0) × (last′ ≡ last) × (after ≡ before)
+  pub moved : changes last x ≡ true → (last′ ≡ x) × ((k : ℕ) → k < 80 → r + getD after k 0 ≡ leastBy x before k)
+  pub low : getD after 1 0 ≤ 200
+  pub small : r ≤ 128
+  pub long : length after ≡ length before
+
+-- ---- what a row keeps
+
+-- the classes that have two designations to choose from
+abbrev pub TwoStandings : ℕ → Type 0
+TwoStandings x = (12 ≤ x) × (x < 16)
+
+-- where a row keeps what the rest costs after the second designation: by GL's place for a character, by GR's for a space. What it costs
+-- after the first stands at k % 16
+abbrev pub secondSlot : ℕ → ℕ → ℕ
+secondSlot x k = 16 + cond (ltb x 15) (k / 16) (k % 16)
+
+-- the row that starts at a place keeps the costs that the choice of a unit of class x compares
+pub record RowKept (x : ℕ) (costs before : List ℕ) (row : ℕ) (after : List ℕ) : Type 0 where
+  pub first-cost : TwoStandings x → (k : ℕ) → k < 80 → getD after (row + k % 16) 0 ≡ getD costs (afterFirst x k) 0
+  pub second-cost : TwoStandings x → (k : ℕ) → k < 80 → getD after (row + secondSlot x k) 0 ≡ getD costs (afterSecond x k) 0
+  pub kept : (p : ℕ) → (p < row) ⊎ (row + 65 ≤ p) → getD after p 0 ≡ getD before p 0
+  pub long : length after ≡ length before
