@@ -18,9 +18,9 @@ use Rattle.grammar.proofs.Complete.{and-left, and-right}
 use Rattle.grammar.proofs.Sound.{graphic-low}
 use Rattle.grammar.specs.Records.{readable, unitRead}
 use Rattle.shortest.proofs.Sets.{up-to}
-use Rattle.rows.specs.Rows.{countOf, unitTagged, tagOf, numberOf}
-use Rattle.rows.proofs.Units.{unit-segment}
-use Rattle.check_list.specs.Row.{Stowable}
+use Rattle.rows.specs.Rows.{countOf, textTagged, markTagged, unitTagged, tagOf, numberOf}
+use Rattle.rows.proofs.Units.{unit-text, unit-segment}
+use Rattle.rows.specs.Stowable.{Stowable}
 
 -- ---- codes
 
@@ -67,10 +67,11 @@ no-segment r k e h = record { one-of-eight = omega arith; low = λ q. absurd (om
 
 module _ (o : List ℕ) (r : UnitRecord) (u : TextUnit) (g : good u ≡ true) where
   fits-character : r .kind ≡ kind.character → char (r .set) (r .code) ≡ u → Fits o r u
-  unfolding tagOf numberOf pick good unitTagged
+  unfolding tagOf numberOf pick good textTagged
   fits-character q s =
       record {
-        unit = tagged o r u (r .set) (r .code) (rw q) (rw q) (unit (ltb (r .set) 12) refl);
+        unit = tagged o r u (r .set) (r .code) (rw q) (rw q)
+            (unit-text o (r .set) (r .code / 256) (r .code % 256) (r .start) (omega (arith, below)) ∙ text (ltb (r .set) 12) refl);
         stowable = no-segment r 0 q (omega arith);
       }
     where
@@ -83,11 +84,11 @@ module _ (o : List ℕ) (r : UnitRecord) (u : TextUnit) (g : good u ≡ true) wh
       used : codeUsed (formOf (r .set)) (r .code) ≡ true
       used = and-right (ltb (r .set) 15) (codeUsed (formOf (r .set)) (r .code)) g′
 
-      unit : (b : Bool) → ltb (r .set) 12 ≡ b → unitTagged o (r .set) (r .code / 256) (r .code % 256) (r .start) ≡ u
-      unit true p =
+      text : (b : Bool) → ltb (r .set) 12 ≡ b → textTagged (r .set) (r .code / 256) (r .code % 256) ≡ u
+      text true p =
           let l = one-code (formOf (r .set)) (r .code) (narrow-form (r .set) (ltb-true (r .set) 12 p)) used in
           rw p (ap (char (r .set)) (let z : r .code % 256 % 128 ≡ r .code = omega arith in z) ∙ s)
-      unit false p =
+      text false p =
           let l = two-code (formOf (r .set)) (r .code) (wide-form (r .set) (ltb-false (r .set) 12 p) below) used in
           rw (p, lt-ltb (r .set) 15 below) (ap (char (r .set)) (let z : r .code / 256 % 128 * 256 + r .code % 256 % 128 ≡ r .code = omega (arith, l .0, l .1) in z) ∙ s)
 
@@ -141,7 +142,7 @@ module _ (o : List ℕ) (r : UnitRecord) (u : TextUnit) (g : good u ≡ true) wh
   seven h a b c d = omega arith
 
   pub fits : unitRead o r ≡ some u → Fits o r u
-  unfolding unitRead readable unitOf tagOf numberOf pick unitTagged
+  unfolding unitRead readable unitOf tagOf numberOf pick unitTagged textTagged markTagged
   fits e = start (readable o r) refl e
     where
       xs : List ℕ

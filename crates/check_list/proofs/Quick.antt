@@ -21,7 +21,7 @@ use Rattle.grammar.specs.Units.{codeUsed}
 use Rattle.grammar.specs.Records.{unitRead}
 use Rattle.shortest.specs.Records.{fault}
 use Rattle.rows.specs.Rows.{withRecord}
-use Rattle.check_list.specs.Row.{Stowable}
+use Rattle.rows.specs.Stowable.{Stowable}
 use Rattle.check_list.specs.Turn.{onFault, turnOf, roomAfter, quickAfter}
 use Rattle.check_list.specs.declared.Progress.{Progress}
 use Rattle.check_list.specs.declared.Progress.the-variants.{Fine, Faulty}

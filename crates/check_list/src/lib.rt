@@ -13,13 +13,13 @@ use base::Unit;
 use base::kind;
 use base::limit;
 use base::refusal;
+use rows::record;
 use state::directions::Directions;
 use state::directions::Step;
 use state::directions::counts_as_text;
 
 mod own;
 mod plain;
-mod row;
 
 // How far a list is checked: what the directions are after the last record, or the number and the index of the first that offends.
 pub enum Progress {
@@ -91,7 +91,7 @@ pub fn quick_turn(unit: Unit, i: usize, work: &mut [u8]) -> bool
     ensures { λ r. ⌜ (r ≡ plainOf unit) × (now (work .exit) ≡ pick (plainOf unit) (withRecord (now (work .entry)) i unit) (now (work .entry))) ⌝ }
 {
     if plain::plain(unit) {
-        row::put(unit, i, work);
+        record::put(unit, i, work);
         return true;
     }
     false
@@ -107,7 +107,7 @@ pub fn turn(progress: Progress, unit: Unit, i: usize, segments: &[u8], work: &mu
             let step = judge(unit, segments, directions);
             match step {
                 Step::Goes(next) => {
-                    row::put(unit, i, work);
+                    record::put(unit, i, work);
                     Progress::Fine(next)
                 }
                 Step::Stops(number) => Progress::Faulty(number, i),

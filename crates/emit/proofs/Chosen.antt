@@ -5,14 +5,13 @@ use mathlib.Core.List.{List, []}
 use Prim.Native.Nat.{ℕ, _+_, _/_, _%_, _≤_, _<_}
 use lib.ListN.{getD}
 use lib.Dec.{eqb, leb}
-use borrow.Author.Tests.{eq-eqb, ne-eqb, lt-ltb, le-ltb, le-leb, lt-leb}
+use borrow.Author.Tests.{eq-eqb, ne-eqb, le-leb, lt-leb}
 use Rattle.state.specs.State.{on}
 use Rattle.grammar.specs.Units.{designation}
 use Rattle.shortest.specs.Writing.{designated}
 use Rattle.shortest.proofs.Sets.{implies, implies-elim, upTo, up-to}
 use Rattle.shortest.proofs.Needs.{or-true}
 use Rattle.numbers.specs.Numbers.{setsInGL, setsInGR, servedInGL, servedInGR, afterFirst, afterSecond, chosenBy, change}
-use Rattle.costs.specs.Costs.{secondSlot}
 use Rattle.octets.specs.Octets.{sideOf}
 use Rattle.numbers.proofs.Numbers.{beq-eq}
 
@@ -51,34 +50,23 @@ its-place x g hx hg =
     beq-eq (eqb g (getD servedInGL x 0)) (eqb (getD setsInGL g 0) x)
     (up-to 5 (λ m. Bool·beq (eqb m (getD servedInGL x 0)) (eqb (getD setsInGL m 0) x)) (up-to 15 (λ y. upTo 5 (λ m. Bool·beq (eqb m (getD servedInGL y 0)) (eqb (getD setsInGL m 0) y))) sided x hx) g hg)
 
-module _ (x k a b : ℕ) (w : List ℕ) (row : ℕ) (ea : a ≡ afterFirst x k) (eb : b ≡ afterSecond x k) where
-  abbrev u : ℕ
-  u = getD w (row + k % 16) 0
-
-  pub second-stays : b ≡ k → k ≡ chosenBy x k u (getD w (row + secondSlot x k) 0)
+module _ (x k a b u v : ℕ) (ea : a ≡ afterFirst x k) (eb : b ≡ afterSecond x k) where
+  pub second-stays : b ≡ k → k ≡ chosenBy x k u v
   unfolding chosenBy
   second-stays e = rw (← ea, ← eb, eq-eqb b k e) (both (eqb a k))
     where
-      both : (z : Bool) → k ≡ cond (z || true) k (cond (leb u (getD w (row + secondSlot x k) 0)) a b)
+      both : (z : Bool) → k ≡ cond (z || true) k (cond (leb u v) a b)
       both true = refl
       both false = refl
 
   module _ (n : a ≡ k → ⊥) (m : b ≡ k → ⊥) where
-    pub character-first : x < 15 → u ≤ getD w (row + (16 + k / 16)) 0 → a ≡ chosenBy x k u (getD w (row + secondSlot x k) 0)
+    pub first-taken : u ≤ v → a ≡ chosenBy x k u v
     unfolding chosenBy
-    character-first h l = rw (← ea, ← eb, ne-eqb a k n, ne-eqb b k m, lt-ltb x 15 h, le-leb u (getD w (row + (16 + k / 16)) 0) l)
+    first-taken l = rw (← ea, ← eb, ne-eqb a k n, ne-eqb b k m, le-leb u v l)
 
-    pub character-second : x < 15 → getD w (row + (16 + k / 16)) 0 < u → b ≡ chosenBy x k u (getD w (row + secondSlot x k) 0)
+    pub second-taken : v < u → b ≡ chosenBy x k u v
     unfolding chosenBy
-    character-second h l = rw (← ea, ← eb, ne-eqb a k n, ne-eqb b k m, lt-ltb x 15 h, lt-leb u (getD w (row + (16 + k / 16)) 0) l)
-
-    pub space-first : 15 ≤ x → u ≤ getD w (row + (16 + k % 16)) 0 → a ≡ chosenBy x k u (getD w (row + secondSlot x k) 0)
-    unfolding chosenBy
-    space-first h l = rw (← ea, ← eb, ne-eqb a k n, ne-eqb b k m, le-ltb x 15 h, le-leb u (getD w (row + (16 + k % 16)) 0) l)
-
-    pub space-second : 15 ≤ x → getD w (row + (16 + k % 16)) 0 < u → b ≡ chosenBy x k u (getD w (row + secondSlot x k) 0)
-    unfolding chosenBy
-    space-second h l = rw (← ea, ← eb, ne-eqb a k n, ne-eqb b k m, le-ltb x 15 h, lt-leb u (getD w (row + (16 + k % 16)) 0) l)
+    second-taken l = rw (← ea, ← eb, ne-eqb a k n, ne-eqb b k m, lt-leb u v l)
 
 -- the designation that makes number k number j, by tests on the numbers
 pub change-none : (k j : ℕ) → j ≡ k → designated (change k j) ≡ []

@@ -15,7 +15,7 @@ use Rattle.state.specs.declared.Sets.{Sets}
 use Rattle.grammar.specs.Units.{TextUnit, octets}
 use Rattle.shortest.specs.Writing.{Need, choose, after, met, need, cost, used, designated, writing}
 use Rattle.shortest.proofs.Needs.{chosen-met}
-use Rattle.rows.specs.Rows.{tagAt, startFrom, unitTagged, unitFrom, unitsIn}
+use Rattle.rows.specs.Rows.{tagAt, highFrom, lowFrom, startFrom, unitFrom, unitsIn}
 use Rattle.numbers.specs.Numbers.{servedInGL, numbered, classOf, needOfClass, afterFirst, afterSecond, chosenBy, afterChoice, change, sideAt}
 use Rattle.costs.specs.Costs.{secondSlot}
 use Rattle.plan.specs.Plan.{restFrom}
@@ -25,21 +25,8 @@ use Rattle.plan.proofs.Rest.{class-below, fresh-number}
 use Rattle.octets.specs.Octets.{Written, sideOf}
 use Rattle.emit.specs.Emit.{Ready}
 use Rattle.emit.proofs.Chosen.{its-place}
-use Rattle.octets.proofs.Stores.{written-both, written-none, written-length, written-as, segment-octets, fixed-octets}
-
--- the octets of a unit that is no character are the same on each side
-side-free : (o : List ℕ) (t a b s : ℕ) (d e : Side) → 15 ≤ t → octets d (unitTagged o t a b s) ≡ octets e (unitTagged o t a b s)
-side-free o t a b s d e h = go (ltb t 21) refl (ltb t 26) refl
-  where
-    go : (p : Bool) → ltb t 21 ≡ p → (q : Bool) → ltb t 26 ≡ q → octets d (unitTagged o t a b s) ≡ octets e (unitTagged o t a b s)
-    go true p q r =
-        let l = ltb-true t 21 p in
-        fixed-octets o d t a b s h (λ x y. omega arith) ∙ sym (fixed-octets o e t a b s h (λ x y. omega arith))
-    go false p true r =
-        segment-octets o d t a b s _ _ refl refl (ltb-false t 21 p) (ltb-true t 26 r) ∙ sym (segment-octets o e t a b s _ _ refl refl (ltb-false t 21 p) (ltb-true t 26 r))
-    go false p false r =
-        let l = ltb-false t 26 r in
-        fixed-octets o d t a b s h (λ x y. omega arith) ∙ sym (fixed-octets o e t a b s h (λ x y. omega arith))
+use Rattle.emit.proofs.Row.{side-free}
+use Rattle.octets.proofs.Stores.{written-both, written-none, written-length, written-as}
 
 -- one turn of the writing
 turn : (u : TextUnit) (us : List TextUnit) (s t : Sets) (p : Option Standing) (d : Side) → choose (need u) (cost us) s ≡ p → after (choose (need u) (cost us) s) s ≡ t
@@ -70,7 +57,7 @@ module _ (o w : List ℕ) (n i k : ℕ) (h : i < n) (hk : k < 80) where
   its-choice = choice-at (cost rest) (λ m. cost rest (numbered m)) (λ j l. refl) x k hk (class-below (tagAt w i))
 
   its-need : need unit ≡ needOfClass x
-  its-need = need-tagged o (tagAt w i) (getD w (72 * i + 66) 0) (getD w (72 * i + 67) 0) (startFrom w (72 * i))
+  its-need = need-tagged o (tagAt w i) (highFrom w (72 * i)) (lowFrom w (72 * i)) (startFrom w (72 * i))
 
   next-met : met (needOfClass x) (numbered next) ≡ true
   next-met = rw (its-choice .state) (chosen-met (needOfClass x) (cost rest) (numbered k))
@@ -80,7 +67,7 @@ module _ (o w : List ℕ) (n i k : ℕ) (h : i < n) (hk : k < 80) where
     where
       go : (b : Bool) → ltb (tagAt w i) 15 ≡ b → octets (used (need unit) (numbered next)) unit ≡ octets (sideAt (tagAt w i) next) unit
       go false e =
-          side-free o (tagAt w i) (getD w (72 * i + 66) 0) (getD w (72 * i + 67) 0) (startFrom w (72 * i)) (used (need unit) (numbered next)) (sideAt (tagAt w i) next) (ltb-false (tagAt w i) 15 e)
+          side-free o w (72 * i) (used (need unit) (numbered next)) (sideAt (tagAt w i) next) (ltb-false (tagAt w i) 15 e)
       go true e =
           let l = ltb-true (tagAt w i) 15 e in
           let c = class-character (tagAt w i) l in
@@ -181,7 +168,7 @@ module _ (o w before : List ℕ) (n i k at : ℕ) (after : List ℕ) (g : Going 
       where
         go : (b : Bool) → ltb (tagAt w i) 15 ≡ b → shownNow ≡ unit′
         go false e =
-            side-free o (tagAt w i) (getD w (72 * i + 66) 0) (getD w (72 * i + 67) 0) (startFrom w (72 * i)) (sideOf (eqb (j / 16) l)) (sideAt (tagAt w i) j) (ltb-false (tagAt w i) 15 e)
+            side-free o w (72 * i) (sideOf (eqb (j / 16) l)) (sideAt (tagAt w i) j) (ltb-false (tagAt w i) 15 e)
         go true e =
             let t = ltb-true (tagAt w i) 15 e in
             let g : j / 16 < 5 = omega (arith, j-below) in

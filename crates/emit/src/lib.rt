@@ -5,14 +5,25 @@ ghost use lib.ListN.{length, getD};
 ghost use Rattle.state.specs.State.{fresh};
 ghost use Rattle.grammar.specs.Units.{octets};
 ghost use Rattle.shortest.specs.Writing.{writing, designated};
-ghost use Rattle.rows.specs.Rows.{unitsIn};
+ghost use Rattle.rows.specs.Layout as layouts;
+ghost use Rattle.rows.specs.Rows.{unitFrom, unitsIn};
 ghost use Rattle.numbers.specs.Numbers.{servedInGL, servedInGR, chosenBy, change};
 ghost use Rattle.costs.specs.Costs.{secondSlot};
-ghost use Rattle.octets.specs.Octets.{Written};
+ghost use Rattle.octets.specs.Octets.{Written, sideOf};
 ghost use Rattle.emit.specs.Emit.{rowsAnswer, rowsOutput, Ready};
 use base::Answer;
 use base::limit;
 use base::refusal;
+use rows::layout;
+use rows::tag;
+
+// Where a row keeps what the rest costs after the second designation, for a class that has two.
+fn second_slot(x: usize, k: usize) -> usize
+    requires { ⌜ k < 80 ⌝ }
+    ensures { λ q. ⌜ (q ≡ secondSlot x k) × (q < 65) ⌝ }
+{
+    if x < 15 { 16 + k / 16 } else { 16 + k % 16 }
+}
 
 // The number after the choice for a unit of class x under number k, by what its row keeps.
 fn choose(x: usize, k: usize, work: &[u8], row: usize) -> usize
@@ -32,16 +43,11 @@ fn choose(x: usize, k: usize, work: &[u8], row: usize) -> usize
     if b == k {
         return k;
     }
-    if x < 15 {
-        if work[row + k % 16] <= work[row + (16 + k / 16)] {
-            return a;
-        }
-        return b;
+    if work[row + k % 16] <= work[row + second_slot(x, k)] {
+        a
+    } else {
+        b
     }
-    if work[row + k % 16] <= work[row + (16 + k % 16)] {
-        return a;
-    }
-    b
 }
 
 // The same, where l and r are the places of GL and GR that serve the class: k at once, where one of them stands.
@@ -72,9 +78,35 @@ fn put_change(k: usize, j: usize, out: &mut [u8], at: usize) -> usize
     octets::put_designation(true, numbers::set_in_gl(j / 16), out, at)
 }
 
+// Writes the unit of the row that starts at a place, on a side, and answers the next place.
+fn put_row(work: &[u8], row: usize, left: bool, segments: &[u8], out: &mut [u8], at: usize) -> usize
+    requires { ⌜ (row + layouts.row ≤ length (now work)) × (at + length (octets (sideOf left) (unitFrom (now segments) (now work) row)) ≤ length (now out)) ⌝ }
+    ensures { λ r. ⌜ Written (now (out .entry)) at (octets (sideOf left) (unitFrom (now (segments .entry)) (now (work .entry)) row)) r (now (out .exit)) ⌝ }
+{
+    let tag = work[row + layout::TAG];
+    if tag < tag::TAB {
+        return octets::put_text(
+            tag,
+            work[row + layout::HIGH],
+            work[row + layout::LOW],
+            left,
+            out,
+            at,
+        );
+    }
+    if tag::SEGMENT <= tag {
+        if tag < tag::SPARE {
+            let n = rows::count_at(work, row);
+            let start = rows::start_at(work, row);
+            return octets::put_segment((tag::D + tag as u16) as u8, n, start, segments, out, at);
+        }
+    }
+    octets::put_mark(tag, out, at)
+}
+
 // Writes n rows by their plan from the output's first place on, and answers the next place.
 fn emit(work: &[u8], n: usize, segments: &[u8], out: &mut [u8]) -> usize
-    requires { ⌜ (n ≤ 65535) × (72 * n ≤ length (now work)) × Ready (now segments) (now work) n × (length (writing (unitsIn (now segments) (now work) 0 n) (fresh .sets)) ≤ length (now out)) ⌝ }
+    requires { ⌜ (n ≤ 65535) × (layouts.row * n ≤ length (now work)) × Ready (now segments) (now work) n × (length (writing (unitsIn (now segments) (now work) 0 n) (fresh .sets)) ≤ length (now out)) ⌝ }
     ensures { λ r. ⌜ Written (now (out .entry)) 0 (writing (unitsIn (now (segments .entry)) (now (work .entry)) 0 n) (fresh .sets)) r (now (out .exit)) ⌝ }
 {
     let in_gl = numbers::SERVED_IN_GL;
@@ -83,14 +115,14 @@ fn emit(work: &[u8], n: usize, segments: &[u8], out: &mut [u8]) -> usize
     let mut k: usize = 1;
     let mut at: usize = 0;
     while i < n {
-        let row = 72 * i;
-        let x = numbers::class_of(work[row + 65]);
+        let row = layout::ROW * i;
+        let x = numbers::class_of(work[row + layout::TAG]);
         let l = rows::wide(in_gl[x]);
         let r = rows::wide(in_gr[x]);
         let j = choose_quickly(x, k, l, r, work, row);
         let a = put_change(k, j, out, at);
         let left = j / 16 == l;
-        at = octets::put_unit(work, row, left, segments, out, a);
+        at = put_row(work, row, left, segments, out, a);
         k = j;
         i += 1;
     }
@@ -106,7 +138,7 @@ pub fn write_rows(work: &mut [u8], n: usize, segments: &[u8], out: &mut [u8]) ->
     if limit::UNITS < n {
         return Answer::refused(refusal::TOO_LONG, 0);
     }
-    if work.len() < 72 * (n + 1) {
+    if work.len() < layout::ROW * (n + 1) {
         return Answer::refused(refusal::NO_WORK_ROOM, 0);
     }
     let count = plan::plan(work, n, segments);

@@ -14,12 +14,13 @@ use Rattle.charset.specs.declared.Side.{Side}
 use Rattle.charset.specs.declared.Side.the-variants.{GL, GR}
 use Rattle.charset.specs.Charsets.{rowOf, formOf}
 use Rattle.state.specs.State.{on}
-use Rattle.grammar.specs.Units.{ext, wide, top, octets, designation}
+use Rattle.grammar.specs.Units.{TextUnit, ext, wide, top, octets, designation}
 use Rattle.grammar.proofs.Complete.{and-left, and-right}
 use Rattle.shortest.proofs.Sets.{up-to}
-use Rattle.rows.specs.Rows.{countOf, partOf, unitTagged}
-use Rattle.rows.proofs.Units.{part-length, unit-segment, unit-spare}
-use Rattle.octets.specs.Octets.{Written, sideOf, signOf, fixedOctets}
+use Rattle.rows.specs.Rows.{partOf, textTagged}
+use Rattle.rows.specs.Tag as tag
+use Rattle.rows.proofs.Units.{part-length}
+use Rattle.octets.specs.Octets.{Written, sideOf, signOf}
 
 -- ---- stores
 
@@ -125,73 +126,43 @@ broad t h k =
     let e : 12 + (t - 12) ≡ t = omega arith in
     subst (λ (m : ℕ). wide m ≡ true) e (up-to 3 (λ m. wide (12 + m)) refl (t - 12) (omega arith))
 
-module _ (o : List ℕ) (d : Side) (t a b s : ℕ) where
-  pub one-octet : (y : ℕ) → y ≡ top d + b % 128 → t < 12 → octets d (unitTagged o t a b s) ≡ y ∷ []
-  unfolding octets unitTagged
-  one-octet y e h = rw (lt-ltb t 12 h, narrow t h, e)
-
-  -- a character of one octet, or a space
-  pub single-octet : (y : ℕ) → y ≡ pick (eqb t 15) 0x20 (top d + b % 128) → pick (ltb t 12) false (ltb t 15) ≡ false → t < 16
-      → octets d (unitTagged o t a b s) ≡ y ∷ []
-  unfolding octets unitTagged pick
-  single-octet y e n h = go (ltb t 12) refl (ltb t 15) refl
-    where
-      go : (p : Bool) → ltb t 12 ≡ p → (q : Bool) → ltb t 15 ≡ q → octets d (unitTagged o t a b s) ≡ y ∷ []
-      go true p q r =
-          let l = ltb-true t 12 p in
-          let f : y ≡ top d + b % 128 = rw (ne-eqb t 15 (λ z. omega arith)) at e in
-          one-octet y f l
-      go false p true r = absurd (true≢false (rw (p, r) at n))
-      go false p false r =
-          let l = ltb-false t 15 r in
-          let z : t ≡ 15 = omega arith in
-          let f : y ≡ 0x20 = rw z at e in
-          rw (f, z) refl
-
-  pub two-octets : (x y : ℕ) → x ≡ top d + a % 128 → y ≡ top d + b % 128 → 12 ≤ t → t < 15 → octets d (unitTagged o t a b s) ≡ x ∷ y ∷ []
-  unfolding octets unitTagged
-  two-octets x y ex ey h k =
-      rw (le-ltb t 12 h, lt-ltb t 15 k, broad t h k, ex, ey)
-      (ap₂ (λ (m n : ℕ). (top d + m) ∷ (top d + n) ∷ [])
-      (let e : (a % 128 * 256 + b % 128) / 256 ≡ a % 128 = omega arith in e) (let e : (a % 128 * 256 + b % 128) % 256 ≡ b % 128 = omega arith in e))
-
-  fixed-low : 15 ≤ t → t < 21 → octets d (unitTagged o t a b s) ≡ fixedOctets t
-  unfolding octets unitTagged fixedOctets pick
-  fixed-low h k =
-      let e : 15 + (t - 15) ≡ t = omega arith in
-      subst (λ (m : ℕ). octets d (unitTagged o m a b s) ≡ fixedOctets m) e
-      (sameList-eq (octets d (unitTagged o (15 + (t - 15)) a b s)) (fixedOctets (15 + (t - 15)))
-      (up-to 6 (λ m. sameList (octets d (unitTagged o (15 + m) a b s)) (fixedOctets (15 + m))) refl (t - 15) (omega arith)))
-
-  fixed-high : 26 ≤ t → octets d (unitTagged o t a b s) ≡ fixedOctets t
-  unfolding octets fixedOctets pick
-  fixed-high h =
-      ap (octets d) (unit-spare o t a b s h)
-      ∙ rw (ne-eqb t 15 (λ e. omega arith), ne-eqb t 16 (λ e. omega arith), ne-eqb t 17 (λ e. omega arith), ne-eqb t 18 (λ e. omega arith), ne-eqb t 19 (λ e. omega arith))
-
-  pub fixed-octets : 15 ≤ t → (21 ≤ t → t < 26 → ⊥) → octets d (unitTagged o t a b s) ≡ fixedOctets t
-  fixed-octets h n = go (ltb t 21) refl
-    where
-      go : (q : Bool) → ltb t 21 ≡ q → octets d (unitTagged o t a b s) ≡ fixedOctets t
-      go true e = fixed-low h (ltb-true t 21 e)
-      go false e = let l = ltb-false t 21 e in fixed-high (out (ltb t 26) refl l)
-        where
-          out : (q : Bool) → ltb t 26 ≡ q → 21 ≤ t → 26 ≤ t
-          out true e l = absurd (n l (ltb-true t 26 e))
-          out false e l = ltb-false t 26 e
-
-  pub segment-octets : (n m : ℕ) → n ≡ countOf a b → m ≡ s → 21 ≤ t → t < 26 → octets d (unitTagged o t a b s) ≡ octets GL (ext (27 + t) (take n (drop m o)))
-  unfolding octets
-  segment-octets n m en em h k = ap (octets d) (unit-segment o t a b s h k) ∙ ap₂ (λ (x y : ℕ). octets GL (ext (27 + t) (take x (drop y o)))) (sym en) (sym em)
-
 -- the tag of a character of two octets, by its test
-pub paired : (t : ℕ) → pick (ltb t 12) false (ltb t 15) ≡ true → (12 ≤ t) × (t < 15)
+paired : (t : ℕ) → pick (ltb t 12) false (ltb t 15) ≡ true → (12 ≤ t) × (t < 15)
 unfolding pick
 paired t e = go (ltb t 12) refl
   where
     go : (p : Bool) → ltb t 12 ≡ p → (12 ≤ t) × (t < 15)
     go true p = absurd (false≢true (rw p at e))
     go false p = (ltb-false t 12 p, ltb-true t 15 (rw p at e))
+
+-- a character of one octet, or a space; and a character of two
+module _ (d : Side) (t a b : ℕ) where
+  pub single-octet : (y : ℕ) → y ≡ pick (eqb t tag.space) 0x20 (top d + b % 128) → pick (ltb t tag.double) false (ltb t tag.space) ≡ false
+      → t < tag.tab → octets d (textTagged t a b) ≡ y ∷ []
+  unfolding octets textTagged pick
+  single-octet y e n h = go (ltb t tag.double) refl (ltb t tag.space) refl
+    where
+      go : (p : Bool) → ltb t tag.double ≡ p → (q : Bool) → ltb t tag.space ≡ q → octets d (textTagged t a b) ≡ y ∷ []
+      go true p q r =
+          let l = ltb-true t tag.double p in
+          let f : y ≡ top d + b % 128 = rw (ne-eqb t tag.space (λ z. omega arith)) at e in
+          rw (p, narrow t l, f)
+      go false p true r = absurd (true≢false (rw (p, r) at n))
+      go false p false r =
+          let l = ltb-false t tag.space r in
+          let z : t ≡ tag.space = omega arith in
+          let f : y ≡ 0x20 = rw z at e in
+          rw (f, z) refl
+
+  pub two-octets : (x y : ℕ) → x ≡ top d + a % 128 → y ≡ top d + b % 128 → pick (ltb t tag.double) false (ltb t tag.space) ≡ true
+      → octets d (textTagged t a b) ≡ x ∷ y ∷ []
+  unfolding octets textTagged pick
+  two-octets x y ex ey n =
+      let p = paired t n in
+      rw (le-ltb t tag.double (p .0), lt-ltb t tag.space (p .1), broad t (p .0) (p .1), ex, ey)
+      (ap₂ (λ (m n : ℕ). (top d + m) ∷ (top d + n) ∷ [])
+      (let e : (a % 128 * 256 + b % 128) / 256 ≡ a % 128 = omega arith in e)
+      (let e : (a % 128 * 256 + b % 128) % 256 ≡ b % 128 = omega arith in e))
 
 -- a segment's octets: two threes, then the part
 pub segment-parts : (o : List ℕ) (e n m s : ℕ) → m ≡ partOf n s (length o)
@@ -217,3 +188,10 @@ designation-some l c h = rw (designation-short l c h) (go (leb 12 c))
 pub segment-length : (o : List ℕ) (e n s : ℕ) → length (octets GL (ext e (take n (drop s o)))) ≡ 6 + partOf n s (length o)
 unfolding octets
 segment-length o e n s = omega (arith, part-length o n s)
+
+-- octets of a unit that is another
+pub unit-size : {u v : TextUnit} → u ≡ v → length (octets GL u) ≡ length (octets GL v)
+unit-size e = ap (λ (u : TextUnit). length (octets GL u)) e
+
+pub unit-written : {u v : TextUnit} {at r : ℕ} {l m : List ℕ} → u ≡ v → Written l at (octets GL u) r m → Written l at (octets GL v) r m
+unit-written e w = rw e at w

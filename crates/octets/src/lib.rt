@@ -10,8 +10,10 @@ ghost use Rattle.charset.specs.Charsets.{rowOf};
 ghost use Rattle.state.specs.State.{on};
 ghost use Rattle.charset.specs.declared.Side.the-variants.{GL};
 ghost use Rattle.grammar.specs.Units.{octets, designation, top, ext};
-ghost use Rattle.rows.specs.Rows.{partOf, unitFrom};
-ghost use Rattle.octets.specs.Octets.{Written, sideOf, signOf, fixedOctets};
+ghost use Rattle.rows.specs.Rows.{partOf, textTagged, markTagged};
+ghost use Rattle.rows.specs.Tag as tags;
+ghost use Rattle.octets.specs.Octets.{Written, sideOf, signOf};
+use rows::tag;
 
 // The final octet of a set.
 fn final_of(set: usize) -> u8
@@ -66,19 +68,37 @@ fn on_side(left: bool, b: u8) -> u8
 
 // Whether a tag is that of a character of two octets.
 fn two_octets(tag: u8) -> bool
-    ensures { λ r. ⌜ r ≡ pick (ltb tag 12) false (ltb tag 15) ⌝ }
+    ensures { λ r. ⌜ r ≡ pick (ltb tag tags.double) false (ltb tag tags.space) ⌝ }
 {
-    if tag < 12 {
+    if tag < tag::DOUBLE {
         return false;
     }
-    tag < 15
+    tag < tag::SPACE
 }
 
 // The octet of a space, or of a character of one octet on a side: the two in one, since words and spaces alternate.
 fn single(tag: u8, left: bool, b: u8) -> u8
-    ensures { λ r. ⌜ r ≡ pick (eqb tag 15) 0x20 (top (sideOf left) + b % 128) ⌝ }
+    ensures { λ r. ⌜ r ≡ pick (eqb tag tags.space) 0x20 (top (sideOf left) + b % 128) ⌝ }
 {
-    if tag == 15 { 0x20 } else { on_side(left, b) }
+    if tag == tag::SPACE {
+        0x20
+    } else {
+        on_side(left, b)
+    }
+}
+
+// Writes a character, of which high and low are the octets of its code, or a space, on a side, and answers the next place.
+pub fn put_text(tag: u8, high: u8, low: u8, left: bool, out: &mut [u8], at: usize) -> usize
+    requires { ⌜ (tag < tags.tab) × (at + length (octets (sideOf left) (textTagged tag high low)) ≤ length (now out)) ⌝ }
+    ensures { λ r. ⌜ Written (now (out .entry)) at (octets (sideOf left) (textTagged tag high low)) r (now (out .exit)) ⌝ }
+{
+    if two_octets(tag) {
+        out[at] = on_side(left, high);
+        out[at + 1] = on_side(left, low);
+        return at + 2;
+    }
+    out[at] = single(tag, left, low);
+    at + 1
 }
 
 // Copies n octets of src, from a place on, and answers the next place.
@@ -94,27 +114,23 @@ fn copy(src: &[u8], from: usize, n: usize, out: &mut [u8], at: usize) -> usize
     at + n
 }
 
-// Writes a space, a tab, a newline or a direction mark.
-fn put_fixed(tag: u8, out: &mut [u8], at: usize) -> usize
-    requires { ⌜ at + length (fixedOctets tag) ≤ length (now out) ⌝ }
-    ensures { λ r. ⌜ Written (now (out .entry)) at (fixedOctets tag) r (now (out .exit)) ⌝ }
+// Writes a tab, a newline or a direction mark, and answers the next place.
+pub fn put_mark(tag: u8, out: &mut [u8], at: usize) -> usize
+    requires { ⌜ at + length (octets GL (markTagged tag)) ≤ length (now out) ⌝ }
+    ensures { λ r. ⌜ Written (now (out .entry)) at (octets GL (markTagged tag)) r (now (out .exit)) ⌝ }
 {
-    if tag == 15 {
-        out[at] = 0x20;
-        return at + 1;
-    }
-    if tag == 16 {
+    if tag == tag::TAB {
         out[at] = 0x09;
         return at + 1;
     }
-    if tag == 17 {
+    if tag == tag::NEWLINE {
         out[at] = 0x0A;
         return at + 1;
     }
-    if tag == 18 {
+    if tag == tag::LEFT_TO_RIGHT {
         return put_three(0x9B, 0x31, 0x5D, out, at);
     }
-    if tag == 19 {
+    if tag == tag::RIGHT_TO_LEFT {
         return put_three(0x9B, 0x32, 0x5D, out, at);
     }
     out[at] = 0x9B;
@@ -132,51 +148,20 @@ fn put_three(a: u8, b: u8, c: u8, out: &mut [u8], at: usize) -> usize
     at + 3
 }
 
-// Writes an extended segment whose n octets start at a place.
-fn put_segment(tag: u8, n: usize, start: usize, segments: &[u8], out: &mut [u8], at: usize) -> usize
-    requires { ⌜ (21 ≤ tag) × (tag < 26) × (n ≤ 16383) × (at + (6 + partOf n start (length (now segments))) ≤ length (now out)) ⌝ }
-    ensures { λ r. ⌜ Written (now (out .entry)) at (octets GL (ext (27 + tag) (take n (drop start (now (segments .entry)))))) r (now (out .exit)) ⌝ }
-{
-    let m = rows::part_of(n, start, segments.len());
-    let p = put_three(0x1B, 0x25, 0x2F, out, at);
-    let q = put_three(
-        27 + tag,
-        (128 + m / 128) as u8,
-        (128 + m % 128) as u8,
-        out,
-        p,
-    );
-    copy(segments, start, m, out, q)
-}
-
-// Writes the octets of the unit of the row that starts at a place, on a side, and answers the next place.
-pub fn put_unit(
-    work: &[u8],
-    row: usize,
-    left: bool,
+// Writes an extended segment of the n octets that start at a place of those lent, as far as they lie in them.
+pub fn put_segment(
+    d: u8,
+    n: usize,
+    start: usize,
     segments: &[u8],
     out: &mut [u8],
     at: usize,
 ) -> usize
-    requires { ⌜ (row + 72 ≤ length (now work)) × (at + length (octets (sideOf left) (unitFrom (now segments) (now work) row)) ≤ length (now out)) ⌝ }
-    ensures { λ r. ⌜ Written (now (out .entry)) at (octets (sideOf left) (unitFrom (now (segments .entry)) (now (work .entry)) row)) r (now (out .exit)) ⌝ }
+    requires { ⌜ (n ≤ 16383) × (at + (6 + partOf n start (length (now segments))) ≤ length (now out)) ⌝ }
+    ensures { λ r. ⌜ Written (now (out .entry)) at (octets GL (ext d (take n (drop start (now (segments .entry)))))) r (now (out .exit)) ⌝ }
 {
-    let tag = work[row + 65];
-    if two_octets(tag) {
-        out[at] = on_side(left, work[row + 66]);
-        out[at + 1] = on_side(left, work[row + 67]);
-        return at + 2;
-    }
-    if tag < 16 {
-        out[at] = single(tag, left, work[row + 67]);
-        return at + 1;
-    }
-    if 21 <= tag {
-        if tag < 26 {
-            let n = rows::count_at(work, row);
-            let start = rows::start_at(work, row);
-            return put_segment(tag, n, start, segments, out, at);
-        }
-    }
-    put_fixed(tag, out, at)
+    let m = rows::part_of(n, start, segments.len());
+    let p = put_three(0x1B, 0x25, 0x2F, out, at);
+    let q = put_three(d, (128 + m / 128) as u8, (128 + m % 128) as u8, out, p);
+    copy(segments, start, m, out, q)
 }

@@ -7,21 +7,6 @@ use borrow.Author.Needs.{needs}
 use Rattle.costs.proofs.both_costs.Statement.{statement}
 use Rattle.costs.proofs.both_costs.Tie as tie
 
-element-copy-out-four : tie.Need-element-copy-out-four
-element-copy-out-four c = search needs
-
-mul-i : tie.Need-mul-i
-mul-i c = search needs
-
-sub-j : tie.Need-sub-j
-sub-j c = search needs
-
-charges-requires : tie.Need-charges-requires
-charges-requires c κs = search needs
-
-column-requires : tie.Need-column-requires
-column-requires c κs = search needs
-
 lesser-costs-requires : tie.Need-lesser-costs-requires
 lesser-costs-requires c κs =
     let pre = c .before .before .before .before .before .before .pre in
@@ -47,10 +32,10 @@ pub both-costs-spec : {M : Type 1} → statement M
 both-costs-spec =
     tie.close
     (tie.spec
-    element-copy-out-four
-    mul-i
-    sub-j
-    charges-requires
-    column-requires
+    (search needs)
+    (search needs)
+    (search needs)
+    (search needs)
+    (search needs)
     lesser-costs-requires
     returns)

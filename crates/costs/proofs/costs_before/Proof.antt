@@ -10,30 +10,12 @@ use borrow.Author.Needs.{needs}
 use Rattle.costs.proofs.costs_before.Statement.{statement}
 use Rattle.costs.proofs.costs_before.Tie as tie
 
-element-copy-out-wide : tie.Need-element-copy-out-wide
-element-copy-out-wide c = search needs
-
-wide-requires : tie.Need-wide-requires
-wide-requires c κs = search needs
-
-element-copy-out-wide-2 : tie.Need-element-copy-out-wide-2
-element-copy-out-wide-2 c = search needs
-
-wide-requires-2 : tie.Need-wide-requires-2
-wide-requires-2 c κs = search needs
-
-element-copy-out-gl-costs : tie.Need-element-copy-out-gl-costs
-element-copy-out-gl-costs c = search needs
-
 gl-costs-requires : tie.Need-gl-costs-requires
 gl-costs-requires c κs =
     let pre = c .before .before .before .before .before .before .before .pre in
     let x = c .before .before .before .before .before .before .before .args .x in
     let right = c .before .before .before .wide2 .ensures .0 ∙ ap (λ (t : List ℕ). getD t x 0) (pre .6) in
     ((pre .0, subst (λ (r : ℕ). 13 ≤ r) right (c .before .before .if1 .taken)), pre .1 0 (omega arith), pre .1 2 (omega arith), last-surcharge _ 3 (pre .3), pre .4)
-
-returns : tie.Need-returns
-returns c = search needs
 
 both-costs-requires : tie.Need-both-costs-requires
 both-costs-requires c κs =
@@ -43,9 +25,6 @@ both-costs-requires c κs =
     let right = c .before .before .before .before .before .wide2 .ensures .0 ∙ ap (λ (t : List ℕ). getD t x 0) (pre .6) in
     let some = in-right x _ (pre .0) right (c .before .before .before .before .if1 .left) in
     (pre .1 x (omega (arith, pre .0)), pre .4, pre .2, pre .4, (some .0, served-left x _ (pre .0) left, some .1, c .before .before .if2 .taken, c .before .before .before .before .if1 .left))
-
-returns-2 : tie.Need-returns-2
-returns-2 c = search needs
 
 gr-costs-requires : tie.Need-gr-costs-requires
 gr-costs-requires c κs =
@@ -57,21 +36,18 @@ gr-costs-requires c κs =
     let none : 5 ≤ getD placesInGL x 0 = omega (arith, served-left x _ (pre .0) left, c .before .before .if2 .left) in
     (pre .1 x (omega (arith, pre .0)), pre .4, pre .3, pre .4, (some .0, some .1, c .before .before .before .before .if1 .left, none))
 
-returns-3 : tie.Need-returns-3
-returns-3 c = search needs
-
 pub costs-before-spec : {M : Type 1} → statement M
 costs-before-spec =
     tie.close
     (tie.spec
-    element-copy-out-wide
-    wide-requires
-    element-copy-out-wide-2
-    wide-requires-2
-    element-copy-out-gl-costs
+    (search needs)
+    (search needs)
+    (search needs)
+    (search needs)
+    (search needs)
     gl-costs-requires
-    returns
+    (λ c. search needs)
     both-costs-requires
-    returns-2
+    (λ c. search needs)
     gr-costs-requires
-    returns-3)
+    (λ c. search needs))

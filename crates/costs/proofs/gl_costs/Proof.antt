@@ -19,23 +19,8 @@ Inv-loop x three cur₀ p q r₀ cur r =
 abbrev μ-loop : tie.MeasureT-loop
 μ-loop x three cur₀ p q r₀ cur r = 16 - r
 
-unserved-requires : tie.Need-unserved-requires Inv-loop μ-loop
-unserved-requires c κs = search needs
-
-unserved-requires-2 : tie.Need-unserved-requires-2 Inv-loop μ-loop
-unserved-requires-2 c κs = search needs
-
 loop-holds : tie.Need-loop-holds Inv-loop μ-loop
 loop-holds c = (search needs, swept-none _ _, c .before .unserved .ensures, c .unserved2 .ensures)
-
-element-copy-out-a : tie.Need-element-copy-out-a Inv-loop μ-loop
-element-copy-out-a c = search needs
-
-add-b : tie.Need-add-b Inv-loop μ-loop
-add-b c = search needs
-
-element-copy-out-b : tie.Need-element-copy-out-b Inv-loop μ-loop
-element-copy-out-b c = search needs
 
 gl-column-requires : tie.Need-gl-column-requires Inv-loop μ-loop
 gl-column-requires c κs =
@@ -50,12 +35,6 @@ gl-column-requires c κs =
       omega (arith, held .1, high, turn .inv .3, unserved-most (args .x) 0, pre .3),
       turn .inv .1 .long ∙ pre .4,
     )
-
-add-r : tie.Need-add-r Inv-loop μ-loop
-add-r c = search needs
-
-loop-less : tie.Need-loop-less Inv-loop μ-loop
-loop-less c = search needs
 
 loop-again : tie.Need-loop-again Inv-loop μ-loop
 loop-again c =
@@ -77,14 +56,14 @@ gl-costs-spec =
     (tie.spec
     Inv-loop
     μ-loop
-    unserved-requires
-    unserved-requires-2
+    (search needs)
+    (search needs)
     loop-holds
-    element-copy-out-a
-    add-b
-    element-copy-out-b
+    (search needs)
+    (search needs)
+    (search needs)
     gl-column-requires
-    add-r
-    loop-less
+    (search needs)
+    (search needs)
     loop-again
     returns)

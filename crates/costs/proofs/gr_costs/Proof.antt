@@ -6,12 +6,6 @@ use borrow.Author.Needs.{needs}
 use Rattle.costs.proofs.gr_costs.Statement.{statement}
 use Rattle.costs.proofs.gr_costs.Tie as tie
 
-sub-j : tie.Need-sub-j
-sub-j c = search needs
-
-column-requires : tie.Need-column-requires
-column-requires c κs = search needs
-
 lesser-costs-requires : tie.Need-lesser-costs-requires
 lesser-costs-requires c κs =
     let pre = c .before .before .before .before .pre in
@@ -28,4 +22,4 @@ returns c =
     (c .lesser-costs .ensures)
 
 pub gr-costs-spec : {M : Type 1} → statement M
-gr-costs-spec = tie.close (tie.spec sub-j column-requires lesser-costs-requires returns)
+gr-costs-spec = tie.close (tie.spec (search needs) (search needs) lesser-costs-requires returns)

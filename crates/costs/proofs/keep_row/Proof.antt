@@ -15,32 +15,11 @@ Inv-loop cur from work₀ at row r₀ work r = (r ≤ 16) × (length work ≡ le
 abbrev μ-loop : tie.MeasureT-loop
 μ-loop cur from work₀ at row r₀ work r = 16 - r
 
-row-of-requires : tie.Need-row-of-requires Inv-loop μ-loop
-row-of-requires c κs = search needs
-
 loop-holds : tie.Need-loop-holds Inv-loop μ-loop
 loop-holds c = (search needs, refl, filled-none _ _ _, c .row-of .ensures)
 
-array-read-work : tie.Need-array-read-work Inv-loop μ-loop
-array-read-work c = search needs
-
-add-work : tie.Need-add-work Inv-loop μ-loop
-add-work c = search needs
-
-slice-write-work : tie.Need-slice-write-work Inv-loop μ-loop
-slice-write-work c = search needs
-
-add-r : tie.Need-add-r Inv-loop μ-loop
-add-r c = search needs
-
-loop-less : tie.Need-loop-less Inv-loop μ-loop
-loop-less c = search needs
-
 loop-again : tie.Need-loop-again Inv-loop μ-loop
 loop-again c = (omega arith, simp length-set (c .before .loop .inv .1), filled-more _ _ _ _ _ _ (c .before .loop .inv .2) (omega arith) refl, c .before .loop .inv .3)
-
-same-length : tie.Need-same-length Inv-loop μ-loop
-same-length c = search needs
 
 returns : tie.Need-returns Inv-loop μ-loop
 returns c = filled-same (c .before .loop .inv .3 .each) (filled-end 16 (c .before .loop .inv .2) (search needs) (search needs))
@@ -51,13 +30,13 @@ keep-row-spec =
     (tie.spec
     Inv-loop
     μ-loop
-    row-of-requires
+    (search needs)
     loop-holds
-    array-read-work
-    add-work
-    slice-write-work
-    add-r
-    loop-less
+    (search needs)
+    (search needs)
+    (search needs)
+    (search needs)
+    (search needs)
     loop-again
-    same-length
+    (search needs)
     returns)

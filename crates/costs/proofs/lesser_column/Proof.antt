@@ -18,35 +18,11 @@ abbrev μ-loop : tie.MeasureT-loop
 loop-holds : tie.Need-loop-holds Inv-loop μ-loop
 loop-holds c = (search needs, search needs, column-none _ _ _)
 
-array-read-lesser : tie.Need-array-read-lesser Inv-loop μ-loop
-array-read-lesser c = search needs
-
 add-lesser : tie.Need-add-lesser Inv-loop μ-loop
 add-lesser c = omega (arith, c .before .before .pre .1 (c .before .loop .g) (search needs) .0)
 
-array-read-lesser-2 : tie.Need-array-read-lesser-2 Inv-loop μ-loop
-array-read-lesser-2 c = search needs
-
 add-lesser-2 : tie.Need-add-lesser-2 Inv-loop μ-loop
 add-lesser-2 c = omega (arith, c .before .before .pre .1 (c .before .loop .g) (search needs) .1)
-
-lesser-requires : tie.Need-lesser-requires Inv-loop μ-loop
-lesser-requires c κs = search needs
-
-mul-cur : tie.Need-mul-cur Inv-loop μ-loop
-mul-cur c = search needs
-
-add-cur : tie.Need-add-cur Inv-loop μ-loop
-add-cur c = search needs
-
-element-write-cur : tie.Need-element-write-cur Inv-loop μ-loop
-element-write-cur c = search needs
-
-add-g : tie.Need-add-g Inv-loop μ-loop
-add-g c = search needs
-
-loop-less : tie.Need-loop-less Inv-loop μ-loop
-loop-less c = search needs
 
 loop-again : tie.Need-loop-again Inv-loop μ-loop
 loop-again c = (omega arith, simp length-set (c .before .before .loop .inv .1), column-more _ _ _ _ _ _ (c .before .before .loop .inv .2) (c .before .before .before .pre .0) (search needs) (c .lesser .ensures))
@@ -61,15 +37,15 @@ lesser-column-spec =
     Inv-loop
     μ-loop
     loop-holds
-    array-read-lesser
+    (search needs)
     add-lesser
-    array-read-lesser-2
+    (search needs)
     add-lesser-2
-    lesser-requires
-    mul-cur
-    add-cur
-    element-write-cur
-    add-g
-    loop-less
+    (search needs)
+    (search needs)
+    (search needs)
+    (search needs)
+    (search needs)
+    (search needs)
     loop-again
     returns)

@@ -37,12 +37,6 @@ lesser-column-requires c κs =
     let turn = c .before .before .before .before .loop in
     (search needs, λ g h. (pre .0 g h .sums (turn .r) (search needs), pre .1 g h .sums (turn .r) (search needs)), turn .inv .1 .long)
 
-add-r : tie.Need-add-r Inv-loop μ-loop
-add-r c = search needs
-
-loop-less : tie.Need-loop-less Inv-loop μ-loop
-loop-less c = search needs
-
 loop-again : tie.Need-loop-again Inv-loop μ-loop
 loop-again c = (omega arith, columns-more _ _ _ _ _ (search needs) (λ g. refl) (c .before .before .before .before .before .loop .inv .1) (c .lesser-column .ensures))
 
@@ -61,7 +55,7 @@ lesser-costs-spec =
     add-v
     shared-slice-read-v
     lesser-column-requires
-    add-r
-    loop-less
+    (search needs)
+    (search needs)
     loop-again
     returns)

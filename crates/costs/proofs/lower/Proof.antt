@@ -19,20 +19,8 @@ abbrev μ-loop : tie.MeasureT-loop
 loop-holds : tie.Need-loop-holds Inv-loop μ-loop
 loop-holds c = (search needs, search needs, filled-none _ _ _)
 
-element-copy-out-v : tie.Need-element-copy-out-v Inv-loop μ-loop
-element-copy-out-v c = search needs
-
 sub-cur : tie.Need-sub-cur Inv-loop μ-loop
 sub-cur c = omega (arith, c .before .before .loop .inv .2 .kept (c .before .before .loop .k) (inr (omega arith)), c .before .before .before .pre .0 (c .before .before .loop .k) (omega arith))
-
-element-write-cur : tie.Need-element-write-cur Inv-loop μ-loop
-element-write-cur c = search needs
-
-add-k : tie.Need-add-k Inv-loop μ-loop
-add-k c = search needs
-
-loop-less : tie.Need-loop-less Inv-loop μ-loop
-loop-less c = search needs
 
 loop-again : tie.Need-loop-again Inv-loop μ-loop
 loop-again c = (omega arith, simp length-set (c .before .before .loop .inv .1), filled-at _ _ _ _ _ (c .before .before .loop .inv .2) (omega arith) (ap (λ (m : ℕ). m - 128) (c .before .before .loop .inv .2 .kept (c .before .before .loop .k) (inr (omega arith)))))
@@ -47,10 +35,10 @@ lower-spec =
     Inv-loop
     μ-loop
     loop-holds
-    element-copy-out-v
+    (search needs)
     sub-cur
-    element-write-cur
-    add-k
-    loop-less
+    (search needs)
+    (search needs)
+    (search needs)
     loop-again
     returns)

@@ -5,17 +5,11 @@ use borrow.Author.Needs.{needs}
 use Rattle.costs.proofs.unit_before.Statement.{statement}
 use Rattle.costs.proofs.unit_before.Tie as tie
 
-changed-requires : tie.Need-changed-requires
-changed-requires c κs = search needs
-
 costs-before-requires : tie.Need-costs-before-requires
 costs-before-requires c κs =
     let pre = c .before .before .before .pre in
     let changed = sym (c .before .before .changed .ensures) ∙ c .before .if1 .taken in
     (changes-class _ _ changed (pre .0), pre .2, pre .3, pre .4, pre .6, pre .7, pre .8)
-
-element-copy-out-if2 : tie.Need-element-copy-out-if2
-element-copy-out-if2 c = search needs
 
 returns : tie.Need-returns
 returns c =
@@ -49,9 +43,9 @@ pub unit-before-spec : {M : Type 1} → statement M
 unit-before-spec =
     tie.close
     (tie.spec
-    changed-requires
+    (search needs)
     costs-before-requires
-    element-copy-out-if2
+    (search needs)
     returns
     lower-requires
     returns-2

@@ -8,17 +8,8 @@ use borrow.Author.Needs.{needs}
 use Rattle.numbers.proofs.after_first.Statement.{statement}
 use Rattle.numbers.proofs.after_first.Tie as tie
 
-mul-result : tie.Need-mul-result
-mul-result c = search needs
-
-add-result : tie.Need-add-result
-add-result c = search needs
-
 returns : tie.Need-returns
 returns c = first-gl _ (c .before .before .args .l) (c .before .before .args .r) _ (c .before .before .pre .1) (c .before .before .pre .2) (c .before .if1 .taken) (c .if2 .taken)
-
-mul-result-2 : tie.Need-mul-result-2
-mul-result-2 c = search needs
 
 add-result-2 : tie.Need-add-result-2
 add-result-2 c = omega (arith, bounded placesInGL 5 refl (c .before .before .args .x), bounded placesInGR 13 refl (c .before .before .args .x), c .before .before .pre .2)
@@ -38,10 +29,10 @@ pub after-first-spec : {M : Type 1} → statement M
 after-first-spec =
     tie.close
     (tie.spec
-    mul-result
-    add-result
+    (search needs)
+    (search needs)
     returns
-    mul-result-2
+    (search needs)
     add-result-2
     returns-2
     returns-3

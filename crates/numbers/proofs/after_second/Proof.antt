@@ -8,12 +8,6 @@ use borrow.Author.Needs.{needs}
 use Rattle.numbers.proofs.after_second.Statement.{statement}
 use Rattle.numbers.proofs.after_second.Tie as tie
 
-mul-result : tie.Need-mul-result
-mul-result c = search needs
-
-add-result : tie.Need-add-result
-add-result c = search needs
-
 returns : tie.Need-returns
 returns c = second-gr _ (c .before .before .args .l) (c .before .before .args .r) _ (c .before .before .pre .1) (c .before .before .pre .2) (c .before .if1 .taken) (c .if2 .taken)
 
@@ -25,9 +19,6 @@ add-result-2 c = omega (arith, bounded placesInGL 5 refl (c .before .before .arg
 
 returns-2 : tie.Need-returns-2
 returns-2 c = second-gl _ (c .before .before .args .l) (c .before .before .args .r) _ (c .before .before .pre .1) (c .before .before .pre .2) (c .before .if1 .taken) (c .if2 .left)
-
-add-result-3 : tie.Need-add-result-3
-add-result-3 c = search needs
 
 returns-3 : tie.Need-returns-3
 unfolding afterSecond
@@ -41,12 +32,12 @@ pub after-second-spec : {M : Type 1} → statement M
 after-second-spec =
     tie.close
     (tie.spec
-    mul-result
-    add-result
+    (search needs)
+    (search needs)
     returns
     mul-result-2
     add-result-2
     returns-2
-    add-result-3
+    (search needs)
     returns-3
     returns-4)

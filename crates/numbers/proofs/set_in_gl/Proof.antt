@@ -5,17 +5,8 @@ use borrow.Author.Needs.{needs}
 use Rattle.numbers.proofs.set_in_gl.Statement.{statement}
 use Rattle.numbers.proofs.set_in_gl.Tie as tie
 
-returns : tie.Need-returns
-returns c = search needs
-
-returns-2 : tie.Need-returns-2
-returns-2 c = search needs
-
-add-result : tie.Need-add-result
-add-result c = search needs
-
 returns-3 : tie.Need-returns-3
 returns-3 c = (gl-set _ (search needs) (c .before .if1 .left) (c .if2 .left), omega arith)
 
 pub set-in-gl-spec : {M : Type 1} → statement M
-set-in-gl-spec = tie.close (tie.spec returns returns-2 add-result returns-3)
+set-in-gl-spec = tie.close (tie.spec (λ c. search needs) (λ c. search needs) (search needs) returns-3)

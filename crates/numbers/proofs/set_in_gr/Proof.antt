@@ -5,12 +5,6 @@ use borrow.Author.Needs.{needs}
 use Rattle.numbers.proofs.set_in_gr.Statement.{statement}
 use Rattle.numbers.proofs.set_in_gr.Tie as tie
 
-returns : tie.Need-returns
-returns c = search needs
-
-add-result : tie.Need-add-result
-add-result c = search needs
-
 returns-2 : tie.Need-returns-2
 returns-2 c = (gr-set _ (c .if2 .taken) (c .before .if1 .left), omega arith)
 
@@ -18,4 +12,4 @@ returns-3 : tie.Need-returns-3
 returns-3 c = (gr-spare _ (c .if2 .left), omega arith)
 
 pub set-in-gr-spec : {M : Type 1} → statement M
-set-in-gr-spec = tie.close (tie.spec returns add-result returns-2 returns-3)
+set-in-gr-spec = tie.close (tie.spec (λ c. search needs) (search needs) returns-2 returns-3)

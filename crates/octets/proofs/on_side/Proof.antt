@@ -4,9 +4,6 @@ use borrow.Author.Needs.{needs}
 use Rattle.octets.proofs.on_side.Statement.{statement}
 use Rattle.octets.proofs.on_side.Tie as tie
 
-add-result : tie.Need-add-result
-add-result c = search needs
-
 returns : tie.Need-returns
 returns c = rw (c .if1 .taken) (omega arith)
 
@@ -14,4 +11,4 @@ returns-2 : tie.Need-returns-2
 returns-2 c = rw (c .if1 .left) (omega arith)
 
 pub on-side-spec : {M : Type 1} → statement M
-on-side-spec = tie.close (tie.spec add-result returns returns-2)
+on-side-spec = tie.close (tie.spec (search needs) returns returns-2)

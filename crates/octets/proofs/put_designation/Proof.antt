@@ -7,20 +7,11 @@ use borrow.Author.Needs.{needs}
 use Rattle.octets.proofs.put_designation.Statement.{statement}
 use Rattle.octets.proofs.put_designation.Tie as tie
 
-sign-requires : tie.Need-sign-requires
-sign-requires c κs = search needs
-
-final-of-requires : tie.Need-final-of-requires
-final-of-requires c κs = search needs
-
 slice-write-out : tie.Need-slice-write-out
 slice-write-out c =
     let args = c .before .before .before .args in
     let pre = c .before .before .before .pre in
     omega (arith, designation-some (args .left) (args .set) (pre .0), pre .1)
-
-add-out : tie.Need-add-out
-add-out c = search needs
 
 slice-write-out-2 : tie.Need-slice-write-out-2
 slice-write-out-2 c =
@@ -28,29 +19,17 @@ slice-write-out-2 c =
     let d = designation-one (args .left) (args .set) _ _ (c .before .before .sign .ensures) (c .before .final-of .ensures) (c .if1 .taken) in
     simp length-set (omega (arith, ap length d, c .before .before .before .before .pre .1))
 
-add-out-2 : tie.Need-add-out-2
-add-out-2 c = search needs
-
 slice-write-out-3 : tie.Need-slice-write-out-3
 slice-write-out-3 c =
     let args = c .before .before .before .before .args in
     let d = designation-one (args .left) (args .set) _ _ (c .before .before .sign .ensures) (c .before .final-of .ensures) (c .if1 .taken) in
     simp length-set (omega (arith, ap length d, c .before .before .before .before .pre .1))
 
-add-result : tie.Need-add-result
-add-result c = search needs
-
-same-length : tie.Need-same-length
-same-length c = search needs
-
 returns : tie.Need-returns
 returns c =
     let args = c .before .before .before .before .args in
     let d = designation-one (args .left) (args .set) _ _ (c .before .before .sign .ensures) (c .before .final-of .ensures) (c .if1 .taken) in
     written-as d (written-3 _ _ _ _ _)
-
-add-out-3 : tie.Need-add-out-3
-add-out-3 c = search needs
 
 slice-write-out-4 : tie.Need-slice-write-out-4
 slice-write-out-4 c =
@@ -59,9 +38,6 @@ slice-write-out-4 c =
     let d = designation-two (args .left) (args .set) _ _ (c .before .before .sign .ensures) (c .before .final-of .ensures) (c .if1 .left) (pre .0) in
     simp length-set (omega (arith, ap length d, pre .1))
 
-add-out-4 : tie.Need-add-out-4
-add-out-4 c = search needs
-
 slice-write-out-5 : tie.Need-slice-write-out-5
 slice-write-out-5 c =
     let args = c .before .before .before .before .args in
@@ -69,21 +45,12 @@ slice-write-out-5 c =
     let d = designation-two (args .left) (args .set) _ _ (c .before .before .sign .ensures) (c .before .final-of .ensures) (c .if1 .left) (pre .0) in
     simp length-set (omega (arith, ap length d, pre .1))
 
-add-out-5 : tie.Need-add-out-5
-add-out-5 c = search needs
-
 slice-write-out-6 : tie.Need-slice-write-out-6
 slice-write-out-6 c =
     let args = c .before .before .before .before .args in
     let pre = c .before .before .before .before .pre in
     let d = designation-two (args .left) (args .set) _ _ (c .before .before .sign .ensures) (c .before .final-of .ensures) (c .if1 .left) (pre .0) in
     simp length-set (omega (arith, ap length d, pre .1))
-
-add-result-2 : tie.Need-add-result-2
-add-result-2 c = search needs
-
-same-length-2 : tie.Need-same-length-2
-same-length-2 c = search needs
 
 returns-2 : tie.Need-returns-2
 returns-2 c =
@@ -96,22 +63,22 @@ pub put-designation-spec : {M : Type 1} → statement M
 put-designation-spec =
     tie.close
     (tie.spec
-    sign-requires
-    final-of-requires
+    (search needs)
+    (search needs)
     slice-write-out
-    add-out
+    (search needs)
     slice-write-out-2
-    add-out-2
+    (search needs)
     slice-write-out-3
-    add-result
-    same-length
+    (search needs)
+    (search needs)
     returns
-    add-out-3
+    (search needs)
     slice-write-out-4
-    add-out-4
+    (search needs)
     slice-write-out-5
-    add-out-5
+    (search needs)
     slice-write-out-6
-    add-result-2
-    same-length-2
+    (search needs)
+    (search needs)
     returns-2)

@@ -18,22 +18,10 @@ Inv-loop work₀ n segments m fours threes left right cur₀ base₀ last₀ i�
 abbrev μ-loop : tie.MeasureT-loop
 μ-loop work₀ n segments m fours threes left right cur₀ base₀ last₀ i₀ work cur base last i = i
 
-array-write-fours : tie.Need-array-write-fours Inv-loop μ-loop
-array-write-fours c = search needs
-
-array-write-threes : tie.Need-array-write-threes Inv-loop μ-loop
-array-write-threes c = search needs
-
-rows-of-requires : tie.Need-rows-of-requires Inv-loop μ-loop
-rows-of-requires c κs = search needs
-
 loop-holds : tie.Need-loop-holds Inv-loop μ-loop
 loop-holds c =
     rw (c .rows-of .ensures .0)
     (search needs, refl, known-none _ _ _ (replicate 80 0) (bounded (replicate 80 0) 0 refl), planned-none _ _ _)
-
-sub-i : tie.Need-sub-i Inv-loop μ-loop
-sub-i c = search needs
 
 mul-row : tie.Need-mul-row Inv-loop μ-loop
 mul-row c =
@@ -58,9 +46,6 @@ slice-read-class-of c =
     let rows = c .before .before .before .before .before .rows-of .ensures in
     let inv = c .before .before .before .before .loop .inv in
     omega (arith, rows .0, rows .1, rows .2, inv .0, inv .3 .long)
-
-class-of-requires : tie.Need-class-of-requires Inv-loop μ-loop
-class-of-requires c κs = search needs
 
 keep-requires : tie.Need-keep-requires Inv-loop μ-loop
 keep-requires c κs =
@@ -104,9 +89,6 @@ add-base-2 c =
     let bound = known-bound (λ q. known q .fits) (omega (arith, rows .0, rows .1)) (inv .0) (inv .2) in
     omega (arith, bound, size, c .before .unit-before .ensures .small)
 
-loop-less : tie.Need-loop-less Inv-loop μ-loop
-loop-less c = search needs
-
 loop-again : tie.Need-loop-again Inv-loop μ-loop
 loop-again c =
     let inv = c .before .before .before .before .before .before .before .before .before .before .before .before .before .before .before .before .before .loop .inv in
@@ -120,9 +102,6 @@ loop-again c =
       turn-planned _ _ _ _ _ _ _ _ _ (omega arith) (inv .0) (inv .2) (inv .3) _ _ class size _ kept,
     )
 
-array-read-result : tie.Need-array-read-result Inv-loop μ-loop
-array-read-result c = search needs
-
 cast-result : tie.Need-cast-result Inv-loop μ-loop
 cast-result c = omega (arith, known-low (c .before .loop .inv .1) (c .before .loop .inv .2) 1)
 
@@ -135,9 +114,6 @@ add-result c =
     let bound = known-bound (λ q. known q .fits) (omega (arith, rows .0, rows .1)) (inv .0) (inv .2) in
     omega (arith, bound, known-low (inv .1) (inv .2) 1)
 
-same-length : tie.Need-same-length Inv-loop μ-loop
-same-length c = search needs
-
 returns : tie.Need-returns Inv-loop μ-loop
 returns c = plan-end _ _ _ _ _ _ (c .before .loop .cur) _ _ (search needs) (c .before .loop .inv .2) (c .before .loop .inv .3) refl
 
@@ -147,24 +123,24 @@ plan-spec =
     (tie.spec
     Inv-loop
     μ-loop
-    array-write-fours
-    array-write-threes
-    rows-of-requires
+    (search needs)
+    (search needs)
+    (search needs)
     loop-holds
-    sub-i
+    (search needs)
     mul-row
     size-from-requires
     add-class-of
     slice-read-class-of
-    class-of-requires
+    (search needs)
     keep-requires
     unit-before-requires
     add-base
     add-base-2
-    loop-less
+    (search needs)
     loop-again
-    array-read-result
+    (search needs)
     cast-result
     add-result
-    same-length
+    (search needs)
     returns)

@@ -49,42 +49,6 @@ returns-5 c =
     let many = too-many _ (take (args .n) (drop (args .start) (args .segments .now))) _ low high (omega (arith, count, c .if5 .taken)) in
     on-le _ _ _ _ _ inside many
 
-add-name-end : tie.Need-add-name-end
-add-name-end c = search needs
-
-sub-name-end : tie.Need-sub-name-end
-sub-name-end c = search needs
-
-part-name-end-start : tie.Need-part-name-end-start
-part-name-end-start c = search needs
-
-part-name-end-end : tie.Need-part-name-end-end
-part-name-end-end c = search needs
-
-name-end-requires : tie.Need-name-end-requires
-name-end-requires c κs = search needs
-
-cast-content : tie.Need-cast-content
-cast-content c = search needs
-
-content-requires : tie.Need-content-requires
-content-requires c κs = search needs
-
-enum-known-element : tie.Need-enum-known-element
-enum-known-element c = search needs
-
-step-requires : tie.Need-step-requires
-step-requires c κs = search needs
-
-enum-told : tie.Need-enum-told
-enum-told c = search needs
-
-enum-told-2 : tie.Need-enum-told-2
-enum-told-2 c = search needs
-
-enum-told-3 : tie.Need-enum-told-3
-enum-told-3 c = search needs
-
 returns-6 : tie.Need-returns-6
 returns-6 c =
     let args = c .before .before .before .before .before .before .before .before .before .before .before .before .before .args in
@@ -170,18 +134,18 @@ segment-spec =
     returns-3
     returns-4
     returns-5
-    add-name-end
-    sub-name-end
-    part-name-end-start
-    part-name-end-end
-    name-end-requires
-    cast-content
-    content-requires
-    enum-known-element
-    step-requires
-    enum-told
-    enum-told-2
-    enum-told-3
+    (search needs)
+    (search needs)
+    (search needs)
+    (search needs)
+    (search needs)
+    (search needs)
+    (search needs)
+    (search needs)
+    (search needs)
+    (search needs)
+    (search needs)
+    (search needs)
     returns-6
     returns-7
     returns-8

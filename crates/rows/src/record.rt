@@ -2,8 +2,10 @@
 ghost use mathlib.Core.Path.{_≡_};
 ghost use Prim.Native.Nat.{_+_, _-_, _*_, _<_};
 ghost use lib.ListN.{length};
 ghost use Rattle.rows.specs.Rows.{tagOf, numberOf, withRecord};
-ghost use Rattle.check_list.specs.Row.{Stowable};
+ghost use Rattle.rows.specs.Stowable.{Stowable};
+use crate::layout;
+use crate::tag;
 use base::Unit;
 use base::kind;
 
@@ -17,9 +19,9 @@ fn tag_of(unit: Unit) -> u8
         return unit.set;
     }
     if kind == kind::SEGMENT {
-        return (unit.code - 27) as u8;
+        return (unit.code - tag::D) as u8;
     }
-    14 + kind
+    tag::KIND + kind
 }
 
 // The number beside it.
@@ -39,8 +41,8 @@ pub fn put(unit: Unit, i: usize, work: &mut [u8])
     requires { ⌜ Stowable unit ⌝ }
     ensures { λ _. ⌜ now (work .exit) ≡ withRecord (now (work .entry)) i unit ⌝ }
 {
-    if i < work.len() / 72 {
-        let at = 72 * i + 65;
+    if i < work.len() / layout::ROW {
+        let at = layout::ROW * i + layout::TAG;
         let tag = tag_of(unit);
         let number = number_of(unit);
         let start = unit.start;
