@@ -12,8 +12,9 @@ use borrow.Author.Tests.{eqb-true, eqb-false, eq-eqb, ne-eqb, leb-true, leb-fals
 use Rattle.grammar.proofs.Complete.{and-left, and-right}
 use Rattle.shortest.proofs.Sets.{upTo, up-to}
 use Rattle.numbers.specs.Numbers.{withGL, withGR, priceOfClass, placesInGL, placesInGR, servedInGL, servedInGR, afterFirst, afterSecond, chosenBy, surcharge}
-use Rattle.costs.specs.Costs.{leastBy, SumsFit, Charges, Column, surcharges, fromGL, OfGL, Smooth, InGR, OnBoth}
-use Rattle.costs.proofs.Filled.{all-five}
+use Rattle.table.specs.Table.{SumsFit, Charges, ColumnRead, fromGL}
+use Rattle.costs.specs.Costs.{leastBy, surcharges, OfGL, Smooth, InGR, OnBoth}
+use Rattle.table.proofs.Filled.{all-five}
 use Rattle.numbers.proofs.Numbers.{bounded, first-gl, first-gr, second-gl, second-gr, first-space, second-space, price-gl, price-both, price-gr}
 
 -- ---- the least cost where the sets stay, and where one is designated
@@ -109,7 +110,7 @@ module _ (x : ℕ) (next : List ℕ) (g q : ℕ) (hg : g < 5) (hq : q < 16) (sm 
       way j (16 * l + q) (getD ps g 0) p (z ∙ e) c (λ y. ch .each g hg ∙ charged g l p .0 (omega arith)) (λ n. ch .each g hg ∙ charged g l p .1 (λ y. n (omega arith)))
 
   gr-way : (r j p : ℕ) (table vs : List ℕ) → upTo 32 (λ m. eqb (getD (surcharges p) m 0) (cond (eqb m 15) 0 p)) ≡ true → withGR r (16 * g + q) ≡ j → priceOfClass x ≡ p
-      → r < 13 → table ≡ surcharges p → Column next r vs → getD table (15 - r + q) 0 + getD vs g 0 ≡ surcharge x (16 * g + q) j + getD next j 0
+      → r < 13 → table ≡ surcharges p → ColumnRead next r vs → getD table (15 - r + q) 0 + getD vs g 0 ≡ surcharge x (16 * g + q) j + getD next j 0
   gr-way r j p table vs t e c hr et col =
       let z : 16 * g + r ≡ withGR r (16 * g + q) = omega arith in
       omega (
@@ -120,7 +121,7 @@ module _ (x : ℕ) (next : List ℕ) (g q : ℕ) (hg : g < 5) (hq : q < 16) (sm 
       )
 
   -- a character of a set of both sides, of GR alone
-  pub lesser-both : (l r : ℕ) (ps vs table : List ℕ) → OnBoth x l r → table ≡ surcharges 4 → Charges 4 l ps → Column next r vs
+  pub lesser-both : (l r : ℕ) (ps vs table : List ℕ) → OnBoth x l r → table ≡ surcharges 4 → Charges 4 l ps → ColumnRead next r vs
       → min (getD next (16 * l + q) 0 + getD ps g 0) (getD table (15 - r + q) 0 + getD vs g 0) ≡ leastBy x next (16 * g + q)
   lesser-both l r ps vs table (hx, el, er, hl, hr) et ch col =
       let p = price-both x l r hx el er hl hr in
@@ -128,7 +129,7 @@ module _ (x : ℕ) (next : List ℕ) (g q : ℕ) (hg : g < 5) (hq : q < 16) (sm 
       (gl-way l (afterFirst x (16 * g + q)) 4 ps (first-gl x l r (16 * g + q) el er hx hl) p ch)
       (gr-way r (afterSecond x (16 * g + q)) 4 table vs refl (second-gr x l r (16 * g + q) el er hx hr) p hr et col)
 
-  pub lesser-gr : (r : ℕ) (vs table : List ℕ) → InGR x r → table ≡ surcharges 3 → Column next r vs
+  pub lesser-gr : (r : ℕ) (vs table : List ℕ) → InGR x r → table ≡ surcharges 3 → ColumnRead next r vs
       → min (getD table (15 - r + q) 0 + getD vs g 0) (getD table (15 - r + q) 0 + getD vs g 0) ≡ leastBy x next (16 * g + q)
   lesser-gr r vs table (hx, er, hr, hl) et col =
       let p = price-gr x (getD placesInGL x 0) hx refl hl in
@@ -321,7 +322,7 @@ fit-charges {x} {next} i p l ps sm len hi hp ch g hg =
     record { inside = omega arith; sums = λ r hr. omega (arith, sm .small (i + r), ch .each g hg, cond-most (eqb g l) p) }
 
 pub fit-column : {x : ℕ} {next : List ℕ} (p i r : ℕ) (table vs : List ℕ) → upTo 32 (λ m. leb (getD (surcharges p) m 0) 4) ≡ true → table ≡ surcharges p → Smooth x next
-    → r < 13 → i ≡ 15 - r → Column next r vs → SumsFit table i vs
+    → r < 13 → i ≡ 15 - r → ColumnRead next r vs → SumsFit table i vs
 fit-column {x} {next} p i r table vs t e sm hr ei col g hg =
     record {
       inside = omega (arith, ap length e);

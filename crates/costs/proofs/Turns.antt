@@ -10,9 +10,10 @@ use lib.Dec.{ltb, leb, eqb}
 use borrow.Author.Tests.{lt-ltb, le-ltb, eqb-false}
 use Rattle.base.specs.Choice.{pick}
 use Rattle.numbers.specs.Numbers.{priceOfClass, afterFirst, afterSecond, afterChoice}
-use Rattle.costs.specs.Costs.{Filled, Columns, leastBy, changes, Turned, secondSlot, RowKept}
+use Rattle.table.specs.Table.{Filled, Columns}
+use Rattle.costs.specs.Costs.{leastBy, changes, Turned, secondSlot, RowKept}
 use Rattle.numbers.proofs.Numbers.{first-gl, second-gr, first-space, second-space, gl-two, gr-most}
-use Rattle.costs.proofs.Filled.{columns-at}
+use Rattle.table.proofs.Filled.{columns-at}
 
 -- ---- what a row keeps: two stretches, of the costs after the first designation and after the second
 

@@ -1,7 +1,7 @@
 -- `costs::both_costs` meets its contract: the lesser costs are the least.
 use native.Mathlib.Omega.{arith}
 use mathlib.Core.Path.{refl}
-use Rattle.costs.proofs.Filled.{columns-as}
+use Rattle.table.proofs.Filled.{columns-as}
 use Rattle.costs.proofs.Least.{charges-as, last-surcharge, fit-charges, fit-column, lesser-both}
 use borrow.Author.Needs.{needs}
 use Rattle.costs.proofs.both_costs.Statement.{statement}

@@ -6,8 +6,8 @@ use mathlib.Core.Path.{_≡_, _∙_}
 use mathlib.Core.Bool.{cond}
 use lib.Dec.{eqb}
 use lib.ListN.{getD}
-use Rattle.costs.specs.Costs.{Swept, fromGL}
-use Rattle.costs.proofs.Filled.{swept-none, swept-next, swept-gl, swept-end, columns-as}
+use Rattle.table.specs.Table.{Swept, fromGL}
+use Rattle.table.proofs.Filled.{swept-none, swept-next, swept-gl, swept-end, columns-as}
 use Rattle.costs.proofs.Least.{gl-least, unserved-most}
 use Rattle.costs.proofs.gl_costs.Statement.{statement}
 use Rattle.costs.proofs.gl_costs.Tie as tie

@@ -1,6 +1,6 @@
 -- `costs::gr_costs` meets its contract: the lesser costs are the least.
 use mathlib.Core.Path.{refl}
-use Rattle.costs.proofs.Filled.{columns-as}
+use Rattle.table.proofs.Filled.{columns-as}
 use Rattle.costs.proofs.Least.{fit-column, lesser-gr}
 use borrow.Author.Needs.{needs}
 use Rattle.costs.proofs.gr_costs.Statement.{statement}

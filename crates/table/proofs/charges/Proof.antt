@@ -1,8 +1,8 @@
--- `costs::charges` meets its contract.
-use Rattle.costs.proofs.Filled.{charges-of}
+-- `table::charges` meets its contract.
+use Rattle.table.proofs.Filled.{charges-of}
 use borrow.Author.Needs.{needs}
-use Rattle.costs.proofs.charges.Statement.{statement}
-use Rattle.costs.proofs.charges.Tie as tie
+use Rattle.table.proofs.charges.Statement.{statement}
+use Rattle.table.proofs.charges.Tie as tie
 
 returns : tie.Need-returns
 returns c =

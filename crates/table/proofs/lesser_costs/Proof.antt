@@ -1,13 +1,13 @@
--- `costs::lesser_costs` meets its contract. The invariant: the first r columns hold the lesser costs.
+-- `table::lesser_costs` meets its contract. The invariant: the first r columns hold the lesser costs.
 use borrow.Author.Needs.{needs}
 use native.Mathlib.Omega.{arith}
 use Prim.Native.Nat.{_+_, _-_, _≤_, min}
 use mathlib.Core.Path.{refl}
 use lib.ListN.{getD}
-use Rattle.costs.specs.Costs.{Columns}
-use Rattle.costs.proofs.Filled.{columns-none, columns-more, columns-end}
-use Rattle.costs.proofs.lesser_costs.Statement.{statement}
-use Rattle.costs.proofs.lesser_costs.Tie as tie
+use Rattle.table.specs.Table.{Columns}
+use Rattle.table.proofs.Filled.{columns-none, columns-more, columns-end}
+use Rattle.table.proofs.lesser_costs.Statement.{statement}
+use Rattle.table.proofs.lesser_costs.Tie as tie
 
 abbrev Inv-loop : tie.InvT-loop
 Inv-loop a i p c j q cur₀ r₀ cur r =

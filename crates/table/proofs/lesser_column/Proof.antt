@@ -1,13 +1,13 @@
--- `costs::lesser_column` meets its contract. The invariant: the first g places of the column hold the lesser costs.
+-- `table::lesser_column` meets its contract. The invariant: the first g places of the column hold the lesser costs.
 use borrow.Author.Needs.{needs}
 use native.Mathlib.Omega.{arith}
 use Prim.Native.Nat.{_+_, _-_, _≤_, min}
 use mathlib.Core.Path.{_≡_}
 use lib.ListN.{length, getD, length-set}
-use Rattle.costs.specs.Costs.{ColumnFilled}
-use Rattle.costs.proofs.Filled.{column-none, column-more, column-end}
-use Rattle.costs.proofs.lesser_column.Statement.{statement}
-use Rattle.costs.proofs.lesser_column.Tie as tie
+use Rattle.table.specs.Table.{ColumnFilled}
+use Rattle.table.proofs.Filled.{column-none, column-more, column-end}
+use Rattle.table.proofs.lesser_column.Statement.{statement}
+use Rattle.table.proofs.lesser_column.Tie as tie
 
 abbrev Inv-loop : tie.InvT-loop
 Inv-loop u v cur₀ r p q g₀ cur g = (g ≤ 5) × (length cur ≡ 80) × ColumnFilled (λ h. min (u + getD p h 0) (v + getD q h 0)) r g cur₀ cur

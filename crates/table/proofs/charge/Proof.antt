@@ -1,8 +1,8 @@
--- `costs::charge` meets its contract.
+-- `table::charge` meets its contract.
 use mathlib.Core.Path.{refl}
 use borrow.Author.Tests.{eq-eqb, ne-eqb}
-use Rattle.costs.proofs.charge.Statement.{statement}
-use Rattle.costs.proofs.charge.Tie as tie
+use Rattle.table.proofs.charge.Statement.{statement}
+use Rattle.table.proofs.charge.Tie as tie
 
 returns : tie.Need-returns
 returns c = rw (eq-eqb _ _ (c .if1 .taken)) refl

@@ -1,13 +1,13 @@
--- `costs::row_of` meets its contract. The invariant: the first r costs are there.
+-- `table::row_of` meets its contract. The invariant: the first r costs are there.
 use borrow.Author.Needs.{needs}
 use native.Mathlib.Omega.{arith}
 use Prim.Native.Nat.{_+_, _-_, _≤_}
 use mathlib.Core.Path.{_≡_, refl}
 use lib.ListN.{length, getD, length-set}
-use Rattle.costs.specs.Costs.{Filled}
-use Rattle.costs.proofs.Filled.{filled-none, filled-at, filled-end, row-filled}
-use Rattle.costs.proofs.row_of.Statement.{statement}
-use Rattle.costs.proofs.row_of.Tie as tie
+use Rattle.table.specs.Table.{Filled}
+use Rattle.table.proofs.Filled.{filled-none, filled-at, filled-end, row-filled}
+use Rattle.table.proofs.row_of.Statement.{statement}
+use Rattle.table.proofs.row_of.Tie as tie
 
 abbrev Inv-loop : tie.InvT-loop
 Inv-loop costs from row₀ r₀ row r = (r ≤ 16) × (length row ≡ 16) × Filled (λ q. getD costs (from + q) 0) 0 r row₀ row

@@ -1,14 +1,14 @@
--- `costs::lower` meets its contract. The invariant: 128 is taken from the first k costs.
+-- `table::lower` meets its contract. The invariant: 128 is taken from the first k costs.
 use borrow.Author.Needs.{needs}
 use native.Mathlib.Omega.{arith}
 use mathlib.Core.Logic.{inr}
 use Prim.Native.Nat.{ℕ, _-_, _≤_}
 use mathlib.Core.Path.{_≡_, ap}
 use lib.ListN.{length, getD, length-set}
-use Rattle.costs.specs.Costs.{Filled}
-use Rattle.costs.proofs.Filled.{filled-none, filled-at, filled-end}
-use Rattle.costs.proofs.lower.Statement.{statement}
-use Rattle.costs.proofs.lower.Tie as tie
+use Rattle.table.specs.Table.{Filled}
+use Rattle.table.proofs.Filled.{filled-none, filled-at, filled-end}
+use Rattle.table.proofs.lower.Statement.{statement}
+use Rattle.table.proofs.lower.Tie as tie
 
 abbrev Inv-loop : tie.InvT-loop
 Inv-loop cur₀ k₀ cur k = (k ≤ 80) × (length cur ≡ 80) × Filled (λ q. getD cur₀ q 0 - 128) 0 k cur₀ cur

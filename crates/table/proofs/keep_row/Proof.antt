@@ -1,16 +1,16 @@
--- `costs::keep_row` meets its contract. The invariant: the first r costs of the row are kept.
+-- `table::keep_row` meets its contract. The invariant: the first r costs of the row are kept.
 use borrow.Author.Needs.{needs}
 use native.Mathlib.Omega.{arith}
 use Prim.Native.Nat.{_+_, _-_, _≤_}
 use mathlib.Core.Path.{_≡_, refl}
 use lib.ListN.{length, getD, length-set}
-use Rattle.costs.specs.Costs.{Filled, Row}
-use Rattle.costs.proofs.Filled.{filled-none, filled-more, filled-end, filled-same}
-use Rattle.costs.proofs.keep_row.Statement.{statement}
-use Rattle.costs.proofs.keep_row.Tie as tie
+use Rattle.table.specs.Table.{Filled, RowRead}
+use Rattle.table.proofs.Filled.{filled-none, filled-more, filled-end, filled-same}
+use Rattle.table.proofs.keep_row.Statement.{statement}
+use Rattle.table.proofs.keep_row.Tie as tie
 
 abbrev Inv-loop : tie.InvT-loop
-Inv-loop cur from work₀ at row r₀ work r = (r ≤ 16) × (length work ≡ length work₀) × Filled (λ q. getD row q 0) at r work₀ work × Row cur from row
+Inv-loop cur from work₀ at row r₀ work r = (r ≤ 16) × (length work ≡ length work₀) × Filled (λ q. getD row q 0) at r work₀ work × RowRead cur from row
 
 abbrev μ-loop : tie.MeasureT-loop
 μ-loop cur from work₀ at row r₀ work r = 16 - r

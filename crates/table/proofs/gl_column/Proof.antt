@@ -1,8 +1,8 @@
--- `costs::gl_column` meets its contract.
-use Rattle.costs.proofs.Filled.{gl-column-of}
+-- `table::gl_column` meets its contract.
+use Rattle.table.proofs.Filled.{gl-column-of}
 use borrow.Author.Needs.{needs}
-use Rattle.costs.proofs.gl_column.Statement.{statement}
-use Rattle.costs.proofs.gl_column.Tie as tie
+use Rattle.table.proofs.gl_column.Statement.{statement}
+use Rattle.table.proofs.gl_column.Tie as tie
 
 returns : tie.Need-returns
 returns c =

@@ -9,7 +9,7 @@ use lib.ListN.{length, getD, set, length-set}
 use lib.Seq.{getD-set-same, getD-set-other}
 use lib.Dec.{ltb, eqb}
 use borrow.Author.Tests.{ltb-true, ltb-false, eqb-true, eqb-false}
-use Rattle.costs.specs.Costs.{Filled, ColumnFilled, Columns, Swept, Charges, Column, Row, fromGL}
+use Rattle.table.specs.Table.{Filled, ColumnFilled, Columns, Swept, Charges, ColumnRead, RowRead, fromGL}
 
 below-cases : (j k : ℕ) → j < k + 1 → (j < k) ⊎ (j ≡ k)
 below-cases j k h = go (ltb j k) refl
@@ -51,7 +51,7 @@ filled-end {f} {at} {k} {before} {after} m s l h = subst (λ (i : ℕ). Filled f
 pub filled-same : {f g : ℕ → ℕ} {at m : ℕ} {before after : List ℕ} → ((r : ℕ) → r < m → f r ≡ g r) → Filled f at m before after → Filled g at m before after
 filled-same e s = record { there = λ r h. s .there r h ∙ e r h; kept = s .kept; long = s .long }
 
-pub row-filled : (costs : List ℕ) (from : ℕ) (before row : List ℕ) → length row ≡ 16 → Filled (λ r. getD costs (from + r) 0) 0 16 before row → Row costs from row
+pub row-filled : (costs : List ℕ) (from : ℕ) (before row : List ℕ) → length row ≡ 16 → Filled (λ r. getD costs (from + r) 0) 0 16 before row → RowRead costs from row
 row-filled costs from before row l s =
     record { sixteen = l; each = λ r h. ap (λ (i : ℕ). getD row i 0) (let z : r ≡ 0 + r = omega arith in z) ∙ s .there r h }
 
@@ -206,7 +206,7 @@ charges-of price place a b c d e qa qb qc qd qe =
     record { five = refl; each = all-five (λ g. getD (a ∷ b ∷ c ∷ d ∷ e ∷ []) g 0 ≡ cond (eqb g place) 0 price) qa qb qc qd qe }
 
 pub column-of : (costs : List ℕ) (r : ℕ)
-    → Column costs r (getD costs r 0 ∷ getD costs (16 + r) 0 ∷ getD costs (32 + r) 0 ∷ getD costs (48 + r) 0 ∷ getD costs (64 + r) 0 ∷ [])
+    → ColumnRead costs r (getD costs r 0 ∷ getD costs (16 + r) 0 ∷ getD costs (32 + r) 0 ∷ getD costs (48 + r) 0 ∷ getD costs (64 + r) 0 ∷ [])
 column-of costs r = record { five = refl; each = all-five (λ g. getD fives g 0 ≡ getD costs (16 * g + r) 0) (ap (λ (m : ℕ). getD costs m 0) z) refl refl refl refl }
   where
     fives : List ℕ

@@ -1,8 +1,8 @@
--- `costs::column` meets its contract.
-use Rattle.costs.proofs.Filled.{column-of}
+-- `table::column` meets its contract.
+use Rattle.table.proofs.Filled.{column-of}
 use borrow.Author.Needs.{needs}
-use Rattle.costs.proofs.column.Statement.{statement}
-use Rattle.costs.proofs.column.Tie as tie
+use Rattle.table.proofs.column.Statement.{statement}
+use Rattle.table.proofs.column.Tie as tie
 
 returns : tie.Need-returns
 returns c = column-of _ _
