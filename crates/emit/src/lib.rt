@@ -11,24 +11,32 @@ ghost use Rattle.numbers.specs.Numbers.{servedInGL, servedInGR, chosenBy, chang
 ghost use Rattle.costs.specs.Costs.{secondSlot};
 ghost use Rattle.octets.specs.Octets.{Written, sideOf};
 ghost use Rattle.emit.specs.Emit.{rowsAnswer, rowsOutput, Ready};
+ghost use Rattle.numbers.specs.Size as sizes;
+ghost use Rattle.numbers.specs.Class as classes;
 use base::Answer;
 use base::limit;
 use base::refusal;
+use numbers::class;
+use numbers::size;
 use rows::layout;
 use rows::tag;
 
 // Where a row keeps what the rest costs after the second designation, for a class that has two.
 fn second_slot(x: usize, k: usize) -> usize
-    requires { ⌜ k < 80 ⌝ }
-    ensures { λ q. ⌜ (q ≡ secondSlot x k) × (q < 65) ⌝ }
+    requires { ⌜ k < sizes.numbers ⌝ }
+    ensures { λ q. ⌜ (q ≡ secondSlot x k) × (q < layouts.tag) ⌝ }
 {
-    if x < 15 { 16 + k / 16 } else { 16 + k % 16 }
+    if x < class::SPACE {
+        size::COLUMNS + k / size::COLUMNS
+    } else {
+        size::COLUMNS + k % size::COLUMNS
+    }
 }
 
 // The number after the choice for a unit of class x under number k, by what its row keeps.
 fn choose(x: usize, k: usize, work: &[u8], row: usize) -> usize
-    requires { ⌜ (k < 80) × (row + 65 ≤ length (now work)) ⌝ }
-    ensures { λ q. ⌜ q ≡ chosenBy x k (getD (now (work .entry)) (row + k % 16) 0) (getD (now (work .entry)) (row + secondSlot x k) 0) ⌝ }
+    requires { ⌜ (k < sizes.numbers) × (row + layouts.tag ≤ length (now work)) ⌝ }
+    ensures { λ q. ⌜ q ≡ chosenBy x k (getD (now (work .entry)) (row + k % sizes.columns) 0) (getD (now (work .entry)) (row + secondSlot x k) 0) ⌝ }
 {
     let l = numbers::place_in_gl(x);
     let r = numbers::place_in_gr(x);
@@ -36,14 +44,14 @@ fn choose(x: usize, k: usize, work: &[u8], row: usize) -> usize
     if a == k {
         return k;
     }
-    if x < 12 {
+    if x < class::DOUBLE {
         return a;
     }
     let b = numbers::after_second(x, l, r, k);
     if b == k {
         return k;
     }
-    if work[row + k % 16] <= work[row + second_slot(x, k)] {
+    if work[row + k % size::COLUMNS] <= work[row + second_slot(x, k)] {
         a
     } else {
         b
@@ -52,13 +60,13 @@ fn choose(x: usize, k: usize, work: &[u8], row: usize) -> usize
 
 // The same, where l and r are the places of GL and GR that serve the class: k at once, where one of them stands.
 fn choose_quickly(x: usize, k: usize, l: usize, r: usize, work: &[u8], row: usize) -> usize
-    requires { ⌜ (x < 17) × (k < 80) × (l ≡ getD servedInGL x 0) × (r ≡ getD servedInGR x 0) × (row + 65 ≤ length (now work)) ⌝ }
-    ensures { λ q. ⌜ q ≡ chosenBy x k (getD (now (work .entry)) (row + k % 16) 0) (getD (now (work .entry)) (row + secondSlot x k) 0) ⌝ }
+    requires { ⌜ (x < classes.all) × (k < sizes.numbers) × (l ≡ getD servedInGL x 0) × (r ≡ getD servedInGR x 0) × (row + layouts.tag ≤ length (now work)) ⌝ }
+    ensures { λ q. ⌜ q ≡ chosenBy x k (getD (now (work .entry)) (row + k % sizes.columns) 0) (getD (now (work .entry)) (row + secondSlot x k) 0) ⌝ }
 {
-    if k / 16 == l {
+    if k / size::COLUMNS == l {
         return k;
     }
-    if k % 16 == r {
+    if k % size::COLUMNS == r {
         return k;
     }
     choose(x, k, work, row)
@@ -66,16 +74,16 @@ fn choose_quickly(x: usize, k: usize, l: usize, r: usize, work: &[u8], row: usiz
 
 // Writes the designation that makes number k number j, and answers the next place.
 fn put_change(k: usize, j: usize, out: &mut [u8], at: usize) -> usize
-    requires { ⌜ (k < 80) × (j < 80) × (at + length (designated (change k j)) ≤ length (now out)) ⌝ }
+    requires { ⌜ (k < sizes.numbers) × (j < sizes.numbers) × (at + length (designated (change k j)) ≤ length (now out)) ⌝ }
     ensures { λ r. ⌜ Written (now (out .entry)) at (designated (change k j)) r (now (out .exit)) ⌝ }
 {
     if j == k {
         return at;
     }
-    if j / 16 == k / 16 {
-        return octets::put_designation(false, numbers::set_in_gr(j % 16), out, at);
+    if j / size::COLUMNS == k / size::COLUMNS {
+        return octets::put_designation(false, numbers::set_in_gr(j % size::COLUMNS), out, at);
     }
-    octets::put_designation(true, numbers::set_in_gl(j / 16), out, at)
+    octets::put_designation(true, numbers::set_in_gl(j / size::COLUMNS), out, at)
 }
 
 // Writes the unit of the row that starts at a place, on a side, and answers the next place.
@@ -121,7 +129,7 @@ fn emit(work: &[u8], n: usize, segments: &[u8], out: &mut [u8]) -> usize
         let r = rows::wide(in_gr[x]);
         let j = choose_quickly(x, k, l, r, work, row);
         let a = put_change(k, j, out, at);
-        let left = j / 16 == l;
+        let left = j / size::COLUMNS == l;
         at = put_row(work, row, left, segments, out, a);
         k = j;
         i += 1;

@@ -12,6 +12,8 @@ use Rattle.charset.specs.Charsets.{allowed}
 use Rattle.state.specs.State.{Standing, on, sets}
 use Rattle.state.specs.declared.Sets.{Sets}
 use Rattle.shortest.specs.Writing.{Need, free, either, placesOf}
+use Rattle.numbers.specs.Class as class
+use Rattle.numbers.specs.Size as size
 
 -- the sets that may stand in GL, by place
 abbrev pub setsInGL : List ℕ
@@ -24,26 +26,26 @@ setsInGR = 1 ∷ 3 ∷ 4 ∷ 5 ∷ 6 ∷ 7 ∷ 8 ∷ 9 ∷ 10 ∷ 11 ∷ 12 ∷ 
 -- number k, below 80: in GL the set at place k / 16, in GR that at place k % 16. Places 13 to 15 of GR are spare: set 0, which no unit asks
 -- for there
 unfoldable pub numbered : ℕ → Sets
-numbered k = sets (getD setsInGL (k / 16) 0) (getD setsInGR (k % 16) 0)
+numbered k = sets (getD setsInGL (k / size.columns) 0) (getD setsInGR (k % size.columns) 0)
 
 -- the number with another place of GL, and of GR
 abbrev pub withGL : ℕ → ℕ → ℕ
-withGL place k = place * 16 + k % 16
+withGL place k = place * size.columns + k % size.columns
 
 abbrev pub withGR : ℕ → ℕ → ℕ
-withGR place k = k / 16 * 16 + place
+withGR place k = k / size.columns * size.columns + place
 
 -- the class of a unit by its row's tag: 0 to 14 a character of that set, 15 a space, 16 a unit that needs no set
 unfoldable pub classOf : ℕ → ℕ
-classOf tag = pick (ltb tag 16) tag 16
+classOf tag = pick (ltb tag class.free) tag class.free
 
 unfoldable pub needOfClass : ℕ → Need
 needOfClass x =
-    cond (ltb x 15) (placesOf (allowed GL x) (allowed GR x) x) (cond (eqb x 15) (either (on GL 0) (on GL 2)) free)
+    cond (ltb x class.space) (placesOf (allowed GL x) (allowed GR x) x) (cond (eqb x class.space) (either (on GL 0) (on GL 2)) free)
 
 -- the octets of a designation for a class
 unfoldable pub priceOfClass : ℕ → ℕ
-priceOfClass x = cond (leb 12 x && ltb x 15) 4 3
+priceOfClass x = cond (leb class.double x && ltb x class.space) 4 3
 
 -- the place of a class's set among those of GL, 5 where it has none; and among those of GR, 13 where it has none
 abbrev pub placesInGL : List ℕ
@@ -63,15 +65,15 @@ servedInGR = 16 ∷ 0 ∷ 16 ∷ 1 ∷ 2 ∷ 3 ∷ 4 ∷ 5 ∷ 6 ∷ 7 ∷ 8 ∷
 -- the number after the first designation that serves a class, the preferred one, and after the second
 unfoldable pub afterFirst : ℕ → ℕ → ℕ
 afterFirst x k =
-    cond (ltb x 15)
-    (cond (ltb (getD placesInGL x 0) 5) (withGL (getD placesInGL x 0) k) (withGR (getD placesInGR x 0) k))
-    (cond (eqb x 15) (withGL 0 k) k)
+    cond (ltb x class.space)
+    (cond (ltb (getD placesInGL x 0) size.gl) (withGL (getD placesInGL x 0) k) (withGR (getD placesInGR x 0) k))
+    (cond (eqb x class.space) (withGL 0 k) k)
 
 unfoldable pub afterSecond : ℕ → ℕ → ℕ
 afterSecond x k =
-    cond (ltb x 15)
-    (cond (ltb (getD placesInGR x 0) 13) (withGR (getD placesInGR x 0) k) (withGL (getD placesInGL x 0) k))
-    (cond (eqb x 15) (withGL 1 k) k)
+    cond (ltb x class.space)
+    (cond (ltb (getD placesInGR x 0) size.gr) (withGR (getD placesInGR x 0) k) (withGL (getD placesInGL x 0) k))
+    (cond (eqb x class.space) (withGL 1 k) k)
 
 -- the number after the choice, where u and v are what the rest costs after the first designation and after the second: none where the
 -- need is met, and the first where it costs no more
@@ -91,8 +93,8 @@ surcharge x k j = cond (eqb j k) 0 (priceOfClass x)
 unfoldable pub change : ℕ → ℕ → Option Standing
 change k j =
     cond (eqb j k) none
-    (cond (eqb (j / 16) (k / 16)) (some (on GR (getD setsInGR (j % 16) 0))) (some (on GL (getD setsInGL (j / 16) 0))))
+    (cond (eqb (j / size.columns) (k / size.columns)) (some (on GR (getD setsInGR (j % size.columns) 0))) (some (on GL (getD setsInGL (j / size.columns) 0))))
 
 -- the side on which a character of a set is written under number j
 unfoldable pub sideAt : ℕ → ℕ → Side
-sideAt x j = cond (eqb (getD setsInGL (j / 16) 0) x) GL GR
+sideAt x j = cond (eqb (getD setsInGL (j / size.columns) 0) x) GL GR

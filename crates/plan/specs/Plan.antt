@@ -7,29 +7,32 @@ use lib.ListN.{length, getD}
 use Rattle.base.specs.Choice.{pick}
 use Rattle.base.specs.Limit as limit
 use Rattle.state.specs.declared.Sets.{Sets}
-use Rattle.rows.specs.Rows.{tagAt, startFrom, countOf, partOf, unitsIn}
+use Rattle.rows.specs.Rows.{tagAt, highFrom, lowFrom, startFrom, countOf, partOf, unitsIn}
 use Rattle.shortest.specs.Writing.{cost}
 use Rattle.numbers.specs.Numbers.{numbered, classOf, afterFirst, afterSecond}
 use Rattle.costs.specs.Costs.{TwoStandings, secondSlot}
+use Rattle.numbers.specs.Size as size
+use Rattle.rows.specs.Layout as layout
+use Rattle.rows.specs.Tag as tags
 
 -- ---- the units of the rows
 
 -- the rows that are planned: all n where they lie in the m octets of the room and are no more than a list may have, else none
 unfoldable pub rowsOf : ℕ → ℕ → ℕ
-rowsOf n m = pick (leb n limit.units) (pick (leb (72 * n) m) n 0) 0
+rowsOf n m = pick (leb n limit.units) (pick (leb (layout.row * n) m) n 0) 0
 
 -- the octets of a unit by its tag, where p are those of a segment's part
 unfoldable pub sizeOf : ℕ → ℕ → ℕ
 sizeOf tag p =
-    pick (ltb tag 12) 1
-    (pick (ltb tag 15) 2 (pick (ltb tag 18) 1 (pick (ltb tag 20) 3 (pick (ltb tag 21) 2 (pick (ltb tag 26) (6 + p) 2)))))
+    pick (ltb tag tags.double) 1
+    (pick (ltb tag tags.space) 2 (pick (ltb tag tags.left-to-right) 1 (pick (ltb tag tags.revert) 3 (pick (ltb tag tags.segment) 2 (pick (ltb tag tags.spare) (6 + p) 2)))))
 
 -- those of the unit of the row that starts at a place, where the segments stand in m octets
 abbrev pub sizeFrom : ℕ → List ℕ → ℕ → ℕ
-sizeFrom m w row = sizeOf (getD w (row + 65) 0) (partOf (countOf (getD w (row + 66) 0) (getD w (row + 67) 0)) (startFrom w row) m)
+sizeFrom m w row = sizeOf (getD w (row + layout.tag) 0) (partOf (countOf (highFrom w row) (lowFrom w row)) (startFrom w row) m)
 
 abbrev pub sizeAt : List ℕ → List ℕ → ℕ → ℕ
-sizeAt o w i = sizeFrom (length o) w (72 * i)
+sizeAt o w i = sizeFrom (length o) w (layout.row * i)
 
 -- the least cost of the units of rows i to n
 abbrev pub restFrom : List ℕ → List ℕ → ℕ → ℕ → Sets → ℕ
@@ -40,14 +43,14 @@ restFrom o w n i = cost (unitsIn o w i (n - i))
 -- row j keeps what the rest costs, less a base, after the first designation and after the second
 pub record CostsKept (o before : List ℕ) (n j : ℕ) (after : List ℕ) : Type 0 where
   pub base : ℕ
-  pub first-cost : (k : ℕ) → k < 80
-      → base + getD after (72 * j + k % 16) 0 ≡ restFrom o before n (suc j) (numbered (afterFirst (classOf (tagAt before j)) k))
-  pub second-cost : (k : ℕ) → k < 80
-      → base + getD after (72 * j + secondSlot (classOf (tagAt before j)) k) 0
+  pub first-cost : (k : ℕ) → k < size.numbers
+      → base + getD after (layout.row * j + k % size.columns) 0 ≡ restFrom o before n (suc j) (numbered (afterFirst (classOf (tagAt before j)) k))
+  pub second-cost : (k : ℕ) → k < size.numbers
+      → base + getD after (layout.row * j + secondSlot (classOf (tagAt before j)) k) 0
       ≡ restFrom o before n (suc j) (numbered (afterSecond (classOf (tagAt before j)) k))
 
 -- rows i to n keep what their choice compares, and all rows hold the units that they held
 pub record Planned (o before : List ℕ) (n i : ℕ) (after : List ℕ) : Type 0 where
   pub costs : (j : ℕ) → i ≤ j → j < n → TwoStandings (classOf (tagAt before j)) → CostsKept o before n j after
-  pub kept : (j q : ℕ) → 65 ≤ q → q < 72 → getD after (72 * j + q) 0 ≡ getD before (72 * j + q) 0
+  pub kept : (j q : ℕ) → layout.tag ≤ q → q < layout.row → getD after (layout.row * j + q) 0 ≡ getD before (layout.row * j + q) 0
   pub long : length after ≡ length before

@@ -57,16 +57,10 @@ unit-before-requires : tie.Need-unit-before-requires Inv-loop μ-loop
 unit-before-requires c κs =
     let inv = c .before .before .before .before .before .before .before .before .before .before .before .before .before .before .before .loop .inv in
     let size = c .before .before .before .before .before .before .before .before .before .before .before .before .size-from .ensures .0 in
-    let class = c .before .before .before .before .before .before .before .before .before .before .class-of .ensures in (
-      class .1,
-      inv .2 .low,
-      λ y h. known-smooth y (inv .1) (inv .2) h,
-      refl,
-      refl,
-      turn-near _ _ _ _ _ _ _ _ _ (omega arith) (inv .0) (inv .2) (inv .3) _ _ (class .0) size,
-      inv .1,
-      refl,
-      refl,
+    let class = c .before .before .before .before .before .before .before .before .before .before .class-of .ensures in
+    let near = turn-near _ _ _ _ _ _ _ _ _ (omega arith) (inv .0) (inv .2) (inv .3) _ _ (class .0) size in (
+      record { class-of = class .1; low = inv .2 .low; smooth = λ y h. known-smooth y (inv .1) (inv .2) h; near = near; long = inv .1 },
+      record { in-gl = refl; in-gr = refl; by-four = refl; by-three = refl },
     )
 
 add-base : tie.Need-add-base Inv-loop μ-loop
