@@ -88,10 +88,8 @@ pub fn segment(d: u16, start: usize, n: usize, segments: &[u8], directions: Dire
     }
     let name = name_end(&segments[start..start + n]);
     let element = content(d as u8, n, name, State::FRESH);
-    match element {
-        Element::Found(part, _) => directions.step(part.text, kind::SEGMENT),
-        Element::End => Step::Stops(refusal::BAD_SEGMENT),
-        Element::Refused(_, _) => Step::Stops(refusal::BAD_SEGMENT),
-        Element::Silent(_, _) => Step::Stops(refusal::BAD_SEGMENT),
-    }
+    let Element::Found(part, _) = element else {
+        return Step::Stops(refusal::BAD_SEGMENT);
+    };
+    directions.step(part.text, kind::SEGMENT)
 }
