@@ -90,10 +90,12 @@ module _ (o : List ℕ) (r : UnitRecord) (u : TextUnit) (g : good u ≡ true) wh
           rw p (ap (char (r .set)) (let z : r .code % 256 % 128 ≡ r .code = omega arith in z) ∙ s)
       text false p =
           let l = two-code (formOf (r .set)) (r .code) (wide-form (r .set) (ltb-false (r .set) 12 p) below) used in
-          rw (p, lt-ltb (r .set) 15 below) (ap (char (r .set)) (let z : r .code / 256 % 128 * 256 + r .code % 256 % 128 ≡ r .code = omega (arith, l .0, l .1) in z) ∙ s)
+          rw (p, lt-ltb (r .set) 15 below)
+          (ap (char (r .set)) (let z : r .code / 256 % 128 * 256 + r .code % 256 % 128 ≡ r .code = omega (arith, l .0, l .1) in z) ∙ s)
 
   -- kinds 1 to 6
-  fits-plain : (k : ℕ) (v : TextUnit) → r .kind ≡ k → k < kind.segment → tagOf r ≡ 14 + k → unitTagged o (14 + k) (numberOf r / 256) (numberOf r % 256) (r .start) ≡ v → v ≡ u → Fits o r u
+  fits-plain : (k : ℕ) (v : TextUnit) → r .kind ≡ k → k < kind.segment → tagOf r ≡ 14 + k
+      → unitTagged o (14 + k) (numberOf r / 256) (numberOf r % 256) (r .start) ≡ v → v ≡ u → Fits o r u
   fits-plain k v q h t w s = record { unit = tagged o r u (14 + k) (numberOf r) t refl (w ∙ s); stowable = no-segment r k q h }
 
   fits-segment : r .kind ≡ kind.segment → r .start + r .length ≤ length o → ext (r .code) (take (r .length) (drop (r .start) o)) ≡ u → Fits o r u
@@ -132,7 +134,8 @@ module _ (o : List ℕ) (r : UnitRecord) (u : TextUnit) (g : good u ≡ true) wh
       unit =
           unit-segment o (r .code - 27) (r .length / 256) (r .length % 256) (r .start) (omega (arith, lo)) (omega (arith, hi))
           ∙ ap₂ (λ (m n : ℕ). ext m (take n (drop (r .start) o)))
-          (let z : 27 + (r .code - 27) ≡ r .code = omega (arith, lo) in z) (let z : countOf (r .length / 256) (r .length % 256) ≡ r .length = omega (arith, few) in z)
+          (let z : 27 + (r .code - 27) ≡ r .code = omega (arith, lo) in z)
+          (let z : countOf (r .length / 256) (r .length % 256) ≡ r .length = omega (arith, few) in z)
           ∙ s
 
   past-six : (r .kind ≡ 0 → ⊥) → (r .kind ≡ 1 → ⊥) → (r .kind ≡ 2 → ⊥) → 3 ≤ r .kind
@@ -148,13 +151,15 @@ module _ (o : List ℕ) (r : UnitRecord) (u : TextUnit) (g : good u ≡ true) wh
       xs : List ℕ
       xs = take (r .length) (drop (r .start) o)
 
-      last : (b : Bool) → eqb (r .kind) 7 ≡ b → 7 ≤ r .kind → cond b (leb (r .start + r .length) (length o)) (ltb (r .kind) 7) ≡ true → ext (r .code) xs ≡ u → Fits o r u
+      last : (b : Bool) → eqb (r .kind) 7 ≡ b → 7 ≤ r .kind → cond b (leb (r .start + r .length) (length o)) (ltb (r .kind) 7) ≡ true
+          → ext (r .code) xs ≡ u → Fits o r u
       last true q n h s = fits-segment (eqb-true (r .kind) 7 q) (leb-true (r .start + r .length) (length o) h) s
       last false q n h s = absurd (let l = ltb-true (r .kind) 7 h in omega arith)
 
       go : (b0 b1 b2 b3 b4 b5 b6 : Bool) → eqb (r .kind) 0 ≡ b0 → eqb (r .kind) 1 ≡ b1 → eqb (r .kind) 2 ≡ b2 → eqb (r .kind) 3 ≡ b3 → eqb (r .kind) 4 ≡ b4
           → eqb (r .kind) 5 ≡ b5 → eqb (r .kind) 6 ≡ b6 → readable o r ≡ true
-          → cond b0 (char (r .set) (r .code)) (cond b1 space (cond b2 tab (cond b3 newline (cond b4 ltr (cond b5 rtl (cond b6 revert (ext (r .code) xs))))))) ≡ u
+          → cond b0 (char (r .set) (r .code))
+          (cond b1 space (cond b2 tab (cond b3 newline (cond b4 ltr (cond b5 rtl (cond b6 revert (ext (r .code) xs))))))) ≡ u
           → Fits o r u
       go true b1 b2 b3 b4 b5 b6 q0 q1 q2 q3 q4 q5 q6 h s = fits-character (eqb-true (r .kind) 0 q0) s
       go false true b2 b3 b4 b5 b6 q0 q1 q2 q3 q4 q5 q6 h s = let q = eqb-true (r .kind) 1 q1 in fits-plain 1 space q (omega arith) (rw q) refl s
@@ -162,14 +167,17 @@ module _ (o : List ℕ) (r : UnitRecord) (u : TextUnit) (g : good u ≡ true) wh
       go false false false true b4 b5 b6 q0 q1 q2 q3 q4 q5 q6 h s = let q = eqb-true (r .kind) 3 q3 in fits-plain 3 newline q (omega arith) (rw q) refl s
       go false false false false true b5 b6 q0 q1 q2 q3 q4 q5 q6 h s = let q = eqb-true (r .kind) 4 q4 in fits-plain 4 ltr q (omega arith) (rw q) refl s
       go false false false false false true b6 q0 q1 q2 q3 q4 q5 q6 h s = let q = eqb-true (r .kind) 5 q5 in fits-plain 5 rtl q (omega arith) (rw q) refl s
-      go false false false false false false true q0 q1 q2 q3 q4 q5 q6 h s = let q = eqb-true (r .kind) 6 q6 in fits-plain 6 revert q (omega arith) (rw q) refl s
+      go false false false false false false true q0 q1 q2 q3 q4 q5 q6 h s =
+          let q = eqb-true (r .kind) 6 q6 in fits-plain 6 revert q (omega arith) (rw q) refl s
       go false false false false false false false q0 q1 q2 q3 q4 q5 q6 h s =
           last (eqb (r .kind) 7) refl
-          (seven (past-six (eqb-false (r .kind) 0 q0) (eqb-false (r .kind) 1 q1) (eqb-false (r .kind) 2 q2)) (eqb-false (r .kind) 3 q3) (eqb-false (r .kind) 4 q4) (eqb-false (r .kind) 5 q5) (eqb-false (r .kind) 6 q6))
+          (seven (past-six (eqb-false (r .kind) 0 q0) (eqb-false (r .kind) 1 q1) (eqb-false (r .kind) 2 q2))
+          (eqb-false (r .kind) 3 q3) (eqb-false (r .kind) 4 q4) (eqb-false (r .kind) 5 q5) (eqb-false (r .kind) 6 q6))
           h s
 
       start : (b : Bool) → readable o r ≡ b → cond b (some (unitOf (r .kind) (r .set) (r .code) xs)) none ≡ some u → Fits o r u
       start false q s = absurd (Option·none-ne-some u s)
       start true q s =
-          go (eqb (r .kind) 0) (eqb (r .kind) 1) (eqb (r .kind) 2) (eqb (r .kind) 3) (eqb (r .kind) 4) (eqb (r .kind) 5) (eqb (r .kind) 6) refl refl refl refl refl refl refl q
+          go (eqb (r .kind) 0) (eqb (r .kind) 1) (eqb (r .kind) 2) (eqb (r .kind) 3) (eqb (r .kind) 4) (eqb (r .kind) 5)
+          (eqb (r .kind) 6) refl refl refl refl refl refl refl q
           (Option·some-injective (unitOf (r .kind) (r .set) (r .code) xs) u s)

@@ -57,7 +57,8 @@ module _ (o : List ℕ) (r : UnitRecord) (d : Directions) where
           rw (six (eqb-false (r .kind) 1 q1) (eqb-false (r .kind) 2 q2) (eqb-false (r .kind) 3 q3) (eqb-false (r .kind) 4 q4) (eqb-false (r .kind) 5 q5))
 
   pub kind-segment : r .kind ≡ kind.segment
-      → pick (leb (r .start + r .length) (length o)) (fault (some (ext (r .code) (take (r .length) (drop (r .start) o)))) d) (Stops refusal.bad-unit) ≡ fault (unitRead o r) d
+      → pick (leb (r .start + r .length) (length o)) (fault (some (ext (r .code) (take (r .length) (drop (r .start) o)))) d) (Stops refusal.bad-unit)
+      ≡ fault (unitRead o r) d
   unfolding unitRead readable unitOf pick
   kind-segment e = rw e (go (leb (r .start + r .length) (length o)))
     where
@@ -127,7 +128,8 @@ module _ (e : ℕ) (xs : List ℕ) (d : Directions) where
       unfolding pick
       content-bad never = go (segment e 0 xs) refl by-content
         where
-          go : (b : Bool) → segment e 0 xs ≡ b → x ≡ pick b (Found (segmentPart e n (textOctets xs)) fresh) (refused refusal.bad-segment) → Stops refusal.bad-segment ≡ fault (some (ext e xs)) d
+          go : (b : Bool) → segment e 0 xs ≡ b → x ≡ pick b (Found (segmentPart e n (textOctets xs)) fresh) (refused refusal.bad-segment)
+              → Stops refusal.bad-segment ≡ fault (some (ext e xs)) d
           go true s f = absurd (never _ _ f)
           go false s f = judged false s
 

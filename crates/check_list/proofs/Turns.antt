@@ -12,7 +12,7 @@ use Rattle.grammar.specs.Records.{unitRead}
 use Rattle.shortest.specs.Records.{fault}
 use Rattle.rows.specs.Rows.{withRecord}
 use Rattle.rows.specs.Stowable.{Stowable}
-use Rattle.check_list.specs.Plain.{settledOf}
+use Rattle.check_list.specs.Plain.{settledByText}
 use Rattle.check_list.specs.Turn.{turnOf, roomAfter, quickAfter, quickUntil}
 use Rattle.check_list.specs.declared.Progress.{Progress}
 use Rattle.check_list.specs.declared.Progress.the-variants.{Fine, Faulty}
@@ -39,11 +39,11 @@ module _ (o : List ℕ) (r : UnitRecord) (i : ℕ) (p : Progress) (w : List ℕ)
 
 -- the end of the records that the quick check may look at
 module _ (p : Progress) (from n : ℕ) where
-  pub until-settled : (d : Directions) → p ≡ Fine d → settledOf d ≡ true → n ≡ quickUntil p from n
+  pub until-settled : (d : Directions) → p ≡ Fine d → settledByText d ≡ true → n ≡ quickUntil p from n
   unfolding quickUntil pick
   until-settled d ep es = rw (ep, es)
 
-  pub until-unsettled : (d : Directions) → p ≡ Fine d → settledOf d ≡ false → from ≡ quickUntil p from n
+  pub until-unsettled : (d : Directions) → p ≡ Fine d → settledByText d ≡ false → from ≡ quickUntil p from n
   unfolding quickUntil pick
   until-unsettled d ep es = rw (ep, es)
 

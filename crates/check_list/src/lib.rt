@@ -7,7 +7,7 @@ ghost use Rattle.base.specs.Choice.{pick};
 ghost use Rattle.grammar.specs.Records.{unitRead};
 ghost use Rattle.shortest.specs.Records.{fault};
 ghost use Rattle.rows.specs.Rows.{withRecord};
-ghost use Rattle.check_list.specs.Plain.{settledOf, plainOf};
+ghost use Rattle.check_list.specs.Plain.{settledByText, plainOf};
 ghost use Rattle.check_list.specs.Turn.{begun, turnOf, roomAfter, lookedAt, quickUntil};
 use base::Unit;
 use base::kind;
@@ -63,7 +63,7 @@ pub fn looked_at(n: usize) -> usize
 
 // Whether text leaves the directions as they are: there was no mark, and there was text.
 fn settled(directions: Directions) -> bool
-    ensures { λ r. ⌜ r ≡ settledOf directions ⌝ }
+    ensures { λ r. ⌜ r ≡ settledByText directions ⌝ }
 {
     if directions.marked {
         return false;

@@ -68,7 +68,8 @@ pub fn character(set: u8, code: u16, directions: Directions) -> Step
 
 // An extended segment of n octets that start at a place of those lent.
 pub fn segment(d: u16, start: usize, n: usize, segments: &[u8], directions: Directions) -> Step
-    ensures { λ r. ⌜ r ≡ pick (leb (start + n) (length (now (segments .entry)))) (fault (some (ext d (take n (drop start (now (segments .entry)))))) directions) (Stops refusals.bad-unit) ⌝ }
+    ensures { λ r. ⌜ r ≡ pick (leb (start + n) (length (now (segments .entry))))
+        (fault (some (ext d (take n (drop start (now (segments .entry)))))) directions) (Stops refusals.bad-unit) ⌝ }
 {
     let m = segments.len();
     if m < start {

@@ -25,7 +25,9 @@ least-stays x k next (inl e) = rw (eq-eqb (afterFirst x k) k e, eq-eqb k k refl)
 least-stays x k next (inr e) = go (eqb (afterFirst x k) k)
   where
     next-of : Bool → ℕ
-    next-of t = cond (t || eqb (afterSecond x k) k) k (cond (leb (getD next (afterFirst x k) 0) (getD next (afterSecond x k) 0)) (afterFirst x k) (afterSecond x k))
+    next-of t =
+        cond (t || eqb (afterSecond x k) k) k
+        (cond (leb (getD next (afterFirst x k) 0) (getD next (afterSecond x k) 0)) (afterFirst x k) (afterSecond x k))
 
     go : (t : Bool) → surcharge x k (next-of t) + getD next (next-of t) 0 ≡ getD next k 0
     go true = rw (eq-eqb k k refl) (omega arith)
@@ -48,7 +50,8 @@ least-goes x k next a b = rw (ne-eqb (afterFirst x k) k a, ne-eqb (afterSecond x
     go false q = rw (ne-eqb (afterSecond x k) k b) (let l = leb-false u v q in omega arith)
 
 -- the lesser of the two ways
-least-min : (x k : ℕ) (next : List ℕ) → getD next k 0 ≤ priceOfClass x + getD next (afterFirst x k) 0 → getD next k 0 ≤ priceOfClass x + getD next (afterSecond x k) 0
+least-min : (x k : ℕ) (next : List ℕ) → getD next k 0 ≤ priceOfClass x + getD next (afterFirst x k) 0
+    → getD next k 0 ≤ priceOfClass x + getD next (afterSecond x k) 0
     → min (surcharge x k (afterFirst x k) + getD next (afterFirst x k) 0) (surcharge x k (afterSecond x k) + getD next (afterSecond x k) 0) ≡ leastBy x next k
 least-min x k next a b = go (eqb (afterFirst x k) k) refl (eqb (afterSecond x k) k) refl
   where
@@ -107,9 +110,11 @@ module _ (x : ℕ) (next : List ℕ) (g q : ℕ) (hg : g < 5) (hq : q < 16) (sm 
       → getD next (16 * l + q) 0 + getD ps g 0 ≡ surcharge x (16 * g + q) j + getD next j 0
   gl-way l j p ps e c ch =
       let z : 16 * l + q ≡ withGL l (16 * g + q) = omega arith in
-      way j (16 * l + q) (getD ps g 0) p (z ∙ e) c (λ y. ch .each g hg ∙ charged g l p .0 (omega arith)) (λ n. ch .each g hg ∙ charged g l p .1 (λ y. n (omega arith)))
+      way j (16 * l + q) (getD ps g 0) p (z ∙ e) c (λ y. ch .each g hg ∙ charged g l p .0 (omega arith))
+      (λ n. ch .each g hg ∙ charged g l p .1 (λ y. n (omega arith)))
 
-  gr-way : (r j p : ℕ) (table vs : List ℕ) → upTo 32 (λ m. eqb (getD (surcharges p) m 0) (cond (eqb m 15) 0 p)) ≡ true → withGR r (16 * g + q) ≡ j → priceOfClass x ≡ p
+  gr-way : (r j p : ℕ) (table vs : List ℕ) → upTo 32 (λ m. eqb (getD (surcharges p) m 0) (cond (eqb m 15) 0 p)) ≡ true → withGR r (16 * g + q) ≡ j
+      → priceOfClass x ≡ p
       → r < 13 → table ≡ surcharges p → ColumnRead next r vs → getD table (15 - r + q) 0 + getD vs g 0 ≡ surcharge x (16 * g + q) j + getD next j 0
   gr-way r j p table vs t e c hr et col =
       let z : 16 * g + r ≡ withGR r (16 * g + q) = omega arith in
@@ -117,7 +122,8 @@ module _ (x : ℕ) (next : List ℕ) (g q : ℕ) (hg : g < 5) (hq : q < 16) (sm 
         arith,
         col .each g hg,
         ap (λ (y : List ℕ). getD y (15 - r + q) 0) et,
-        way j (16 * g + r) (getD (surcharges p) (15 - r + q) 0) p (z ∙ e) c (λ y. surcharge-here p t r q hr hq (omega arith)) (λ n. surcharge-there p t r q hr hq (λ y. n (omega arith))),
+        way j (16 * g + r) (getD (surcharges p) (15 - r + q) 0) p (z ∙ e) c (λ y. surcharge-here p t r q hr hq (omega arith))
+            (λ n. surcharge-there p t r q hr hq (λ y. n (omega arith))),
       )
 
   -- a character of a set of both sides, of GR alone
@@ -241,10 +247,20 @@ module _ (next : List ℕ) (q : ℕ) (hq : q < 16) (s0 : Smooth 0 next) (s2 : Sm
   b = getD next (16 * 1 + q) 0
 
   above : b ≤ 3 + a
-  above = omega (arith, near 0 0 0 next zero-in-gl (16 * 1 + q) (omega arith) s0, ap (λ (j : ℕ). getD next j 0) (let z : withGL 0 (16 * 1 + q) ≡ 16 * 0 + q = omega arith in z))
+  above =
+      omega (
+        arith,
+        near 0 0 0 next zero-in-gl (16 * 1 + q) (omega arith) s0,
+        ap (λ (j : ℕ). getD next j 0) (let z : withGL 0 (16 * 1 + q) ≡ 16 * 0 + q = omega arith in z),
+      )
 
   below : a ≤ 3 + b
-  below = omega (arith, near 2 1 1 next two-in-gl (16 * 0 + q) (omega arith) s2, ap (λ (j : ℕ). getD next j 0) (let z : withGL 1 (16 * 0 + q) ≡ 16 * 1 + q = omega arith in z))
+  below =
+      omega (
+        arith,
+        near 2 1 1 next two-in-gl (16 * 0 + q) (omega arith) s2,
+        ap (λ (j : ℕ). getD next j 0) (let z : withGL 1 (16 * 0 + q) ≡ 16 * 1 + q = omega arith in z),
+      )
 
   abbrev Least : ℕ → ℕ → ℕ → ℕ → Type 0
   Least x p p′ g = getD (fromGL a p b p′ 3) g 0 ≡ leastBy x next (16 * g + q)
@@ -306,14 +322,17 @@ pub gl-least : (x : ℕ) (next : List ℕ) (p p′ three : ℕ) → OfGL x → S
 gl-least x next p p′ three o s0 s2 ep ep′ et g q hg hq =
     let z : 16 * 0 + q ≡ q = omega arith in
     subst (λ (t : ℕ). getD (fromGL (getD next q 0) p (getD next (16 + q) 0) p′ t) g 0 ≡ leastBy x next (16 * g + q)) (sym et)
-    (subst (λ (j : ℕ). getD (fromGL (getD next j 0) p (getD next (16 + q) 0) p′ 3) g 0 ≡ leastBy x next (16 * g + q)) z (least-gl next q hq s0 s2 x p p′ o ep ep′ g hg))
+    (subst (λ (j : ℕ). getD (fromGL (getD next j 0) p (getD next (16 + q) 0) p′ 3) g 0 ≡ leastBy x next (16 * g + q)) z
+    (least-gl next q hq s0 s2 x p p′ o ep ep′ g hg))
 
 -- the class has a place in GR
 pub in-right : (x r : ℕ) → x < 16 → r ≡ getD servedInGR x 0 → r < 13 → (x < 15) × (r ≡ getD placesInGR x 0)
 in-right x r hx er h =
     let t = lt-ltb (getD servedInGR x 0) 13 (subst (λ (y : ℕ). y < 13) er h) in
-    let b = rw t at (right-test x hx) in
-    (ltb-true x 15 (and-left (ltb x 15) (eqb (getD servedInGR x 0) (getD placesInGR x 0)) b), er ∙ eqb-true (getD servedInGR x 0) (getD placesInGR x 0) (and-right (ltb x 15) (eqb (getD servedInGR x 0) (getD placesInGR x 0)) b))
+    let b = rw t at (right-test x hx) in (
+      ltb-true x 15 (and-left (ltb x 15) (eqb (getD servedInGR x 0) (getD placesInGR x 0)) b),
+      er ∙ eqb-true (getD servedInGR x 0) (getD placesInGR x 0) (and-right (ltb x 15) (eqb (getD servedInGR x 0) (getD placesInGR x 0)) b),
+    )
 
 -- ---- the sums fit an octet
 
@@ -321,7 +340,8 @@ pub fit-charges : {x : ℕ} {next : List ℕ} (i p l : ℕ) (ps : List ℕ) → 
 fit-charges {x} {next} i p l ps sm len hi hp ch g hg =
     record { inside = omega arith; sums = λ r hr. omega (arith, sm .small (i + r), ch .each g hg, cond-most (eqb g l) p) }
 
-pub fit-column : {x : ℕ} {next : List ℕ} (p i r : ℕ) (table vs : List ℕ) → upTo 32 (λ m. leb (getD (surcharges p) m 0) 4) ≡ true → table ≡ surcharges p → Smooth x next
+pub fit-column : {x : ℕ} {next : List ℕ} (p i r : ℕ) (table vs : List ℕ) → upTo 32 (λ m. leb (getD (surcharges p) m 0) 4) ≡ true
+    → table ≡ surcharges p → Smooth x next
     → r < 13 → i ≡ 15 - r → ColumnRead next r vs → SumsFit table i vs
 fit-column {x} {next} p i r table vs t e sm hr ei col g hg =
     record {

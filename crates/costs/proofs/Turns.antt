@@ -10,7 +10,7 @@ use lib.Dec.{ltb, leb, eqb}
 use borrow.Author.Tests.{lt-ltb, le-ltb, eqb-false}
 use Rattle.base.specs.Choice.{pick}
 use Rattle.numbers.specs.Numbers.{priceOfClass, afterFirst, afterSecond, afterChoice}
-use Rattle.table.specs.Table.{Filled, Columns}
+use Rattle.table.specs.Table.{PlacesFilled, Columns}
 use Rattle.costs.specs.Costs.{leastBy, changes, Turned, secondSlot, RowKept}
 use Rattle.numbers.proofs.Numbers.{first-gl, second-gr, first-space, second-space, gl-two, gr-most}
 use Rattle.table.proofs.Filled.{columns-at}
@@ -24,7 +24,8 @@ module _ (x : ℕ) (cur before mid after : List ℕ) (row : ℕ) where
     omega (arith, second-gr x (x - 10) (x - 2) k (gl-two x h m) (gr-most x (omega arith) m) m (omega arith)),
   )
 
-  pub kept-character : 12 ≤ x → x < 15 → Filled (λ q. getD cur (16 * (x - 10) + q) 0) row 16 before mid → Filled (λ q. getD cur (16 * q + (x - 2)) 0) (row + 16) 5 mid after
+  pub kept-character : 12 ≤ x → x < 15 → PlacesFilled (λ q. getD cur (16 * (x - 10) + q) 0) row 16 before mid
+      → PlacesFilled (λ q. getD cur (16 * q + (x - 2)) 0) (row + 16) 5 mid after
       → RowKept x cur before row after
   kept-character h m a b =
       record {
@@ -40,7 +41,8 @@ module _ (x : ℕ) (cur before mid after : List ℕ) (row : ℕ) where
       place : (k : ℕ) → row + secondSlot x k ≡ row + 16 + k / 16
       place k = rw (lt-ltb x 15 m) (omega arith)
 
-  pub kept-space : x ≡ 15 → Filled (λ q. getD cur (0 + q) 0) row 16 before mid → Filled (λ q. getD cur (16 + q) 0) (row + 16) 16 mid after → RowKept x cur before row after
+  pub kept-space : x ≡ 15 → PlacesFilled (λ q. getD cur (0 + q) 0) row 16 before mid → PlacesFilled (λ q. getD cur (16 + q) 0) (row + 16) 16 mid after
+      → RowKept x cur before row after
   kept-space e a b =
       record {
         first-cost = λ t k hk.
@@ -104,7 +106,8 @@ module _ (last x : ℕ) (before after : List ℕ) (l : length before ≡ 80) whe
       pub turned-near : (k : ℕ) → k < 80 → 128 ≤ getD after k 0
       turned-near k hk = omega (arith, n 1 k (omega arith) hk, now k hk, now 1 (omega arith))
 
-      pub turned-lowered : (last-costs : List ℕ) → changes last x ≡ true → ((j : ℕ) → getD before j 0 ≤ 208) → Filled (λ k. getD after k 0 - 128) 0 80 after last-costs
+      pub turned-lowered : (last-costs : List ℕ) → changes last x ≡ true → ((j : ℕ) → getD before j 0 ≤ 208)
+          → PlacesFilled (λ k. getD after k 0 - 128) 0 80 after last-costs
           → Turned last x before 128 x last-costs
       turned-lowered last-costs e u d =
           record {

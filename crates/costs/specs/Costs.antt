@@ -53,7 +53,7 @@ pub record Smooth (x : ℕ) (next : List ℕ) : Type 0 where
   pub small : (j : ℕ) → getD next j 0 ≤ 208
 
 -- what the costs are before which a unit of class x may be put: no two of them, nor of those with it, are far apart
-pub record Before (x : ℕ) (cur : List ℕ) : Type 0 where
+pub record CostsAhead (x : ℕ) (cur : List ℕ) : Type 0 where
   pub class-of : x < class.all
   pub low : getD cur 1 0 ≤ 200
   pub smooth : (y : ℕ) → y < class.all → Smooth y cur

@@ -5,7 +5,7 @@ ghost use Prim.Native.Nat.{ℕ, _+_, _*_, _≤_, _<_};
 ghost use lib.Dec.{eqb};
 ghost use lib.ListN.{length, getD};
 ghost use Rattle.table.specs.Table.{Columns};
-ghost use Rattle.costs.specs.Costs.{surcharges, Tables, OfGL, InGR, OnBoth, leastBy, Smooth, Before, changes, Turned, RowKept};
+ghost use Rattle.costs.specs.Costs.{surcharges, Tables, OfGL, InGR, OnBoth, leastBy, Smooth, CostsAhead, changes, Turned, RowKept};
 ghost use Rattle.numbers.specs.Class as classes;
 ghost use Rattle.numbers.specs.Size as sizes;
 ghost use Rattle.rows.specs.Layout as layouts;
@@ -85,7 +85,8 @@ fn costs_before(
     threes: &[u8; 32],
     cur: &mut [u8; size::NUMBERS],
 )
-    requires { ⌜ (x < classes.free) × ((y : ℕ) → y < classes.all → Smooth y (now cur)) × (length (now cur) ≡ sizes.numbers) × Tables (now left) (now right) (now fours) (now threes) ⌝ }
+    requires { ⌜ (x < classes.free) × ((y : ℕ) → y < classes.all → Smooth y (now cur)) × (length (now cur) ≡ sizes.numbers)
+        × Tables (now left) (now right) (now fours) (now threes) ⌝ }
     ensures { λ _. ⌜ Columns (λ g r. leastBy x (now (cur .entry)) (sizes.columns * g + r)) sizes.columns (now (cur .exit)) ⌝ }
 {
     let l = rows::wide(left[x]);
@@ -133,7 +134,7 @@ pub fn unit_before(
     threes: &[u8; 32],
     cur: &mut [u8; size::NUMBERS],
 ) -> Taken
-    requires { ⌜ Before x (now cur) × Tables (now left) (now right) (now fours) (now threes) ⌝ }
+    requires { ⌜ CostsAhead x (now cur) × Tables (now left) (now right) (now fours) (now threes) ⌝ }
     ensures { λ r. ⌜ Turned last x (now (cur .entry)) (r .base) (r .last) (now (cur .exit)) ⌝ }
 {
     if changed(last, x) {

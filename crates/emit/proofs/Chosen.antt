@@ -33,7 +33,8 @@ all-stay = refl
 stands-stays : (x k u v : ℕ) → x < 17 → k < 80 → stands x k ≡ true → k ≡ chosenBy x k u v
 unfolding chosenBy
 stands-stays x k u v hx hk e =
-    rw (implies-elim (stands x k) (stays x k) (up-to 80 (λ m. implies (stands x m) (stays x m)) (up-to 17 (λ y. upTo 80 (λ m. implies (stands y m) (stays y m))) all-stay x hx) k hk) e)
+    rw (implies-elim (stands x k) (stays x k)
+    (up-to 80 (λ m. implies (stands x m) (stays x m)) (up-to 17 (λ y. upTo 80 (λ m. implies (stands y m) (stays y m))) all-stay x hx) k hk) e)
 
 pub gl-stays : (x k l u v : ℕ) → x < 17 → k < 80 → l ≡ getD servedInGL x 0 → k / 16 ≡ l → k ≡ chosenBy x k u v
 gl-stays x k l u v hx hk el e = stands-stays x k u v hx hk (rw (eq-eqb (k / 16) (getD servedInGL x 0) (e ∙ el)))
@@ -48,7 +49,8 @@ sided = refl
 pub its-place : (x g : ℕ) → x < 15 → g < 5 → eqb g (getD servedInGL x 0) ≡ eqb (getD setsInGL g 0) x
 its-place x g hx hg =
     beq-eq (eqb g (getD servedInGL x 0)) (eqb (getD setsInGL g 0) x)
-    (up-to 5 (λ m. Bool·beq (eqb m (getD servedInGL x 0)) (eqb (getD setsInGL m 0) x)) (up-to 15 (λ y. upTo 5 (λ m. Bool·beq (eqb m (getD servedInGL y 0)) (eqb (getD setsInGL m 0) y))) sided x hx) g hg)
+    (up-to 5 (λ m. Bool·beq (eqb m (getD servedInGL x 0)) (eqb (getD setsInGL m 0) x))
+    (up-to 15 (λ y. upTo 5 (λ m. Bool·beq (eqb m (getD servedInGL y 0)) (eqb (getD setsInGL m 0) y))) sided x hx) g hg)
 
 module _ (x k a b u v : ℕ) (ea : a ≡ afterFirst x k) (eb : b ≡ afterSecond x k) where
   pub second-stays : b ≡ k → k ≡ chosenBy x k u v

@@ -11,7 +11,7 @@ use Rattle.base.specs.Choice.{pick}
 use Rattle.charset.specs.declared.Side.{Side}
 use Rattle.charset.specs.declared.Side.the-variants.{GL}
 use Rattle.grammar.specs.Units.{TextUnit, space, tab, newline, ltr, rtl, revert, ext, octets}
-use Rattle.rows.specs.Rows.{highFrom, lowFrom, startFrom, countOf, textTagged, markTagged, unitTagged, unitFrom}
+use Rattle.rows.specs.Rows.{highOctet, lowOctet, startFrom, countOf, textTagged, markTagged, unitTagged, unitFrom}
 use Rattle.rows.specs.Tag as tag
 use Rattle.rows.proofs.Units.{unit-text, unit-segment, unit-mark}
 
@@ -46,18 +46,18 @@ module _ (o w : List ℕ) (row : ℕ) (d : Side) where
   abbrev t : ℕ
   t = getD w (row + 65) 0
 
-  pub text-octets : t < tag.tab → octets d (unitFrom o w row) ≡ octets d (textTagged t (highFrom w row) (lowFrom w row))
-  text-octets h = ap (octets d) (unit-text o t (highFrom w row) (lowFrom w row) (startFrom w row) h)
+  pub text-octets : t < tag.tab → octets d (unitFrom o w row) ≡ octets d (textTagged t (highOctet w row) (lowOctet w row))
+  text-octets h = ap (octets d) (unit-text o t (highOctet w row) (lowOctet w row) (startFrom w row) h)
 
-  pub segment-octets : (n s : ℕ) → n ≡ countOf (highFrom w row) (lowFrom w row) → s ≡ startFrom w row → tag.segment ≤ t → t < tag.spare
+  pub segment-octets : (n s : ℕ) → n ≡ countOf (highOctet w row) (lowOctet w row) → s ≡ startFrom w row → tag.segment ≤ t → t < tag.spare
       → octets d (unitFrom o w row) ≡ octets GL (ext (tag.d + t) (take n (drop s o)))
   unfolding octets
   segment-octets n s en es h k =
-      ap (octets d) (unit-segment o t (highFrom w row) (lowFrom w row) (startFrom w row) h k)
+      ap (octets d) (unit-segment o t (highOctet w row) (lowOctet w row) (startFrom w row) h k)
       ∙ ap₂ (λ (x y : ℕ). octets GL (ext (tag.d + t) (take x (drop y o)))) (sym en) (sym es)
 
   pub mark-octets : tag.tab ≤ t → (tag.segment ≤ t → t < tag.spare → ⊥) → octets d (unitFrom o w row) ≡ octets GL (markTagged t)
-  mark-octets h n = ap (octets d) (unit-mark o t (highFrom w row) (lowFrom w row) (startFrom w row) h n) ∙ mark-free t d GL
+  mark-octets h n = ap (octets d) (unit-mark o t (highOctet w row) (lowOctet w row) (startFrom w row) h n) ∙ mark-free t d GL
 
 pub side-free : (o w : List ℕ) (row : ℕ) (d e : Side) → tag.space ≤ getD w (row + 65) 0 → octets d (unitFrom o w row) ≡ octets e (unitFrom o w row)
-side-free o w row d e h = tagged-free o (getD w (row + 65) 0) (highFrom w row) (lowFrom w row) (startFrom w row) d e h
+side-free o w row d e h = tagged-free o (getD w (row + 65) 0) (highOctet w row) (lowOctet w row) (startFrom w row) d e h

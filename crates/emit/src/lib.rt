@@ -114,7 +114,8 @@ fn put_row(work: &[u8], row: usize, left: bool, segments: &[u8], out: &mut [u8],
 
 // Writes n rows by their plan from the output's first place on, and answers the next place.
 fn emit(work: &[u8], n: usize, segments: &[u8], out: &mut [u8]) -> usize
-    requires { ⌜ (n ≤ 65535) × (layouts.row * n ≤ length (now work)) × Ready (now segments) (now work) n × (length (writing (unitsIn (now segments) (now work) 0 n) (fresh .sets)) ≤ length (now out)) ⌝ }
+    requires { ⌜ (n ≤ 65535) × (layouts.row * n ≤ length (now work)) × Ready (now segments) (now work) n
+        × (length (writing (unitsIn (now segments) (now work) 0 n) (fresh .sets)) ≤ length (now out)) ⌝ }
     ensures { λ r. ⌜ Written (now (out .entry)) 0 (writing (unitsIn (now (segments .entry)) (now (work .entry)) 0 n) (fresh .sets)) r (now (out .exit)) ⌝ }
 {
     let in_gl = numbers::SERVED_IN_GL;

@@ -18,7 +18,8 @@ use Rattle.grammar.proofs.Complete.{and-left, and-right}
 use Rattle.shortest.specs.Writing.{Need, free, either, stands, met, price, least, choose, after, used}
 use Rattle.shortest.proofs.Sets.{implies, implies-elim, upTo, up-to}
 use Rattle.shortest.proofs.Needs.{or-none, Steady}
-use Rattle.numbers.specs.Numbers.{setsInGL, setsInGR, numbered, withGL, withGR, needOfClass, priceOfClass, placesInGL, placesInGR, afterFirst, afterSecond, chosenBy, afterChoice, surcharge, change, sideAt}
+use Rattle.numbers.specs.Numbers.{setsInGL, setsInGR, numbered, withGL, withGR, needOfClass, priceOfClass, placesInGL, placesInGR, afterFirst}
+use Rattle.numbers.specs.Numbers.{afterSecond, chosenBy, afterChoice, surcharge, change, sideAt}
 
 -- ---- tests of equality
 
@@ -94,8 +95,12 @@ reaches x k j p = (stateTest k j p && costTest x j p) && implies (not (eqb j k))
 reaches-all : (x k j : ℕ) (p : Standing) → reaches x k j p ≡ true → Reaches x k j p
 reaches-all x k j p e =
     record {
-      state = sameSets-eq (numbered j) (put p (numbered k)) (and-left (sameSets (numbered j) (put p (numbered k))) (Bool·beq (eqb j k) (stands p (numbered k))) first);
-      stays = beq-eq (eqb j k) (stands p (numbered k)) (and-right (sameSets (numbered j) (put p (numbered k))) (Bool·beq (eqb j k) (stands p (numbered k))) first);
+      state =
+          sameSets-eq (numbered j) (put p (numbered k))
+          (and-left (sameSets (numbered j) (put p (numbered k))) (Bool·beq (eqb j k) (stands p (numbered k))) first);
+      stays =
+          beq-eq (eqb j k) (stands p (numbered k))
+          (and-right (sameSets (numbered j) (put p (numbered k))) (Bool·beq (eqb j k) (stands p (numbered k))) first);
       cost = eqb-true (price p) (priceOfClass x) (and-left (eqb (price p) (priceOfClass x)) (ltb j 80) second);
       below = ltb-true j 80 (and-right (eqb (price p) (priceOfClass x)) (ltb j 80) second);
       changed = λ n. isStanding-eq (change k j) p (implies-elim (not (eqb j k)) (isStanding (change k j) p) third (ap not n));
@@ -301,7 +306,8 @@ gl-other x h = sym (List·getD-eq-default placesInGL 0 h)
 pub gr-none : (x : ℕ) → x < 3 → (x ≡ 1 → ⊥) → 13 ≡ getD placesInGR x 0
 gr-none x h a =
     eqb-true 13 (getD placesInGR x 0)
-    (implies-elim (not (eqb x 1)) (eqb 13 (getD placesInGR x 0)) (up-to 3 (λ y. implies (not (eqb y 1)) (eqb 13 (getD placesInGR y 0))) refl x h) (rw (ne-eqb x 1 a)))
+    (implies-elim (not (eqb x 1)) (eqb 13 (getD placesInGR x 0))
+    (up-to 3 (λ y. implies (not (eqb y 1)) (eqb 13 (getD placesInGR y 0))) refl x h) (rw (ne-eqb x 1 a)))
 
 pub gr-most : (x : ℕ) → 3 ≤ x → x < 15 → x - 2 ≡ getD placesInGR x 0
 gr-most x h k = let e : x - 2 ≡ x + 0 - 2 = omega arith in e ∙ from-place placesInGR 3 12 0 2 refl x h k

@@ -15,7 +15,7 @@ use Rattle.grammar.proofs.Complete.{and-left, and-right}
 use Rattle.shortest.specs.Writing.{Need, free, either, need, least, size, cost}
 use Rattle.shortest.proofs.Sets.{up-to}
 use Rattle.rows.proofs.Units.{part-length, unit-segment, unit-mark, mark-revert}
-use Rattle.rows.specs.Rows.{tagAt, highFrom, lowFrom, startFrom, countOf, partOf, textTagged, markTagged, unitTagged, unitsIn}
+use Rattle.rows.specs.Rows.{tagAt, highOctet, lowOctet, startFrom, countOf, partOf, textTagged, markTagged, unitTagged, unitsIn}
 use Rattle.rows.specs.Tag as tag
 use Rattle.numbers.specs.Numbers.{classOf, needOfClass}
 use Rattle.plan.specs.Plan.{sizeOf, sizeAt, restFrom}
@@ -32,7 +32,8 @@ sameNeed-eq free free e = refl
 sameNeed-eq free (either a b) e = absurd (false≢true e)
 sameNeed-eq (either a b) free e = absurd (false≢true e)
 sameNeed-eq (either a b) (either c d) e =
-    ap₂ either (sameStanding-eq a c (and-left (sameStanding a c) (sameStanding b d) e)) (sameStanding-eq b d (and-right (sameStanding a c) (sameStanding b d) e))
+    ap₂ either (sameStanding-eq a c (and-left (sameStanding a c) (sameStanding b d) e))
+    (sameStanding-eq b d (and-right (sameStanding a c) (sameStanding b d) e))
 
 module _ (o : List ℕ) (t a b s : ℕ) where
   abbrev unit : TextUnit
@@ -107,5 +108,5 @@ rest-cons o w n i s h =
     let e : n - i ≡ suc (n - suc i) = omega arith in
     ap (λ (m : ℕ). cost (unitsIn o w i m) s) e
     ∙ ap₂ (λ (a : ℕ) (q : Need). a + least q (restFrom o w n (suc i)) s)
-    (size-tagged o (tagAt w i) (highFrom w (72 * i)) (lowFrom w (72 * i)) (startFrom w (72 * i)))
-    (need-tagged o (tagAt w i) (highFrom w (72 * i)) (lowFrom w (72 * i)) (startFrom w (72 * i)))
+    (size-tagged o (tagAt w i) (highOctet w (72 * i)) (lowOctet w (72 * i)) (startFrom w (72 * i)))
+    (need-tagged o (tagAt w i) (highOctet w (72 * i)) (lowOctet w (72 * i)) (startFrom w (72 * i)))

@@ -7,7 +7,7 @@ use lib.ListN.{length, getD}
 use Rattle.base.specs.Choice.{pick}
 use Rattle.base.specs.Limit as limit
 use Rattle.state.specs.declared.Sets.{Sets}
-use Rattle.rows.specs.Rows.{tagAt, highFrom, lowFrom, startFrom, countOf, partOf, unitsIn}
+use Rattle.rows.specs.Rows.{tagAt, highOctet, lowOctet, startFrom, countOf, partOf, unitsIn}
 use Rattle.shortest.specs.Writing.{cost}
 use Rattle.numbers.specs.Numbers.{numbered, classOf, afterFirst, afterSecond}
 use Rattle.costs.specs.Costs.{TwoStandings, secondSlot}
@@ -25,11 +25,12 @@ rowsOf n m = pick (leb n limit.units) (pick (leb (layout.row * n) m) n 0) 0
 unfoldable pub sizeOf : ℕ → ℕ → ℕ
 sizeOf tag p =
     pick (ltb tag tags.double) 1
-    (pick (ltb tag tags.space) 2 (pick (ltb tag tags.left-to-right) 1 (pick (ltb tag tags.revert) 3 (pick (ltb tag tags.segment) 2 (pick (ltb tag tags.spare) (6 + p) 2)))))
+    (pick (ltb tag tags.space) 2 (pick (ltb tag tags.left-to-right) 1
+    (pick (ltb tag tags.revert) 3 (pick (ltb tag tags.segment) 2 (pick (ltb tag tags.spare) (6 + p) 2)))))
 
 -- those of the unit of the row that starts at a place, where the segments stand in m octets
 abbrev pub sizeFrom : ℕ → List ℕ → ℕ → ℕ
-sizeFrom m w row = sizeOf (getD w (row + layout.tag) 0) (partOf (countOf (highFrom w row) (lowFrom w row)) (startFrom w row) m)
+sizeFrom m w row = sizeOf (getD w (row + layout.tag) 0) (partOf (countOf (highOctet w row) (lowOctet w row)) (startFrom w row) m)
 
 abbrev pub sizeAt : List ℕ → List ℕ → ℕ → ℕ
 sizeAt o w i = sizeFrom (length o) w (layout.row * i)

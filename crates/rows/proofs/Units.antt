@@ -42,4 +42,9 @@ module _ (o : List ℕ) (t a b s : ℕ) where
 pub mark-revert : (t : ℕ) → tag.revert ≤ t → markTagged t ≡ revert
 unfolding markTagged pick
 mark-revert t h =
-    rw (ne-eqb t tag.tab (λ e. omega arith), ne-eqb t tag.newline (λ e. omega arith), ne-eqb t tag.left-to-right (λ e. omega arith), ne-eqb t tag.right-to-left (λ e. omega arith))
+    rw (
+      ne-eqb t tag.tab (λ e. omega arith),
+      ne-eqb t tag.newline (λ e. omega arith),
+      ne-eqb t tag.left-to-right (λ e. omega arith),
+      ne-eqb t tag.right-to-left (λ e. omega arith),
+    )

@@ -20,11 +20,11 @@ abbrev pub tagAt : List ℕ → ℕ → ℕ
 tagAt w i = getD w (layout.row * i + layout.tag) 0
 
 -- the two octets of a row's code or n
-abbrev pub highFrom : List ℕ → ℕ → ℕ
-highFrom w row = getD w (row + layout.high) 0
+abbrev pub highOctet : List ℕ → ℕ → ℕ
+highOctet w row = getD w (row + layout.high) 0
 
-abbrev pub lowFrom : List ℕ → ℕ → ℕ
-lowFrom w row = getD w (row + layout.low) 0
+abbrev pub lowOctet : List ℕ → ℕ → ℕ
+lowOctet w row = getD w (row + layout.low) 0
 
 -- four octets as a number, the highest first
 abbrev pub fourOctets : ℕ → ℕ → ℕ → ℕ → ℕ
@@ -60,7 +60,7 @@ unitTagged o t high low start =
 
 -- the unit of the row that starts at a place
 abbrev pub unitFrom : List ℕ → List ℕ → ℕ → TextUnit
-unitFrom o w row = unitTagged o (getD w (row + layout.tag) 0) (highFrom w row) (lowFrom w row) (startFrom w row)
+unitFrom o w row = unitTagged o (getD w (row + layout.tag) 0) (highOctet w row) (lowOctet w row) (startFrom w row)
 
 -- the units of m rows from row i on
 unfoldable pub unitsIn : List ℕ → List ℕ → ℕ → ℕ → List TextUnit

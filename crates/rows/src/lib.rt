@@ -2,7 +2,7 @@
 ghost use mathlib.Core.Path.{_≡_};
 ghost use Prim.Native.Nat.{_+_, _≤_};
 ghost use lib.ListN.{getD};
-ghost use Rattle.rows.specs.Rows.{startFrom, highFrom, lowFrom, countOf, partOf};
+ghost use Rattle.rows.specs.Rows.{startFrom, highOctet, lowOctet, countOf, partOf};
 
 pub mod layout;
 pub mod record;
@@ -30,7 +30,7 @@ fn octet_at(work: &[u8], row: usize, place: usize) -> u8
 
 // The n of the segment of the row that starts at a place.
 pub fn count_at(work: &[u8], row: usize) -> usize
-    ensures { λ r. ⌜ (r ≡ countOf (highFrom (now (work .entry)) row) (lowFrom (now (work .entry)) row)) × (r ≤ 16383) ⌝ }
+    ensures { λ r. ⌜ (r ≡ countOf (highOctet (now (work .entry)) row) (lowOctet (now (work .entry)) row)) × (r ≤ 16383) ⌝ }
 {
     let high = octet_at(work, row, layout::HIGH);
     let low = octet_at(work, row, layout::LOW);

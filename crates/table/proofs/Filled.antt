@@ -9,7 +9,7 @@ use lib.ListN.{length, getD, set, length-set}
 use lib.Seq.{getD-set-same, getD-set-other}
 use lib.Dec.{ltb, eqb}
 use borrow.Author.Tests.{ltb-true, ltb-false, eqb-true, eqb-false}
-use Rattle.table.specs.Table.{Filled, ColumnFilled, Columns, Swept, Charges, ColumnRead, RowRead, fromGL}
+use Rattle.table.specs.Table.{PlacesFilled, ColumnFilled, Columns, Swept, Charges, ColumnRead, RowRead, fromGL}
 
 below-cases : (j k : ℕ) → j < k + 1 → (j < k) ⊎ (j ≡ k)
 below-cases j k h = go (ltb j k) refl
@@ -20,11 +20,11 @@ below-cases j k h = go (ltb j k) refl
 
 -- ---- one place more
 
-pub filled-none : (f : ℕ → ℕ) (at : ℕ) (before : List ℕ) → Filled f at 0 before before
+pub filled-none : (f : ℕ → ℕ) (at : ℕ) (before : List ℕ) → PlacesFilled f at 0 before before
 filled-none f at before = record { there = λ r h. absurd (omega arith); kept = λ p h. refl; long = refl }
 
-pub filled-more : (f : ℕ → ℕ) (at m : ℕ) (before after : List ℕ) (v : ℕ) → Filled f at m before after → at + m < length after → v ≡ f m
-    → Filled f at (m + 1) before (set after (at + m) v)
+pub filled-more : (f : ℕ → ℕ) (at m : ℕ) (before after : List ℕ) (v : ℕ) → PlacesFilled f at m before after → at + m < length after → v ≡ f m
+    → PlacesFilled f at (m + 1) before (set after (at + m) v)
 filled-more f at m before after v s h e =
     record {
       there = λ r l.
@@ -38,20 +38,21 @@ filled-more f at m before after v s h e =
       long = length-set after (at + m) v ∙ s .long;
     }
 
-pub filled-at : (f : ℕ → ℕ) (m : ℕ) (before after : List ℕ) (v : ℕ) → Filled f 0 m before after → m < length after → v ≡ f m
-    → Filled f 0 (m + 1) before (set after m v)
+pub filled-at : (f : ℕ → ℕ) (m : ℕ) (before after : List ℕ) (v : ℕ) → PlacesFilled f 0 m before after → m < length after → v ≡ f m
+    → PlacesFilled f 0 (m + 1) before (set after m v)
 filled-at f m before after v s h e =
     let z : 0 + m ≡ m = omega arith in
-    subst (λ (i : ℕ). Filled f 0 (m + 1) before (set after i v)) z (filled-more f 0 m before after v s (omega arith) e)
+    subst (λ (i : ℕ). PlacesFilled f 0 (m + 1) before (set after i v)) z (filled-more f 0 m before after v s (omega arith) e)
 
-pub filled-end : {f : ℕ → ℕ} {at k : ℕ} {before after : List ℕ} (m : ℕ) → Filled f at k before after → k ≤ m → m ≤ k → Filled f at m before after
-filled-end {f} {at} {k} {before} {after} m s l h = subst (λ (i : ℕ). Filled f at i before after) (omega arith) s
+pub filled-end : {f : ℕ → ℕ} {at k : ℕ} {before after : List ℕ} (m : ℕ) → PlacesFilled f at k before after → k ≤ m → m ≤ k → PlacesFilled f at m before after
+filled-end {f} {at} {k} {before} {after} m s l h = subst (λ (i : ℕ). PlacesFilled f at i before after) (omega arith) s
 
 -- what is read first is what is then stored
-pub filled-same : {f g : ℕ → ℕ} {at m : ℕ} {before after : List ℕ} → ((r : ℕ) → r < m → f r ≡ g r) → Filled f at m before after → Filled g at m before after
+pub filled-same : {f g : ℕ → ℕ} {at m : ℕ} {before after : List ℕ} → ((r : ℕ) → r < m → f r ≡ g r) → PlacesFilled f at m before after → PlacesFilled g at m before after
 filled-same e s = record { there = λ r h. s .there r h ∙ e r h; kept = s .kept; long = s .long }
 
-pub row-filled : (costs : List ℕ) (from : ℕ) (before row : List ℕ) → length row ≡ 16 → Filled (λ r. getD costs (from + r) 0) 0 16 before row → RowRead costs from row
+pub row-filled : (costs : List ℕ) (from : ℕ) (before row : List ℕ) → length row ≡ 16 → PlacesFilled (λ r. getD costs (from + r) 0) 0 16 before row
+    → RowRead costs from row
 row-filled costs from before row l s =
     record { sixteen = l; each = λ r h. ap (λ (i : ℕ). getD row i 0) (let z : r ≡ 0 + r = omega arith in z) ∙ s .there r h }
 
@@ -118,7 +119,9 @@ column-five l r a b c hr len = column-more f r 4 l l4 c s4 hr (omega (arith, s4 
     l4 = set l3 (48 + r) c
 
     s1 : ColumnFilled f r 1 l l1
-    s1 = subst (λ (i : ℕ). ColumnFilled f r 1 l (set l i a)) (let z : 16 * 0 + r ≡ r = omega arith in z) (column-more f r 0 l l a (column-none f r l) hr (omega (arith, len)) refl)
+    s1 =
+        subst (λ (i : ℕ). ColumnFilled f r 1 l (set l i a)) (let z : 16 * 0 + r ≡ r = omega arith in z)
+        (column-more f r 0 l l a (column-none f r l) hr (omega (arith, len)) refl)
 
     s2 : ColumnFilled f r 2 l l2
     s2 = column-more f r 1 l l1 b s1 hr (omega (arith, s1 .long, len)) refl
@@ -129,8 +132,10 @@ column-five l r a b c hr len = column-more f r 4 l l4 c s4 hr (omega (arith, s4 
     s4 : ColumnFilled f r 4 l l4
     s4 = column-more f r 3 l l3 c s3 hr (omega (arith, s3 .long, len)) refl
 
-pub gl-column-of : (l : List ℕ) (r a p b q t first second other : ℕ) → r < 16 → length l ≡ 80 → first ≡ min (a + p) (b + t) → second ≡ min (b + q) (a + t) → other ≡ min (a + p) (b + q)
-    → ColumnFilled (λ g. getD (fromGL a p b q t) g 0) r 5 l (set (set (set (set (set l r first) (16 + r) second) (32 + r) (other + t)) (48 + r) (other + t)) (64 + r) (other + t))
+pub gl-column-of : (l : List ℕ) (r a p b q t first second other : ℕ) → r < 16 → length l ≡ 80 → first ≡ min (a + p) (b + t)
+    → second ≡ min (b + q) (a + t) → other ≡ min (a + p) (b + q)
+    → ColumnFilled (λ g. getD (fromGL a p b q t) g 0) r 5 l
+    (set (set (set (set (set l r first) (16 + r) second) (32 + r) (other + t)) (48 + r) (other + t)) (64 + r) (other + t))
 gl-column-of l r a p b q t first second other hr len e1 e2 e3 =
     rw (e1, e2, e3) (column-five l r (min (a + p) (b + t)) (min (b + q) (a + t)) (min (a + p) (b + q) + t) hr len)
 
@@ -158,12 +163,14 @@ swept-next {f} {m} {before} {after} s h =
     (subst (λ (i : ℕ). getD after i 0 ≡ getD before i 0) z (s .kept 0 m (omega arith) h), s .kept 1 m (omega arith) h)
 
 -- by a column that is computed from what the first two rows held
-pub swept-gl : (p q t : ℕ) {m : ℕ} {before mid after : List ℕ} → m < 16 → Swept (λ g r. getD (fromGL (getD before r 0) p (getD before (16 + r) 0) q t) g 0) m before mid
+pub swept-gl : (p q t : ℕ) {m : ℕ} {before mid after : List ℕ} → m < 16
+    → Swept (λ g r. getD (fromGL (getD before r 0) p (getD before (16 + r) 0) q t) g 0) m before mid
     → ColumnFilled (λ g. getD (fromGL (getD mid m 0) p (getD mid (16 + m) 0) q t) g 0) m 5 mid after
     → Swept (λ g r. getD (fromGL (getD before r 0) p (getD before (16 + r) 0) q t) g 0) (m + 1) before after
 swept-gl p q t {m} {before} {mid} {after} h s e =
     let held = swept-next s h in
-    swept-more (λ g r. getD (fromGL (getD before r 0) p (getD before (16 + r) 0) q t) g 0) (λ g. getD (fromGL (getD mid m 0) p (getD mid (16 + m) 0) q t) g 0) m before mid after h
+    swept-more (λ g r. getD (fromGL (getD before r 0) p (getD before (16 + r) 0) q t) g 0)
+    (λ g. getD (fromGL (getD mid m 0) p (getD mid (16 + m) 0) q t) g 0) m before mid after h
     (λ g. ap₂ (λ (a b : ℕ). getD (fromGL a p b q t) g 0) (held .0) (held .1)) s e
 
 pub swept-end : {f : ℕ → ℕ → ℕ} {k : ℕ} {before after : List ℕ} → Swept f k before after → k ≤ 16 → 16 ≤ k → length before ≡ 80 → Columns f 16 after
@@ -207,7 +214,8 @@ charges-of price place a b c d e qa qb qc qd qe =
 
 pub column-of : (costs : List ℕ) (r : ℕ)
     → ColumnRead costs r (getD costs r 0 ∷ getD costs (16 + r) 0 ∷ getD costs (32 + r) 0 ∷ getD costs (48 + r) 0 ∷ getD costs (64 + r) 0 ∷ [])
-column-of costs r = record { five = refl; each = all-five (λ g. getD fives g 0 ≡ getD costs (16 * g + r) 0) (ap (λ (m : ℕ). getD costs m 0) z) refl refl refl refl }
+column-of costs r =
+    record { five = refl; each = all-five (λ g. getD fives g 0 ≡ getD costs (16 * g + r) 0) (ap (λ (m : ℕ). getD costs m 0) z) refl refl refl refl }
   where
     fives : List ℕ
     fives = getD costs r 0 ∷ getD costs (16 + r) 0 ∷ getD costs (32 + r) 0 ∷ getD costs (48 + r) 0 ∷ getD costs (64 + r) 0 ∷ []

@@ -9,7 +9,7 @@ use lib.ListN.{length, getD}
 use Rattle.numbers.specs.Size as size
 
 -- m places from a place on hold the numbers that f gives, and the others what they held
-pub record Filled (f : ℕ → ℕ) (at m : ℕ) (before after : List ℕ) : Type 0 where
+pub record PlacesFilled (f : ℕ → ℕ) (at m : ℕ) (before after : List ℕ) : Type 0 where
   pub there : (r : ℕ) → r < m → getD after (at + r) 0 ≡ f r
   pub kept : (p : ℕ) → (p < at) ⊎ (at + m ≤ p) → getD after p 0 ≡ getD before p 0
   pub long : length after ≡ length before

@@ -4,7 +4,7 @@ ghost use mathlib.Core.Bool.{cond};
 ghost use Prim.Native.Nat.{ℕ, _+_, _-_, _*_, _≤_, _<_, min};
 ghost use lib.Dec.{eqb};
 ghost use lib.ListN.{length, getD};
-ghost use Rattle.table.specs.Table.{Filled, ColumnFilled, Columns, SumsFit, Charges, ColumnRead, RowRead, fromGL};
+ghost use Rattle.table.specs.Table.{PlacesFilled, ColumnFilled, Columns, SumsFit, Charges, ColumnRead, RowRead, fromGL};
 ghost use Rattle.numbers.specs.Size as sizes;
 use numbers::size;
 
@@ -45,7 +45,8 @@ pub fn lesser_costs(
     cur: &mut [u8; size::NUMBERS],
 )
     requires { ⌜ SumsFit (now a) i p × SumsFit (now c) j q × (length (now cur) ≡ sizes.numbers) ⌝ }
-    ensures { λ _. ⌜ Columns (λ g r. min (getD (now (a .entry)) (i + r) 0 + getD p g 0) (getD (now (c .entry)) (j + r) 0 + getD q g 0)) sizes.columns (now (cur .exit)) ⌝ }
+    ensures { λ _. ⌜ Columns (λ g r. min (getD (now (a .entry)) (i + r) 0 + getD p g 0)
+        (getD (now (c .entry)) (j + r) 0 + getD q g 0)) sizes.columns (now (cur .exit)) ⌝ }
 {
     let mut r: usize = 0;
     while r < size::COLUMNS {
@@ -123,7 +124,7 @@ fn row_of(costs: &[u8; size::NUMBERS], from: usize) -> [u8; size::COLUMNS]
 // Keeps 16 costs, from a place on. Through an array of its own, which cannot lie in the work room: so the compiler stores all 16 at once.
 pub fn keep_row(cur: &[u8; size::NUMBERS], from: usize, work: &mut [u8], at: usize)
     requires { ⌜ (from + sizes.columns ≤ sizes.numbers) × (at + sizes.columns ≤ length (now work)) ⌝ }
-    ensures { λ _. ⌜ Filled (λ r. getD (now (cur .entry)) (from + r) 0) at sizes.columns (now (work .entry)) (now (work .exit)) ⌝ }
+    ensures { λ _. ⌜ PlacesFilled (λ r. getD (now (cur .entry)) (from + r) 0) at sizes.columns (now (work .entry)) (now (work .exit)) ⌝ }
 {
     let row = row_of(cur, from);
     let mut r: usize = 0;
@@ -136,7 +137,7 @@ pub fn keep_row(cur: &[u8; size::NUMBERS], from: usize, work: &mut [u8], at: usi
 // Keeps the costs of the five rows in a column.
 pub fn keep_column(cur: &[u8; size::NUMBERS], r: usize, work: &mut [u8], at: usize)
     requires { ⌜ (r < sizes.columns) × (at + sizes.gl ≤ length (now work)) ⌝ }
-    ensures { λ _. ⌜ Filled (λ g. getD (now (cur .entry)) (sizes.columns * g + r) 0) at sizes.gl (now (work .entry)) (now (work .exit)) ⌝ }
+    ensures { λ _. ⌜ PlacesFilled (λ g. getD (now (cur .entry)) (sizes.columns * g + r) 0) at sizes.gl (now (work .entry)) (now (work .exit)) ⌝ }
 {
     let mut g: usize = 0;
     while g < size::GL {
@@ -148,7 +149,7 @@ pub fn keep_column(cur: &[u8; size::NUMBERS], r: usize, work: &mut [u8], at: usi
 // Takes 128 from each cost.
 pub fn lower(cur: &mut [u8; size::NUMBERS])
     requires { ⌜ ((k : ℕ) → k < sizes.numbers → 128 ≤ getD (now cur) k 0) × (length (now cur) ≡ sizes.numbers) ⌝ }
-    ensures { λ _. ⌜ Filled (λ k. getD (now (cur .entry)) k 0 - 128) 0 sizes.numbers (now (cur .entry)) (now (cur .exit)) ⌝ }
+    ensures { λ _. ⌜ PlacesFilled (λ k. getD (now (cur .entry)) k 0 - 128) 0 sizes.numbers (now (cur .entry)) (now (cur .exit)) ⌝ }
 {
     let mut k: usize = 0;
     while k < size::NUMBERS {

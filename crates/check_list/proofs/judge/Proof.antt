@@ -12,7 +12,11 @@ returns : tie.Need-returns
 returns c = c .character .ensures ∙ kind-character _ _ _ (c .before .if1 .taken)
 
 returns-2 : tie.Need-returns-2
-returns-2 c = c .step .ensures ∙ ap (λ (t : Bool). stepOf t (c .before .before .before .before .before .args .unit .kind) (c .before .before .before .before .before .args .directions)) (c .before .counts-as-text .ensures) ∙ kind-plain _ _ _ (c .before .before .before .if1 .left) (c .before .before .if2 .taken)
+returns-2 c =
+    let args = c .before .before .before .before .before .args in
+    c .step .ensures
+    ∙ ap (λ (t : Bool). stepOf t (args .unit .kind) (args .directions)) (c .before .counts-as-text .ensures)
+    ∙ kind-plain _ _ _ (c .before .before .before .if1 .left) (c .before .before .if2 .taken)
 
 returns-3 : tie.Need-returns-3
 returns-3 c = c .segment .ensures ∙ kind-segment _ _ _ (c .before .before .before .if3 .taken)

@@ -17,7 +17,9 @@ returns c =
     (t .0, c .before .before .put .ensures ∙ t .1)
 
 returns-2 : tie.Need-returns-2
-returns-2 c = turn-stops _ _ _ _ _ _ _ (c .before .before .before .before .before .progress .given .1) (sym (c .before .before .before .judge .ensures) ∙ c .before .step2 .given .1)
+returns-2 c =
+    turn-stops _ _ _ _ _ _ _ (c .before .before .before .before .before .progress .given .1)
+    (sym (c .before .before .before .judge .ensures) ∙ c .before .step2 .given .1)
 
 returns-3 : tie.Need-returns-3
 returns-3 c = turn-faulty _ _ _ _ _ _ _ (c .before .progress2 .given .1)

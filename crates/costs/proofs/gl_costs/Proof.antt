@@ -14,7 +14,8 @@ use Rattle.costs.proofs.gl_costs.Tie as tie
 
 abbrev Inv-loop : tie.InvT-loop
 Inv-loop x three cur₀ p q r₀ cur r =
-    (r ≤ 16) × Swept (λ g n. getD (fromGL (getD cur₀ n 0) p (getD cur₀ (16 + n) 0) q three) g 0) r cur₀ cur × (p ≡ cond (eqb x 2) 6 0) × (q ≡ cond (eqb x 0) 6 0)
+    (r ≤ 16) × Swept (λ g n. getD (fromGL (getD cur₀ n 0) p (getD cur₀ (16 + n) 0) q three) g 0) r cur₀ cur × (p ≡ cond (eqb x 2) 6 0) ×
+    (q ≡ cond (eqb x 0) 6 0)
 
 abbrev μ-loop : tie.MeasureT-loop
 μ-loop x three cur₀ p q r₀ cur r = 16 - r

@@ -29,9 +29,11 @@ returns-2 : tie.Need-returns-2
 returns-2 c =
     let args = c .before .before .before .before .before .before .before .before .args in
     let pre = c .before .before .before .before .before .before .before .before .pre in
-    let changed = sym (c .before .before .before .before .before .before .before .changed .ensures) ∙ c .before .before .before .before .before .before .if1 .taken in
+    let changed = sym (c .before .before .before .before .before .before .before .changed .ensures)
+    ∙ c .before .before .before .before .before .before .if1 .taken in
     let costs = c .before .before .before .before .costs-before .ensures in
-    turned-lowered _ _ (args .cur .now) _ (pre .0 .long) costs (pre .0 .near) (c .before .before .if2 .left) _ changed (pre .0 .smooth (args .x) (pre .0 .class-of) .small) (c .lower .ensures)
+    turned-lowered _ _ (args .cur .now) _ (pre .0 .long) costs (pre .0 .near) (c .before .before .if2 .left) _ changed
+    (pre .0 .smooth (args .x) (pre .0 .class-of) .small) (c .lower .ensures)
 
 returns-3 : tie.Need-returns-3
 returns-3 c =

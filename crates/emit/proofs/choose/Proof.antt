@@ -22,15 +22,35 @@ returns-4 : tie.Need-returns-4
 returns-4 c =
     let args = c .before .before .before .before .before .before .before .before .before .before .before .before .args in
     let slot = ap (λ (q : ℕ). getD (args .work .now) (args .row + q) 0) (c .before .before .second-slot .ensures .0) in
-    first-taken _ _ _ _ _ _ (c .before .before .before .before .before .before .before .before .after-first .ensures) (c .before .before .before .before .before .after-second .ensures) (c .before .before .before .before .before .before .before .if1 .left) (c .before .before .before .before .if3 .left)
+    first-taken _ _ _ _ _ _ (c .before .before .before .before .before .before .before .before .after-first .ensures)
+    (c .before .before .before .before .before .after-second .ensures) (c .before .before .before .before .before .before .before .if1 .left)
+    (c .before .before .before .before .if3 .left)
     (omega (arith, slot, c .if4 .taken))
 
 returns-5 : tie.Need-returns-5
 returns-5 c =
     let args = c .before .before .before .before .before .before .before .before .before .before .before .before .args in
     let slot = ap (λ (q : ℕ). getD (args .work .now) (args .row + q) 0) (c .before .before .second-slot .ensures .0) in
-    second-taken _ _ _ _ _ _ (c .before .before .before .before .before .before .before .before .after-first .ensures) (c .before .before .before .before .before .after-second .ensures) (c .before .before .before .before .before .before .before .if1 .left) (c .before .before .before .before .if3 .left)
+    second-taken _ _ _ _ _ _ (c .before .before .before .before .before .before .before .before .after-first .ensures)
+    (c .before .before .before .before .before .after-second .ensures) (c .before .before .before .before .before .before .before .if1 .left)
+    (c .before .before .before .before .if3 .left)
     (omega (arith, slot, c .if4 .left))
 
 pub choose-spec : {M : Type 1} → statement M
-choose-spec = tie.close (tie.spec (search needs) (search needs) (search needs) returns returns-2 (search needs) returns-3 (search needs) (search needs) (search needs) (search needs) (search needs) returns-4 returns-5)
+choose-spec =
+    tie.close
+    (tie.spec
+    (search needs)
+    (search needs)
+    (search needs)
+    returns
+    returns-2
+    (search needs)
+    returns-3
+    (search needs)
+    (search needs)
+    (search needs)
+    (search needs)
+    (search needs)
+    returns-4
+    returns-5)

@@ -59,7 +59,8 @@ put-row-requires c κs =
 loop-again : tie.Need-loop-again Inv-loop μ-loop
 loop-again c =
     let going = c .before .before .before .before .before .before .before .before .before .before .before .before .before .before .loop .inv .2 in
-    let pre = c .before .before .before .before .before .before .before .before .before .before .before .before .before .before .before .before .before .before .pre in
+    let start = c .before .before .before .before .before .before .before .before .before .before .before .before .before in
+    let pre = start .before .before .before .before .before .pre in
     let more = c .before .before .before .before .before .before .before .before .before .before .before .before .before .loop-test .taken in
     let class = c .before .before .before .before .before .before .before .before .before .before .before .class-of .ensures .0 in
     let chosen = c .before .before .before .before .before .before .before .before .choose-quickly .ensures in
@@ -67,7 +68,8 @@ loop-again c =
     let changed = c .before .before .before .before .before .before .put-change .ensures in
     let written = c .before .before .put-row .ensures in (
       omega arith,
-      written-length written ∙ written-length changed ∙ c .before .before .before .before .before .before .before .before .before .before .before .before .before .before .loop .inv .1,
+      written-length written ∙ written-length changed
+          ∙ c .before .before .before .before .before .before .before .before .before .before .before .before .before .before .loop .inv .1,
       going-more _ _ _ _ _ _ _ _ going (pre .2) more _ _ class chosen _ place _ _ _ _ changed written,
     )
 

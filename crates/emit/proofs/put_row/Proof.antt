@@ -21,7 +21,8 @@ put-text-requires c κs =
 returns : tie.Need-returns
 returns c =
     let args = c .before .before .before .before .before .before .before .before .before .before .before .args in
-    let e = text-octets (args .segments .now) (args .work .now) (args .row) (sideOf (args .left)) (c .before .before .before .before .before .before .if1 .taken) in
+    let e = text-octets (args .segments .now) (args .work .now) (args .row) (sideOf (args .left))
+    (c .before .before .before .before .before .before .if1 .taken) in
     written-as e (c .before .before .put-text .ensures)
 
 put-segment-requires : tie.Need-put-segment-requires
@@ -37,8 +38,10 @@ put-segment-requires c κs =
 returns-2 : tie.Need-returns-2
 returns-2 c =
     let args = c .before .before .before .before .before .before .before .before .before .before .before .before .before .args in
-    let e = segment-octets (args .segments .now) (args .work .now) (args .row) (sideOf (args .left)) _ _ (c .before .before .before .before .before .count-at .ensures .0)
-    (c .before .before .before .before .start-at .ensures) (c .before .before .before .before .before .before .before .if2 .taken) (c .before .before .before .before .before .before .if3 .taken) in
+    let e = segment-octets (args .segments .now) (args .work .now) (args .row) (sideOf (args .left)) _ _
+    (c .before .before .before .before .before .count-at .ensures .0)
+    (c .before .before .before .before .start-at .ensures) (c .before .before .before .before .before .before .before .if2 .taken)
+    (c .before .before .before .before .before .before .if3 .taken) in
     written-as e (c .before .before .put-segment .ensures)
 
 put-mark-requires : tie.Need-put-mark-requires
@@ -56,4 +59,26 @@ returns-3 c =
     written-as e (c .before .before .put-mark .ensures)
 
 pub put-row-spec : {M : Type 1} → statement M
-put-row-spec = tie.close (tie.spec (search needs) (search needs) (search needs) (search needs) (search needs) (search needs) put-text-requires (search needs) returns (search needs) (search needs) (search needs) (search needs) (search needs) put-segment-requires (search needs) returns-2 put-mark-requires (search needs) returns-3)
+put-row-spec =
+    tie.close
+    (tie.spec
+    (search needs)
+    (search needs)
+    (search needs)
+    (search needs)
+    (search needs)
+    (search needs)
+    put-text-requires
+    (search needs)
+    returns
+    (search needs)
+    (search needs)
+    (search needs)
+    (search needs)
+    (search needs)
+    put-segment-requires
+    (search needs)
+    returns-2
+    put-mark-requires
+    (search needs)
+    returns-3)

@@ -50,10 +50,12 @@ emit-requires c κs =
 
 returns-5 : tie.Need-returns-5
 returns-5 c =
-    let args = c .before .before .before .before .before .before .before .before .before .before .before .before .before .before .before .before .before .args in
+    let start = c .before .before .before .before .before .before .before .before .before .before .before .before .before in
+    let args = start .before .before .before .before .args in
     let few = c .before .before .before .before .before .before .before .before .before .before .before .before .before .if1 .left in
     let enough = c .before .before .before .before .before .before .before .before .before .before .before .before .if2 .left in
-    let p = planned-all _ (args .work .now) _ _ _ few enough (c .before .before .before .before .before .before .before .before .before .before .plan .ensures) in
+    let p = planned-all _ (args .work .now) _ _ _ few enough
+    (c .before .before .before .before .before .before .before .before .before .before .plan .ensures) in
     let short = c .before .before .before .before .before .before .before .if3 .left in
     let room = c .before .before .before .before .before .before .if4 .left in
     let written = c .before .before .before .emit .ensures in

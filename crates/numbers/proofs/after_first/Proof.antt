@@ -9,13 +9,18 @@ use Rattle.numbers.proofs.after_first.Statement.{statement}
 use Rattle.numbers.proofs.after_first.Tie as tie
 
 returns : tie.Need-returns
-returns c = first-gl _ (c .before .before .args .l) (c .before .before .args .r) _ (c .before .before .pre .1) (c .before .before .pre .2) (c .before .if1 .taken) (c .if2 .taken)
+returns c =
+    first-gl _ (c .before .before .args .l) (c .before .before .args .r) _ (c .before .before .pre .1) (c .before .before .pre .2)
+    (c .before .if1 .taken) (c .if2 .taken)
 
 add-result-2 : tie.Need-add-result-2
-add-result-2 c = omega (arith, bounded placesInGL 5 refl (c .before .before .args .x), bounded placesInGR 13 refl (c .before .before .args .x), c .before .before .pre .2)
+add-result-2 c =
+    omega (arith, bounded placesInGL 5 refl (c .before .before .args .x), bounded placesInGR 13 refl (c .before .before .args .x), c .before .before .pre .2)
 
 returns-2 : tie.Need-returns-2
-returns-2 c = first-gr _ (c .before .before .args .l) (c .before .before .args .r) _ (c .before .before .pre .1) (c .before .before .pre .2) (c .before .if1 .taken) (c .if2 .left)
+returns-2 c =
+    first-gr _ (c .before .before .args .l) (c .before .before .args .r) _ (c .before .before .pre .1) (c .before .before .pre .2)
+    (c .before .if1 .taken) (c .if2 .left)
 
 returns-3 : tie.Need-returns-3
 unfolding afterFirst

@@ -9,7 +9,9 @@ use Rattle.numbers.proofs.after_second.Statement.{statement}
 use Rattle.numbers.proofs.after_second.Tie as tie
 
 returns : tie.Need-returns
-returns c = second-gr _ (c .before .before .args .l) (c .before .before .args .r) _ (c .before .before .pre .1) (c .before .before .pre .2) (c .before .if1 .taken) (c .if2 .taken)
+returns c =
+    second-gr _ (c .before .before .args .l) (c .before .before .args .r) _ (c .before .before .pre .1) (c .before .before .pre .2)
+    (c .before .if1 .taken) (c .if2 .taken)
 
 mul-result-2 : tie.Need-mul-result-2
 mul-result-2 c = omega (arith, bounded placesInGL 5 refl (c .before .before .args .x), c .before .before .pre .1)
@@ -18,7 +20,9 @@ add-result-2 : tie.Need-add-result-2
 add-result-2 c = omega (arith, bounded placesInGL 5 refl (c .before .before .args .x), c .before .before .pre .1)
 
 returns-2 : tie.Need-returns-2
-returns-2 c = second-gl _ (c .before .before .args .l) (c .before .before .args .r) _ (c .before .before .pre .1) (c .before .before .pre .2) (c .before .if1 .taken) (c .if2 .left)
+returns-2 c =
+    second-gl _ (c .before .before .args .l) (c .before .before .args .r) _ (c .before .before .pre .1) (c .before .before .pre .2)
+    (c .before .if1 .taken) (c .if2 .left)
 
 returns-3 : tie.Need-returns-3
 unfolding afterSecond

@@ -19,10 +19,17 @@ loop-holds : tie.Need-loop-holds Inv-loop μ-loop
 loop-holds c = (search needs, refl, refl)
 
 loop-again : tie.Need-loop-again Inv-loop μ-loop
-loop-again c = (omega arith, simp length-set (c .before .before .loop .inv .1), copy-more (c .before .before .before .args .out .now) _ (c .before .before .before .args .src .now) _ (c .before .before .before .args .from) _ _ (c .before .loop-test .taken) (c .before .before .before .pre .0) (c .before .before .loop .inv .2))
+loop-again c = (
+  omega arith,
+  simp length-set (c .before .before .loop .inv .1),
+  copy-more (c .before .before .before .args .out .now) _ (c .before .before .before .args .src .now) _
+      (c .before .before .before .args .from) _ _ (c .before .loop-test .taken) (c .before .before .before .pre .0) (c .before .before .loop .inv .2),
+)
 
 returns : tie.Need-returns Inv-loop μ-loop
-returns c = copy-done _ _ (c .before .before .args .src .now) _ (c .before .before .args .from) _ _ (c .before .loop .inv .0) (search needs) (c .before .before .pre .0) (c .before .loop .inv .2)
+returns c =
+    copy-done _ _ (c .before .before .args .src .now) _ (c .before .before .args .from) _ _ (c .before .loop .inv .0) (search needs)
+    (c .before .before .pre .0) (c .before .loop .inv .2)
 
 pub copy-spec : {M : Type 1} → statement M
 copy-spec =

@@ -45,4 +45,19 @@ returns-2 c =
 
 pub put-text-spec : {M : Type 1} → statement M
 put-text-spec =
-    tie.close (tie.spec (search needs) (search needs) slice-write-out (search needs) (search needs) slice-write-out-2 (search needs) (search needs) returns (search needs) slice-write-out-3 (search needs) (search needs) returns-2)
+    tie.close
+    (tie.spec
+    (search needs)
+    (search needs)
+    slice-write-out
+    (search needs)
+    (search needs)
+    slice-write-out-2
+    (search needs)
+    (search needs)
+    returns
+    (search needs)
+    slice-write-out-3
+    (search needs)
+    (search needs)
+    returns-2)

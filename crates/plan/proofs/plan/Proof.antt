@@ -85,7 +85,8 @@ add-base-2 c =
 
 loop-again : tie.Need-loop-again Inv-loop μ-loop
 loop-again c =
-    let inv = c .before .before .before .before .before .before .before .before .before .before .before .before .before .before .before .before .before .loop .inv in
+    let turn = c .before .before .before .before .before .before .before .before .before in
+    let inv = turn .before .before .before .before .before .before .before .before .loop .inv in
     let size = c .before .before .before .before .before .before .before .before .before .before .before .before .before .before .size-from .ensures .0 in
     let class = c .before .before .before .before .before .before .before .before .before .before .before .before .class-of .ensures .0 in
     let kept = c .before .before .before .before .before .before .before .before .before .keep .ensures in

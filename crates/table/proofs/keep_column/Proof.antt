@@ -4,13 +4,13 @@ use native.Mathlib.Omega.{arith}
 use Prim.Native.Nat.{_+_, _-_, _*_, _≤_}
 use mathlib.Core.Path.{_≡_, refl}
 use lib.ListN.{length, getD, length-set}
-use Rattle.table.specs.Table.{Filled}
+use Rattle.table.specs.Table.{PlacesFilled}
 use Rattle.table.proofs.Filled.{filled-none, filled-more, filled-end}
 use Rattle.table.proofs.keep_column.Statement.{statement}
 use Rattle.table.proofs.keep_column.Tie as tie
 
 abbrev Inv-loop : tie.InvT-loop
-Inv-loop cur r work₀ at g₀ work g = (g ≤ 5) × (length work ≡ length work₀) × Filled (λ q. getD cur (16 * q + r) 0) at g work₀ work
+Inv-loop cur r work₀ at g₀ work g = (g ≤ 5) × (length work ≡ length work₀) × PlacesFilled (λ q. getD cur (16 * q + r) 0) at g work₀ work
 
 abbrev μ-loop : tie.MeasureT-loop
 μ-loop cur r work₀ at g₀ work g = 5 - g

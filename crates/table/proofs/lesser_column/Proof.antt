@@ -25,7 +25,11 @@ add-lesser-2 : tie.Need-add-lesser-2 Inv-loop μ-loop
 add-lesser-2 c = omega (arith, c .before .before .pre .1 (c .before .loop .g) (search needs) .1)
 
 loop-again : tie.Need-loop-again Inv-loop μ-loop
-loop-again c = (omega arith, simp length-set (c .before .before .loop .inv .1), column-more _ _ _ _ _ _ (c .before .before .loop .inv .2) (c .before .before .before .pre .0) (search needs) (c .lesser .ensures))
+loop-again c = (
+  omega arith,
+  simp length-set (c .before .before .loop .inv .1),
+  column-more _ _ _ _ _ _ (c .before .before .loop .inv .2) (c .before .before .before .pre .0) (search needs) (c .lesser .ensures),
+)
 
 returns : tie.Need-returns Inv-loop μ-loop
 returns c = column-end (c .before .loop .inv .2) (search needs) (search needs)

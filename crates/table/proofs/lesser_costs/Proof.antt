@@ -38,7 +38,8 @@ lesser-column-requires c κs =
     (search needs, λ g h. (pre .0 g h .sums (turn .r) (search needs), pre .1 g h .sums (turn .r) (search needs)), turn .inv .1 .long)
 
 loop-again : tie.Need-loop-again Inv-loop μ-loop
-loop-again c = (omega arith, columns-more _ _ _ _ _ (search needs) (λ g. refl) (c .before .before .before .before .before .loop .inv .1) (c .lesser-column .ensures))
+loop-again c =
+    (omega arith, columns-more _ _ _ _ _ (search needs) (λ g. refl) (c .before .before .before .before .before .loop .inv .1) (c .lesser-column .ensures))
 
 returns : tie.Need-returns Inv-loop μ-loop
 returns c = columns-end (c .before .loop .inv .1) (search needs) (search needs)

@@ -4,13 +4,13 @@ use native.Mathlib.Omega.{arith}
 use Prim.Native.Nat.{_+_, _-_, _≤_}
 use mathlib.Core.Path.{_≡_, refl}
 use lib.ListN.{length, getD, length-set}
-use Rattle.table.specs.Table.{Filled}
+use Rattle.table.specs.Table.{PlacesFilled}
 use Rattle.table.proofs.Filled.{filled-none, filled-at, filled-end, row-filled}
 use Rattle.table.proofs.row_of.Statement.{statement}
 use Rattle.table.proofs.row_of.Tie as tie
 
 abbrev Inv-loop : tie.InvT-loop
-Inv-loop costs from row₀ r₀ row r = (r ≤ 16) × (length row ≡ 16) × Filled (λ q. getD costs (from + q) 0) 0 r row₀ row
+Inv-loop costs from row₀ r₀ row r = (r ≤ 16) × (length row ≡ 16) × PlacesFilled (λ q. getD costs (from + q) 0) 0 r row₀ row
 
 abbrev μ-loop : tie.MeasureT-loop
 μ-loop costs from row₀ r₀ row r = 16 - r
