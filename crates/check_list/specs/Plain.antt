@@ -1,7 +1,7 @@
 -- The quick check of a record, as the program makes it: a character or space that changes nothing in the directions. What it says is not
 -- to be believed: that such a record is refused for nothing is proved (Quick in proofs).
 use Prim.Native.Nat.{ℕ, _+_, _-_, _*_, _/_, _%_}
-use mathlib.Core.Bool.{Bool, true, false}
+use mathlib.Core.Bool.{Bool, false}
 use lib.Dec.{eqb, leb, ltb}
 use Rattle.base.specs.Choice.{pick}
 use Rattle.base.specs.Kind as kind

@@ -147,8 +147,6 @@ module _ (x : ℕ) (next : List ℕ) (g q : ℕ) (hg : g < 5) (hq : q < 16) (sm 
 -- such a class is served at place l first, and then at place m
 record InGL (x l m : ℕ) : Type 0 where
   dear : priceOfClass x ≡ 3
-  first-place : l < 5
-  second-place : m < 5
   first : (k : ℕ) → withGL l k ≡ afterFirst x k
   second : (k : ℕ) → withGL m k ≡ afterSecond x k
 
@@ -192,8 +190,6 @@ in-gl x l m r hx el er em t = go (eqb x 15) refl
         let zm : 1 ≡ m = sym (em ∙ ap (λ (b : Bool). cond b 1 l) q) in
         record {
           dear = rw e refl;
-          first-place = omega arith;
-          second-place = omega arith;
           first = λ k. rw (← zl, e) (first-space k);
           second = λ k. rw (← zm, e) (second-space k);
         }
@@ -205,8 +201,6 @@ in-gl x l m r hx el er em t = go (eqb x 15) refl
         let zm : l ≡ m = sym (em ∙ ap (λ (b : Bool). cond b 1 l) q) in
         record {
           dear = p .0;
-          first-place = p .1;
-          second-place = omega (arith, p .1);
           first = λ k. first-gl x l r k el er h (p .1);
           second = λ k. rw (← zm) (second-gl x l r k el er h hr);
         }

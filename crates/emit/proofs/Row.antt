@@ -10,7 +10,7 @@ use borrow.Author.Tests.{le-ltb}
 use Rattle.base.specs.Choice.{pick}
 use Rattle.charset.specs.declared.Side.{Side}
 use Rattle.charset.specs.declared.Side.the-variants.{GL}
-use Rattle.grammar.specs.Units.{TextUnit, space, tab, newline, ltr, rtl, revert, ext, octets}
+use Rattle.grammar.specs.Units.{TextUnit, space, control, tab, newline, ltr, rtl, revert, ext, octets}
 use Rattle.rows.specs.Rows.{highOctet, lowOctet, startFrom, countOf, textTagged, markTagged, unitTagged, unitFrom}
 use Rattle.rows.specs.Tag as tag
 use Rattle.rows.proofs.Units.{unit-text, unit-segment, unit-mark}
@@ -21,7 +21,7 @@ unfolding markTagged octets pick
 mark-free t d e = go (eqb t tag.tab) (eqb t tag.newline) (eqb t tag.left-to-right) (eqb t tag.right-to-left)
   where
     mark : Bool → Bool → Bool → Bool → TextUnit
-    mark p q r s = pick p tab (pick q newline (pick r ltr (pick s rtl revert)))
+    mark p q r s = pick p (control tab) (pick q (control newline) (pick r (control ltr) (pick s (control rtl) (control revert))))
 
     go : (p q r s : Bool) → octets d (mark p q r s) ≡ octets e (mark p q r s)
     go true q r s = refl

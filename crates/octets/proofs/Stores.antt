@@ -6,7 +6,7 @@ use Prim.Native.Nat.{ℕ, suc, _+_, _-_, _*_, _/_, _%_, _≤_, _<_}
 use native.Mathlib.Omega.{arith}
 use native.Mathlib.Numerals.{add-one}
 use lib.Dec.{ltb, leb, eqb}
-use borrow.Author.Tests.{ltb-true, ltb-false, lt-ltb, le-ltb, le-leb, lt-leb, eqb-true, eq-eqb, ne-eqb, not-true}
+use borrow.Author.Tests.{ltb-true, ltb-false, lt-ltb, le-ltb, le-leb, lt-leb, eqb-true, ne-eqb, not-true}
 use lib.ListN.{length, getD, set, take, drop, length-append, length-take, length-drop}
 use lib.Seq.{sets, length-sets, take-suc, take-all, take-take, getD-drop}
 use Rattle.base.proofs.Bools.{and-left, and-right, up-to}
@@ -173,9 +173,6 @@ segment-parts o e n m s h =
   where
     take-least : (n m : ℕ) (xs : List ℕ) → length (take n xs) ≡ m → take n xs ≡ take m xs
     take-least n m xs l = sym (take-all m (take n xs) (omega arith)) ∙ take-take m n xs (omega (arith, l, length-take n xs))
-
-pub written-is : {l m : List ℕ} {at r : ℕ} {xs ys : List ℕ} → xs ≡ ys → Written l at xs r m → Written l at ys r m
-written-is e p = written-as (sym e) p
 
 pub designation-some : (l : Bool) (c : ℕ) → c < 15 → 3 ≤ length (designation (on (sideOf l) c))
 designation-some l c h = rw (designation-short l c h) (go (leb 12 c))

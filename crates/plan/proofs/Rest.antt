@@ -227,13 +227,6 @@ known-smooth {o} {before} {n} {i} x l v hx =
 pub planned-none : (o before : List ℕ) (n : ℕ) → Planned o before n n before
 planned-none o before n = record { costs = λ j h l. absurd (omega arith); kept = λ j q h l. refl; long = refl }
 
-slot-most : (x k : ℕ) → k < 80 → secondSlot x k < 65
-slot-most x k h = go (ltb x 15)
-  where
-    go : (t : Bool) → 16 + cond t (k / 16) (k % 16) < 65
-    go true = omega arith
-    go false = omega arith
-
 planned-step : (o before : List ℕ) (n i base : ℕ) (cur room after : List ℕ) → i < n → CostsAre o before n (suc i) base cur → Planned o before n (suc i) room
     → RowKept (classOf (tagAt before i)) cur room (72 * i) after
     → Planned o before n i after

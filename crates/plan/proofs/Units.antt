@@ -4,14 +4,14 @@ use native.Mathlib.Omega.{arith}
 use mathlib.Core.Path.{_≡_, refl, ap, ap₂, _∙_}
 use mathlib.Core.Bool.{Bool, true, false, _&&_, false≢true}
 use mathlib.Core.List.{List}
-use lib.ListN.{length, getD}
+use lib.ListN.{length}
 use lib.Dec.{eqb, ltb}
 use borrow.Author.Tests.{ltb-true, ltb-false, lt-ltb, le-ltb, eqb-true}
 use Rattle.base.proofs.Bools.{and-left, and-right, up-to}
 use Rattle.base.specs.Choice.{pick}
 use Rattle.charset.specs.Charsets.{allowed, mayUse, formOf}
 use Rattle.state.specs.declared.Sets.{Sets}
-use Rattle.grammar.specs.Units.{TextUnit, revert, wide, octets}
+use Rattle.grammar.specs.Units.{TextUnit, control, revert, wide, octets}
 use Rattle.shortest.specs.Writing.{Need, free, either, need, least, size, cost}
 use Rattle.rows.proofs.Units.{part-length, unit-segment, unit-mark, mark-revert}
 use Rattle.rows.specs.Rows.{tagAt, highOctet, lowOctet, startFrom, countOf, partOf, textTagged, markTagged, unitTagged, unitsIn}
@@ -39,7 +39,7 @@ module _ (o : List ℕ) (t a b s : ℕ) where
   unit = unitTagged o t a b s
 
   -- a tag that no unit has
-  spare : tag.spare ≤ t → unit ≡ revert
+  spare : tag.spare ≤ t → unit ≡ control revert
   spare h = unit-mark o t a b s (omega arith) (λ l k. omega arith) ∙ mark-revert t (omega arith)
 
   need-low : t < tag.spare → need unit ≡ needOfClass (classOf t)

@@ -1,6 +1,5 @@
 -- `check_list::quick_turn` meets its contract, by what the quick check says.
 use mathlib.Core.Path.{sym, _∙_}
-use mathlib.Core.Bool.{true}
 use Rattle.base.specs.Choice.{pick}
 use Rattle.check_list.proofs.Quick.{plain-stowable}
 use borrow.Author.Needs.{needs}

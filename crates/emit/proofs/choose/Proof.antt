@@ -1,7 +1,7 @@
 -- `emit::choose` meets its contract, test by test.
 use native.Mathlib.Omega.{arith}
-use Prim.Native.Nat.{ℕ, _+_, _%_, _≤_, _<_}
-use mathlib.Core.Path.{_≡_, ap}
+use Prim.Native.Nat.{ℕ, _+_}
+use mathlib.Core.Path.{ap}
 use lib.ListN.{getD}
 use Rattle.numbers.proofs.Numbers.{chosen-only}
 use Rattle.emit.proofs.Chosen.{first-stays, second-stays, first-taken, second-taken}

@@ -1,7 +1,7 @@
 -- `octets::put_mark` meets its contract, tag by tag.
 use native.Mathlib.Omega.{arith}
-use mathlib.Core.Path.{_≡_, ap}
-use lib.ListN.{length, length-set}
+use mathlib.Core.Path.{_≡_}
+use lib.ListN.{length-set}
 use Rattle.base.proofs.Ladder.{ladder}
 use Rattle.grammar.specs.Units.{control, tab, newline, ltr, rtl, revert, octets}
 use Rattle.rows.specs.Rows.{markTagged}

@@ -1,7 +1,7 @@
 -- `table::keep_row` meets its contract. The invariant: the first r costs of the row are kept.
 use borrow.Author.Needs.{needs}
 use native.Mathlib.Omega.{arith}
-use Prim.Native.Nat.{_+_, _-_, _≤_}
+use Prim.Native.Nat.{_-_, _≤_}
 use mathlib.Core.Path.{_≡_, refl}
 use lib.ListN.{length, getD, length-set}
 use Rattle.table.specs.Table.{PlacesFilled, RowRead}
