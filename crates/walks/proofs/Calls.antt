@@ -15,7 +15,7 @@ use prog.Wp.{Heap, Env, Calls, Loops}
 use ghost.Atoms.{Atoms, sem}
 use sound.WpLaws.{FmC}
 use contract.Monad.{fact}
-use types.Kit.{Given, Item, ‵, raw, _⊛_, given, some, later, Post, runs, lands, Seq, _$_, _∵_, !, qed, move, drop as let-go, use1, split, learn, pick, check, rewrite, regoal, await, updating, now as at-once, show, done}
+use types.Kit.{Given, Item, ‵, raw, _⊛_, given, some, later, Post, prop, runs, lands, Seq, Sq, _$_, _∵_, !, qed, move, drop as let-go, use1, split, learn, pick, check, rewrite, regoal, await, updating, now as at-once, show, done}
 use types.Run.{Opds}
 use denote.RattleType.{RattleType}
 use denote.Laws.{Is, Tells, shows}
@@ -71,6 +71,16 @@ module _ {M : Type 1} (𝓤 : URA M) (H : Heap 𝓤) (A : Atoms 𝓤) (W : Given
       let is′ : Is R x (u ∷ []) = subst (λ (k : Res (D .signature) (y .0 .0)). Is R k (u ∷ [])) (e .0) is in
       at-once ! $ show ! (λ (z : Z). guard 𝓤 (((u ≡ only (vals x)) × Is R x (only (vals x) ∷ [])) × φ z) (sep 𝓤 Tok (sem 𝓤 H A (Q z)))) z $
       check ! ((ap only (tl x (u ∷ []) is′), subst (λ (v : Val). Is R x (v ∷ [])) (ap only (tl x (u ∷ []) is′)) is′), e .1) $ done !)))))
+
+  -- the last value is what `at` picks of the last values, and the `ensures` is a fact of it and of the result
+  module _ {Z : Type 0} (φ : Z → Type 0) (Q : Z → Fml) (at : Lasts D (y .0 .0) (y .0 .3) → Z) where
+    pub ends-some : ((r : Res (D .signature) (y .0 .0)) (ws : Lasts D (y .0 .0) (y .0 .3))
+        → ent 𝓤 (c (y .0 .0) (y .0 .3) .ensures (y .1) r (atExit D (y .0 .0) (y .0 .3) ws)) (fact 𝓤 ((r ≡ x) × φ (at ws))))
+        → ((ws : Lasts D (y .0 .0) (y .0 .3)) → Sq W (‵ (lasts D (y .0 .0) (y .0 .3) ws) ∷ []) (prop (sem 𝓤 H A (Q (at ws))))) → EndsSome φ Q
+    ends-some says picks r ws =
+        qed W (‵ (lasts D (y .0 .0) (y .0 .3) ws) ∷ raw (c (y .0 .0) (y .0 .3) .ensures (y .1) r (atExit D (y .0 .0) (y .0 .3) ws)) ∷ []) ∵ move ! (1 ∷ []) $
+        use1 W (raw (fact 𝓤 ((r ≡ x) × φ (at ws)))) (says r ws) $ heard ! ((r ≡ x) × φ (at ws)) (λ e.
+        show ! (λ (z : Z). guard 𝓤 ((r ≡ x) × φ z) (sem 𝓤 H A (Q z))) (at ws) $ check ! e $ picks ws)
 
   -- the same, with the machine value written out
   pub gave-value : (Q : Fml) → Ends Q → (vals : Res (D .signature) (y .0 .0) → List Val) → Tells R (Is R) vals → (u : Val)

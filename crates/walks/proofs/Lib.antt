@@ -5,3 +5,5 @@ pub mod Locals
 pub mod Filling
 pub mod Passing
 pub mod Lent
+pub mod Frame
+pub mod Steps

@@ -2,11 +2,21 @@
 -- before the loop, and closed once, after it or where no unit of the form stands. In each other turn the unit is stored to its element of the
 -- list. Of the functions that it calls the proof knows their contracts alone.
 -- Assumes nothing.
-use Rattle.walks.proofs.Names.{_≡_, refl, sym, _∙_, ap, subst, ℕ, zero, suc, _+_, _-_, _*_, _≤_, _<_, _^_, zero-le, Bool, true, false, not, [], _∷_, List, length, set, URA, fullShare, Ty, named, imm, mut, w8, w64, tyInt, tyBool, tyPtr, tyRef, Val, vbool, vint, vptr, SProp, ent, emp, via, fst∗, id⊢, Lft, Share, GName, Fml, ftrue, flft, fobs, fauth, fbor, fobor, fat, froom, fdies, Memory, Routine, Heap, Out, Env, afterSeq, afterBlock, Calls, Loops, Wp, atReturn, WpFn, Tables, Atoms, Fun, givenOf, tables, Given, Item, ‵, raw, _⊛_, ⋆, runs, anyQ, atRet, Sq, _$_, _∵_, !, qed, by, move, keep, let-go, use1, use2, split, join, rewrite, fsplit, fjoin, suffices, frame, done, look, init, store, store-raw, forget, stop, hop, fld, from, load, lit, of-opd, bin, and-then, no-more, assigns, assigns-last, first as begins, blocks, branches, land, returns, returns-within, enter, alloc1, alloc0, params1, pass1, pass0, exec, Below, again, loops, whole, sub, look-in, FmC, fmOf, owns, pointee, pureI, Is, shows, bool-vals, bool-tells, uint-makes, uint-vals, uint-tells, u8, usize, RefT, sliceVal, sliceTy, ShrSlice, MutSlice, Room, heres, codedHoleys, at-slice, slice-vals, shr-slice-tells, mut-slice-tells, shr-slice-copy, Held, row, place-is, elem-out, elem-put, opens-slice, closes-slice, owned, nothing, plain, onEntry, tripleOf, Contract, Triple, cited, says, needs, Stays, stay-none, stay-none-slice, stay-slice, walkOf, goes-none, goes-none-slice, goes-slice, ends-at, walked, yes}
+use Rattle.walks.proofs.Names.{_≡_, refl, sym, _∙_, ap, subst, ℕ, suc, _+_, _-_, _*_, _≤_, _<_, _^_, true, false, [], _∷_, List, length, set, URA}
+use Rattle.walks.proofs.Names.{fullShare, Ty, named, imm, mut, w8, w64, tyInt, tyRef, Val, vint, vptr, SProp, ent, id⊢, Lft, Share, GName, Fml, ftrue}
+use Rattle.walks.proofs.Names.{flft, fobs, fauth, fbor, fobor, Memory, Routine, Heap, Out, Env, afterSeq, afterBlock, Calls, Loops, Wp, atReturn}
+use Rattle.walks.proofs.Names.{WpFn, Tables, Atoms, Fun, givenOf, Given, Item, ‵, raw, _⊛_, ⋆, runs, anyQ, atRet, Sq, _$_, _∵_, !, qed, by, move}
+use Rattle.walks.proofs.Names.{keep, let-go, use1, use2, split, join, fsplit, fjoin, suffices, frame, done, look, store-raw, stop, hop, from, lit}
+use Rattle.walks.proofs.Names.{of-opd, bin, no-more, assigns, first as begins, blocks, branches, returns, returns-within, exec, Below, again, loops}
+use Rattle.walks.proofs.Names.{FmC, fmOf, owns, pointee, pureI, Is, shows, bool-vals, bool-tells, uint-makes, uint-vals, uint-tells, u8, usize, RefT}
+use Rattle.walks.proofs.Names.{sliceVal, sliceTy, ShrSlice, MutSlice, Room, heres, codedHoleys, at-slice, slice-vals, shr-slice-tells}
+use Rattle.walks.proofs.Names.{mut-slice-tells, Held, row, place-is, elem-out, elem-put, opens-slice, closes-slice, owned, nothing, plain, onEntry}
+use Rattle.walks.proofs.Names.{tripleOf, Contract, Triple, cited, says, needs, Stays, stay-none, stay-none-slice, stay-slice, walkOf, goes-none}
+use Rattle.walks.proofs.Names.{goes-none-slice, goes-slice, ends-at, yes}
 use native.Mathlib.Numerals.{add-one}
 use native.Mathlib.Omega.{arith}
 use mathlib.Core.WellFounded.{WellFounded, InvImage·wf}
-use lib.Dec.{T as Holds, ltb, ltb→lt, nltb→le, lit<}
+use lib.Dec.{ltb→lt, nltb→le, lit<}
 use lib.ListN.{length-set}
 use lib.WfN.{Nat·lt-wfRel}
 use prog.Wp.{afterTurn}
@@ -15,8 +25,10 @@ use denote.Struct.Laws as LL
 use Rattle.base.specs.declared.Unit.{Unit as UnitRecord}
 use Rattle.base.proofs.Unit as U
 use Rattle.base.proofs.Unit.Laws as U′
-use Rattle.walks.proofs.Body.{proved, 𝓣of, tests, holds, fails, frees-all}
+use Rattle.walks.proofs.Body.{𝓣of, tests, holds, fails, proved-by}
 use Rattle.walks.proofs.Calls.{calls-value}
+use Rattle.walks.proofs.Frame.{empty, full, Blocks, envOf, laid, enters, clears, leaves}
+use Rattle.walks.proofs.Steps.{var, arg, part, sets, resets-last, lands-in, recasts, in64, sliced, beside, copies}
 use Rattle.read.specs.Spans.{Fits, stands, nthOf, countFrom, storedFrom}
 use Rattle.read.specs.declared.spans.Span.{Span}
 use Rattle.read.proofs.Fills.{count-over, count-stops, count-goes, count-most, stored-over, stored-stops, stored-goes}
@@ -111,8 +123,8 @@ module _ {M : Type 1} (𝓤 : URA M) (H : Heap 𝓤) (A : Atoms 𝓤) (W : Given
       move ! (3 ∷ []) $ split ! $ move ! (1 ∷ []) $ let-go ! $ move ! (3 ∷ []) $ nothing ! $ move ! (1 ∷ 0 ∷ []) $ join ! $ move ! (1 ∷ 0 ∷ []) $ join ! $ frame ! $
       -- [obs; the borrow; what s owns]: what the list owns, and the span and the place beside it
       fjoin ! $ pureI ! (at-slice U.the-row (x l) (vo ∷ [])) (tt, (tt, tt)) (ap (λ (m : ℕ). sliceVal (b, o) m ∷ []) (sym same), subst (Room U.the-row) (sym same) room) $ fjoin ! $
-      nothing ! $ owned ! usize (Is usize) (uint-makes 𝓤 H A W w64) start _ (refl, start-fits) $ fjoin ! $ move ! (1 ∷ 0 ∷ []) $ fjoin ! $
-      owned ! R.the-row (Is R.the-row) (LL.makes R.the-type R′.the-plain 𝓤 H A) r _ is-r $ fjoin ! $ move ! (1 ∷ 0 ∷ []) $ fjoin ! $
+      nothing ! $ beside ! usize (uint-makes 𝓤 H A W w64) start _ (refl, start-fits) $ move ! (1 ∷ 0 ∷ []) $ fjoin ! $
+      beside ! R.the-row (LL.makes R.the-type R′.the-plain 𝓤 H A) r _ is-r $ move ! (1 ∷ 0 ∷ []) $ fjoin ! $
       frame ! $ owned ! usize (Is usize) (uint-makes 𝓤 H A W w64) n _ (refl, n-fits) $ done !
 
   -- ---- what the callees ask
@@ -121,16 +133,16 @@ module _ {M : Type 1} (𝓤 : URA M) (H : Heap 𝓤) (A : Atoms 𝓤) (W : Given
 
   asks-stands : (j : ℕ) → j < r .most → ent 𝓤 (⋆ 𝓤 H A ((‵ (flft κ q) ⊛ ‵ ftrue) ∷ ‵ Own ∷ [])) (StandsAt 𝓤 H A at-mem run .pre (to-stands j))
   asks-stands j less =
-      qed W ((‵ (flft κ q) ⊛ ‵ ftrue) ∷ ‵ Own ∷ []) ∵ says ! (fits, less) $ frame ! $ nothing ! $ owned ! usize (Is usize) (uint-makes 𝓤 H A W w64) j _ (refl, omega (arith, less, most-fits)) $ fjoin ! $
-      owned ! R.the-row (Is R.the-row) (LL.makes R.the-type R′.the-plain 𝓤 H A) r _ is-r $ fjoin ! $ move ! (1 ∷ 0 ∷ []) $ fjoin ! $ done !
+      qed W ((‵ (flft κ q) ⊛ ‵ ftrue) ∷ ‵ Own ∷ []) ∵ says ! (fits, less) $ frame ! $ nothing ! $ beside ! usize (uint-makes 𝓤 H A W w64) j _ (refl, omega (arith, less, most-fits)) $
+      beside ! R.the-row (LL.makes R.the-type R′.the-plain 𝓤 H A) r _ is-r $ move ! (1 ∷ 0 ∷ []) $ fjoin ! $ done !
 
   abbrev to-nth : ℕ → Nth 𝓤 H A at-mem run .Ghost
   to-nth j = (((κ, tt), (q, tt), tt, (s, (r, (j, tt))), (vs ∷ [], (R′.lowered r ∷ [], (vint w64 j ∷ [], tt)))), tt)
 
   asks-nth : (j : ℕ) → j < r .most → ent 𝓤 (⋆ 𝓤 H A ((‵ (flft κ q) ⊛ ‵ ftrue) ∷ ‵ Own ∷ [])) (Nth 𝓤 H A at-mem run .pre (to-nth j))
   asks-nth j less =
-      qed W ((‵ (flft κ q) ⊛ ‵ ftrue) ∷ ‵ Own ∷ []) ∵ says ! (fits, less) $ frame ! $ nothing ! $ owned ! usize (Is usize) (uint-makes 𝓤 H A W w64) j _ (refl, omega (arith, less, most-fits)) $ fjoin ! $
-      owned ! R.the-row (Is R.the-row) (LL.makes R.the-type R′.the-plain 𝓤 H A) r _ is-r $ fjoin ! $ move ! (1 ∷ 0 ∷ []) $ fjoin ! $ done !
+      qed W ((‵ (flft κ q) ⊛ ‵ ftrue) ∷ ‵ Own ∷ []) ∵ says ! (fits, less) $ frame ! $ nothing ! $ beside ! usize (uint-makes 𝓤 H A W w64) j _ (refl, omega (arith, less, most-fits)) $
+      beside ! R.the-row (LL.makes R.the-type R′.the-plain 𝓤 H A) r _ is-r $ move ! (1 ∷ 0 ∷ []) $ fjoin ! $ done !
 
   -- ---- the loop: its variant is how many units are passed, how many may follow, the list, and what is known of them
   record Known (j m : ℕ) (l : List UnitRecord) : Type 0 where
@@ -197,7 +209,7 @@ module _ {M : Type 1} (𝓤 : URA M) (H : Heap 𝓤) (A : Atoms 𝓤) (W : Given
   none-left g over = omega (arith, over, g .1 .1 .1 .left)
 
   module _ (𝓣 : Tables 𝓤 H) (fm : FmC 𝓤 H (W .laws) (𝓣 .C)) (known-stands : Triple 𝓤 (𝓣 .C #stands-at) (StandsAt 𝓤 H A at-mem run)) (known-nth : Triple 𝓤 (𝓣 .C #nth) (Nth 𝓤 H A at-mem run))
-      (l₀ l₁ l₂ l₃ l₄ l₅ l₆ l₇ l₈ l₉ l₁₀ l₁₁ l₁₂ : ℕ) where
+      (bs : Blocks (code.function .locals)) where
     abbrev C : Calls 𝓤 H
     C = 𝓣 .C
 
@@ -205,16 +217,11 @@ module _ {M : Type 1} (𝓤 : URA M) (H : Heap 𝓤) (A : Atoms 𝓤) (W : Given
     Λ = 𝓣 .Λ
 
     abbrev En : Env 𝓤 H
-    En = (word, l₀) ∷ (bytes, l₁) ∷ (R′.mir, l₂) ∷ (list, l₃) ∷ (word, l₄) ∷ (word, l₅) ∷ (word, l₆) ∷ (tyBool, l₇) ∷ (tyBool, l₈) ∷ (U′.mir, l₉) ∷ (word, l₁₀) ∷ (word, l₁₁) ∷ (tyPtr, l₁₂) ∷ []
+    En = envOf (code.function .locals) bs
 
     abbrev At : Going → List (Item 𝓤)
-    At g = (‵ (flft κ q) ⊛ ‵ ftrue) ∷ ‵ Own ∷ ‵ (row U.the-row fullShare (got g) b o)
-        ∷ ‵ (fobor κ′ q′ (Held U.the-row (length ys) b o γ)) ∷ ‵ (fobs γ (codedHoleys U.the-row .code (heres U.the-row ys))) ∷ ‵ (fauth γ (codedHoleys U.the-row .code (heres U.the-row ys)))
-        ∷ ‵ (froom tyPtr l₁₂ 0) ∷ ‵ (fdies tyPtr l₁₂) ∷ ‵ (froom word l₁₁ 0) ∷ ‵ (fdies word l₁₁) ∷ ‵ (froom word l₁₀ 0) ∷ ‵ (fdies word l₁₀)
-        ∷ ‵ (froom U′.mir l₉ 0) ∷ ‵ (fdies U′.mir l₉) ∷ ‵ (froom tyBool l₈ 0) ∷ ‵ (fdies tyBool l₈) ∷ ‵ (froom tyBool l₇ 0) ∷ ‵ (fdies tyBool l₇)
-        ∷ ‵ (fat fullShare word l₆ 0 (vint w64 (g .0))) ∷ ‵ (fdies word l₆) ∷ ‵ (fat fullShare word l₅ 0 (vint w64 (r .most))) ∷ ‵ (fdies word l₅) ∷ ‵ (fat fullShare word l₄ 0 (vint w64 start)) ∷ ‵ (fdies word l₄)
-        ∷ ‵ (fat fullShare list l₃ 0 (vo)) ∷ ‵ (fdies list l₃) ∷ ‵ (fat fullShare R′.mir l₂ 0 (R′.lowered r)) ∷ ‵ (fdies R′.mir l₂) ∷ ‵ (fat fullShare bytes l₁ 0 (vs)) ∷ ‵ (fdies bytes l₁)
-        ∷ ‵ (froom word l₀ 0) ∷ ‵ (fdies word l₀) ∷ []
+    At g = (‵ (flft κ q) ⊛ ‵ ftrue) ∷ ‵ Own ∷ ‵ (row U.the-row fullShare (got g) b o) ∷ ‵ (fobor κ′ q′ (Held U.the-row (length ys) b o γ)) ∷ ‵ (fobs γ (codedHoleys U.the-row .code (heres U.the-row ys))) ∷ ‵ (fauth γ (codedHoleys U.the-row .code (heres U.the-row ys))) ∷
+        laid En (empty ∷ full vs ∷ full (R′.lowered r) ∷ full vo ∷ full (vint w64 start) ∷ full (vint w64 (r .most)) ∷ full (vint w64 (g .0)) ∷ []) []
 
     abbrev Turned : Going → Out → SProp 𝓤
     Turned g = afterTurn 𝓤 H (Below 𝓤 H A Nearer At g) (afterBlock 𝓤 H (afterSeq 𝓤 H (Wp 𝓤 H C Λ En M1.t-4 (atReturn 𝓤 H En Post)) (atReturn 𝓤 H En Post)))
@@ -222,57 +229,55 @@ module _ {M : Type 1} (𝓤 : URA M) (H : Heap 𝓤) (A : Atoms 𝓤) (W : Given
     turns : (g : Going) → Sq W (At g) (runs C Λ En M1.turn-1 (anyQ (Turned g)))
     unfolding afterTurn
     turns g =
-        assigns ! (bin ! (load ! (from ! (stop !)) (look ! 18 refl)) (load ! (from ! (stop !)) (look ! 20 refl)) tt) (from ! (stop !)) (init ! 16 refl (tt, tt)) $
-        tests ! (load ! (from ! (stop !)) (look ! 16 refl))
+        sets ! 16 (bin ! (var ! 18 refl) (var ! 20 refl) tt) refl (tt, tt) $
+        tests ! (var ! 16 refl)
         (λ test.
         let less : g .0 < r .most = ltb→lt (g .0) (r .most) test in
         -- whether a unit of the form stands there
-        move ! (1 ∷ []) $ use1 W (‵ Own ⊛ ‵ Own) (shr-slice-copy 𝓤 H A W (named 0) κ u8 .twice s (vs ∷ [])) $ split ! $ move ! (2 ∷ 0 ∷ []) $
+        move ! (1 ∷ []) $ copies ! (named 0) κ u8 s (vs ∷ []) $ move ! (2 ∷ 0 ∷ []) $
         use2 W (raw (StandsAt 𝓤 H A at-mem run .pre (to-stands (g .0)))) (asks-stands (g .0) less) $
         calls-value ! fm stands-at.ended (stands-at.clauses 𝓤 H A at-mem run) known-stands (to-stands (g .0)) (stands xs r (g .0)) (λ r e. id⊢ 𝓤 _) bool-vals bool-tells
-        (and-then ! (load ! (from ! (stop !)) (look ! 28 refl)) (and-then ! (load ! (from ! (stop !)) (look ! 26 refl)) (and-then ! (load ! (from ! (stop !)) (look ! 18 refl)) (no-more !)))) (λ is-b.
-        use1 W (‵ (flft κ q) ⊛ ‵ ftrue) (id⊢ 𝓤 _) $ land ! (from ! (stop !)) (init ! 14 refl (tt, tt)) $
-        branches ! (load ! (from ! (stop !)) (look ! 14 refl))
+        (arg ! 28 refl (arg ! 26 refl (arg ! 18 refl (no-more !)))) (λ is-b.
+        use1 W (‵ (flft κ q) ⊛ ‵ ftrue) (id⊢ 𝓤 _) $ lands-in ! 14 refl (tt, tt) $
+        branches ! (var ! 14 refl)
         (λ yes-b.
         -- the unit
-        move ! (1 ∷ []) $ use1 W (‵ Own ⊛ ‵ Own) (shr-slice-copy 𝓤 H A W (named 0) κ u8 .twice s (vs ∷ [])) $ split ! $ move ! (2 ∷ 0 ∷ []) $
+        move ! (1 ∷ []) $ copies ! (named 0) κ u8 s (vs ∷ []) $ move ! (2 ∷ 0 ∷ []) $
         use2 W (raw (Nth 𝓤 H A at-mem run .pre (to-nth (g .0)))) (asks-nth (g .0) less) $
         calls-value ! fm nth.ended (nth.clauses 𝓤 H A at-mem run) known-nth (to-nth (g .0)) (unit g) (λ r e. id⊢ 𝓤 _) (LL.vals U.the-type U′.the-laws) (LL.tells U.the-type U′.the-laws)
-        (and-then ! (load ! (from ! (stop !)) (look ! 28 refl)) (and-then ! (load ! (from ! (stop !)) (look ! 26 refl)) (and-then ! (load ! (from ! (stop !)) (look ! 18 refl)) (no-more !)))) (λ is-u.
-        use1 W (‵ (flft κ q) ⊛ ‵ ftrue) (id⊢ 𝓤 _) $ land ! (from ! (stop !)) (init ! 12 refl (LL.lawful U.the-type U′.the-laws 𝓤 H A W .typed (unit g) _ is-u .0)) $
+        (arg ! 28 refl (arg ! 26 refl (arg ! 18 refl (no-more !)))) (λ is-u.
+        use1 W (‵ (flft κ q) ⊛ ‵ ftrue) (id⊢ 𝓤 _) $ lands-in ! 12 refl (LL.lawful U.the-type U′.the-laws 𝓤 H A W .typed (unit g) _ is-u .0) $
         -- its place in the list
-        assigns ! (bin ! (load ! (from ! (stop !)) (look ! 22 refl)) (load ! (from ! (stop !)) (look ! 18 refl)) (record { fits = sum-fits g less })) (from ! (stop !)) (init ! 10 refl (tt, record { fits = sum-fits g less })) $
-        assigns ! (bin ! (load ! (from ! (stop !)) (look ! 10 refl)) (lit ! tt) (record { fits = place-fits g less })) (from ! (stop !)) (init ! 8 refl (tt, record { fits = place-fits g less })) $
-        assigns ! (bin ! (load ! (from ! (fld ! refl (stop !))) (look-in ! 24 (sub ! 0 refl (whole !)))) (load ! (from ! (stop !)) (look ! 8 refl)) tt) (from ! (stop !)) (init ! 6 refl (tt, tt)) $
-        rewrite ! 6 (λ (p : ℕ). ‵ (fat fullShare tyPtr l₁₂ 0 (vptr b p))) (sym (place-is 12 o (start + g .0))) refl $
+        sets ! 10 (bin ! (var ! 22 refl) (var ! 18 refl) (record { fits = sum-fits g less })) refl (in64 (sum-fits g less)) $
+        sets ! 8 (bin ! (var ! 10 refl) (lit ! tt) (record { fits = place-fits g less })) refl (in64 (place-fits g less)) $
+        sets ! 6 (bin ! (part ! 24 0 refl refl refl) (var ! 8 refl) tt) refl (tt, tt) $
+        recasts ! 6 (vptr b) (sym (place-is 12 o (start + g .0))) refl $
         -- the element is taken out, stored to, and put back
         move ! (2 ∷ []) $ elem-out ! U.the-row (Is U.the-row) (shows 𝓤 H A U.the-row) (LL.vals U.the-type U′.the-laws) (LL.tells U.the-type U′.the-laws) fullShare (got g) (start + g .0) (unit g) b o (within g less) (λ _.
-        assigns ! (of-opd ! (load ! (from ! (stop !)) (look ! 14 refl))) (from ! (hop ! (look ! 8 refl) (stop !))) (store-raw ! 0 refl (LL.lawful U.the-type U′.the-laws 𝓤 H A W .typed (unit g) _ is-u .0)) $
+        assigns ! (of-opd ! (var ! 14 refl)) (from ! (hop ! (look ! 8 refl) (stop !))) (store-raw ! 0 refl (LL.lawful U.the-type U′.the-laws 𝓤 H A W .typed (unit g) _ is-u .0)) $
         move ! (1 ∷ []) $ let-go ! $ owned ! U.the-row (Is U.the-row) (LL.makes U.the-type U′.the-plain 𝓤 H A) (unit g) _ is-u $ move ! (1 ∷ 0 ∷ []) $
         elem-put ! U.the-row fullShare (got g) (start + g .0) (unit g) (U′.lowered (unit g) ∷ []) b o (within g less) $
         -- the number moves on
-        assigns-last ! (bin ! (load ! (from ! (stop !)) (look ! 18 refl)) (lit ! tt) (record { fits = next-fits g less })) (from ! (stop !)) (store ! 18 refl (tt, record { fits = next-fits g less })) $
-        rewrite ! 18 (λ (j : ℕ). ‵ (fat fullShare word l₆ 0 (vint w64 j))) (add-one (g .0)) refl $
-        forget ! 6 refl $ forget ! 8 refl $ forget ! 10 refl $ forget ! 12 refl $ forget ! 14 refl $ forget ! 16 refl $ move ! (1 ∷ 2 ∷ 0 ∷ []) $
+        resets-last ! 18 (bin ! (var ! 18 refl) (lit ! tt) (record { fits = next-fits g less })) refl (in64 (next-fits g less)) $
+        recasts ! 18 (vint w64) (add-one (g .0)) refl $
+        clears ! 6 11 refl $ move ! (1 ∷ 2 ∷ 0 ∷ []) $
         again ! Nearer At g (further g less (holds (stands xs r (g .0)) yes-b)) (nearer g less))))
         -- no unit of the form stands there: the borrow is closed at the list so far
         (λ no-b.
         let none : stands xs r (g .0) ≡ false = fails (stands xs r (g .0)) no-b in
-        assigns ! (of-opd ! (load ! (from ! (stop !)) (look ! 18 refl))) (from ! (stop !)) (init ! 30 refl (tt, record { fits = omega (arith, less, most-fits) })) $
-        rewrite ! 30 (λ (j : ℕ). ‵ (fat fullShare word l₀ 0 (vint w64 j))) (sym (count-stops xs r (g .1 .0) (g .0) none) ∙ g .1 .1 .1 .count) refl $
+        sets ! 30 (of-opd ! (var ! 18 refl)) refl (in64 (omega (arith, less, most-fits))) $
+        recasts ! 30 (vint w64) (sym (count-stops xs r (g .1 .0) (g .0) none) ∙ g .1 .1 .1 .count) refl $
         move ! (2 ∷ 3 ∷ 4 ∷ 5 ∷ []) $ closes-slice ! tt U.the-row ys (got g) (g .1 .1 .1 .same) b o $
-        returns-within ! Post refl (look ! 29 refl) $ forget ! 13 refl $ forget ! 15 refl $ forget ! 17 refl $ forget ! 19 refl $ forget ! 21 refl $ forget ! 23 refl $ forget ! 25 refl $ forget ! 27 refl $ forget ! 29 refl $
-        move ! (29 ∷ 30 ∷ 27 ∷ 28 ∷ 25 ∷ 26 ∷ 23 ∷ 24 ∷ 21 ∷ 22 ∷ 19 ∷ 20 ∷ 17 ∷ 18 ∷ 15 ∷ 16 ∷ 13 ∷ 14 ∷ 11 ∷ 12 ∷ 9 ∷ 10 ∷ 7 ∷ 8 ∷ 5 ∷ 6 ∷ []) $ frees-all ! En $
+        returns-within ! Post refl (look ! 29 refl) $ leaves ! 5 refl refl $
         by ! (exits (got g) (g .1 .1 .1 .same) (sym (stored-stops xs r start (g .1 .0) (g .0) (got g) none) ∙ g .1 .1 .1 .stored)))))
         -- the loop is left: the borrow is closed at the list that is filled
         (λ over.
         let none : g .1 .0 ≡ 0 = none-left g (nltb→le (g .0) (r .most) over) in
         exec ! C Λ En M1.t-4 (atRet En Post) $
-        assigns ! (of-opd ! (load ! (from ! (stop !)) (look ! 18 refl))) (from ! (stop !)) (init ! 30 refl (tt, record { fits = omega (arith, g .1 .1 .1 .left, most-fits) })) $
-        rewrite ! 30 (λ (j : ℕ). ‵ (fat fullShare word l₀ 0 (vint w64 j))) (sym (count-over xs r (g .1 .0) (g .0) none) ∙ g .1 .1 .1 .count) refl $
+        sets ! 30 (of-opd ! (var ! 18 refl)) refl (in64 (omega (arith, g .1 .1 .1 .left, most-fits))) $
+        recasts ! 30 (vint w64) (sym (count-over xs r (g .1 .0) (g .0) none) ∙ g .1 .1 .1 .count) refl $
         move ! (2 ∷ 3 ∷ 4 ∷ 5 ∷ []) $ closes-slice ! tt U.the-row ys (got g) (g .1 .1 .1 .same) b o $
-        returns ! (look ! 29 refl) $ forget ! 15 refl $ forget ! 17 refl $ forget ! 19 refl $ forget ! 21 refl $ forget ! 23 refl $ forget ! 25 refl $ forget ! 27 refl $ forget ! 29 refl $
-        move ! (29 ∷ 30 ∷ 27 ∷ 28 ∷ 25 ∷ 26 ∷ 23 ∷ 24 ∷ 21 ∷ 22 ∷ 19 ∷ 20 ∷ 17 ∷ 18 ∷ 15 ∷ 16 ∷ 13 ∷ 14 ∷ 11 ∷ 12 ∷ 9 ∷ 10 ∷ 7 ∷ 8 ∷ 5 ∷ 6 ∷ []) $ frees-all ! En $
+        returns ! (look ! 29 refl) $ leaves ! 5 refl refl $
         by ! (exits (got g) (g .1 .1 .1 .same) (sym (stored-over xs r start (g .1 .0) (g .0) (got g) none) ∙ g .1 .1 .1 .stored)))
 
     abbrev start-at : Going
@@ -287,28 +292,24 @@ module _ {M : Type 1} (𝓤 : URA M) (H : Heap 𝓤) (A : Atoms 𝓤) (W : Given
     walk =
         qed W ((‵ (flft κ q) ⊛ ‵ (flft κ′ q′) ⊛ ‵ ftrue) ∷ ‵ (owns (ShrSlice (named 0) κ u8 ∷ R.the-row ∷ MutSlice (named 1) κ′ U.the-row ∷ usize ∷ []) a vals) ∷ []) ∵
         split ! $ move ! (1 ∷ []) $ split ! $ move ! (2 ∷ 1 ∷ []) $ join ! $ move ! (2 ∷ []) $ fsplit ! $ move ! (1 ∷ []) $ fsplit ! $ move ! (1 ∷ []) $ fsplit ! $ fsplit ! $ move ! (1 ∷ []) $ fsplit ! $ keep ! (6 ∷ 5 ∷ 0 ∷ 1 ∷ 7 ∷ []) $
-        enter ! (𝓣 .C) (𝓣 .Λ) code.function (vs ∷ R′.lowered r ∷ vo ∷ vint w64 start ∷ []) _ $
-        alloc1 ! (λ l₀. alloc1 ! (λ l₁. alloc1 ! (λ l₂. alloc1 ! (λ l₃. alloc1 ! (λ l₄. alloc1 ! (λ l₅. alloc1 ! (λ l₆. alloc1 ! (λ l₇. alloc1 ! (λ l₈. alloc1 ! (λ l₉. alloc1 ! (λ l₁₀. alloc1 ! (λ l₁₁. alloc1 ! (λ l₁₂. alloc0 ! $ params1 ! $
-        pass1 ! (init ! 22 refl (tt, (tt, (record { fits = s-fits }, tt)))) $ pass1 ! (init ! 20 refl (LL.lawful R.the-type R′.the-laws 𝓤 H A W .typed r _ is-r .0)) $
-        pass1 ! (init ! 18 refl (tt, (tt, (record { fits = room .0 }, tt)))) $ pass1 ! (init ! 16 refl (tt, record { fits = start-fits })) $ pass0 ! $
+        enters ! (𝓣 .C) (𝓣 .Λ) code.function (vs ∷ R′.lowered r ∷ vo ∷ vint w64 start ∷ []) _ (λ bs. (sliced s-fits, (LL.lawful R.the-type R′.the-laws 𝓤 H A W .typed r _ is-r .0, (sliced (room .0), (in64 start-fits, tt))))) (λ bs.
         -- [the locals; the token of s; what s owns; obs; the borrow; the token of the list]
-        assigns ! (of-opd ! (load ! (from ! (fld ! refl (stop !))) (look-in ! 20 (sub ! 1 refl (whole !))))) (from ! (stop !)) (init ! 14 refl (tt, record { fits = most-fits })) $
-        assigns ! (of-opd ! (lit ! tt)) (from ! (stop !)) (init ! 12 refl (tt, record { fits = lit< tt })) $
+        sets ! 14 (of-opd ! (part ! 20 1 refl refl refl)) refl (in64 most-fits) $
+        sets ! 12 (of-opd ! (lit ! tt)) refl (in64 (lit< tt)) $
         -- the borrow of the list is opened, and the loop begins
         move ! (28 ∷ 29 ∷ 30 ∷ []) $ opens-slice ! tt U.the-row ys b o $ move ! (30 ∷ 31 ∷ []) $
-        looped 𝓣 fm known-stands known-nth l₀ l₁ l₂ l₃ l₄ l₅ l₆ l₇ l₈ l₉ l₁₀ l₁₁ l₁₂)))))))))))))
+        looped 𝓣 fm known-stands known-nth bs)
 
 pub fill-spec : {M : Type 1} → stated.statement M
 unfolding code.routine tablesOf
 fill-spec 𝓤 H 𝓜 𝓖 𝓡 =
-    proved 𝓤 H 𝓜 𝓖 𝓡 code.env #fill code.function (code.unfolded 𝓤 H 𝓜 𝓡) fill.ended stayed (fill.clauses 𝓤 H (𝓖 .A) (𝓜 .mem) (𝓡 .run)) (
+    proved-by 𝓤 H 𝓜 𝓖 𝓡 code.env #fill code.function (code.unfolded 𝓤 H 𝓜 𝓡) fill.ended stayed (fill.clauses 𝓤 H (𝓖 .A) (𝓜 .mem) (𝓡 .run)) (
       goes-none-slice 𝓤 H (𝓖 .A) (givenOf 𝓤 H 𝓜 𝓖) 2 (0 ∷ []) tt (plain (λ _. u8)) yes,
       (
         goes-none 𝓤 H (𝓖 .A) (givenOf 𝓤 H 𝓜 𝓖) 2 (λ _. R.the-row) yes (λ κs x f. refl),
         (goes-slice 𝓤 H (𝓖 .A) (givenOf 𝓤 H 𝓜 𝓖) 2 1 tt (plain (λ _. U.the-row)), (goes-none 𝓤 H (𝓖 .A) (givenOf 𝓤 H 𝓜 𝓖) 2 (λ _. usize) yes (λ κs x f. refl), tt)),
       ),
     )
-    (walked 𝓤 H (𝓖 .A) fill.ended stayed (fill.clauses 𝓤 H (𝓖 .A) (𝓜 .mem) (𝓡 .run)) (WpFn 𝓤 H (𝓣of 𝓤 H 𝓜 𝓖 𝓡 code.env .C) (𝓣of 𝓤 H 𝓜 𝓖 𝓡 code.env .Λ) code.function)
     (λ κs. (slice-vals, (LL.vals R.the-type R′.the-laws, (slice-vals, (uint-vals w64, tt)))))
     (λ κs. (shr-slice-tells (named 0) (κs .0) u8, (LL.tells R.the-type R′.the-laws, (mut-slice-tells (named 1) (κs .1 .0) U.the-row, (uint-tells w64, tt)))))
     (λ κs qs bounds a g are. needs 𝓤 _ _ (λ pre. walk 𝓤 H (𝓖 .A) (givenOf 𝓤 H 𝓜 𝓖) (𝓜 .mem) (𝓡 .run) (κs .0) (κs .1 .0) (qs .0) (qs .1 .0)
@@ -316,4 +317,4 @@ fill-spec 𝓤 H 𝓜 𝓖 𝓡 =
     (are .0 .0 .1 .0) (are .1 .0) (are .1 .1 .0 .0 .1) (are .1 .1 .1 .0 .1) (pre .0) (pre .1)
     (𝓣of 𝓤 H 𝓜 𝓖 𝓡 code.env) (fmOf 𝓤 H (givenOf 𝓤 H 𝓜 𝓖 .laws) (𝓣of 𝓤 H 𝓜 𝓖 𝓡 code.env))
     (cited 𝓤 H (StandsAt 𝓤 H (𝓖 .A) (𝓜 .mem) (𝓡 .run)) 𝓜 𝓡 code.env #stands-at stands-at-def.routine code.calls-read·spans·stands-at (stands-at-thm.met 𝓤 H 𝓜 𝓖 𝓡))
-    (cited 𝓤 H (Nth 𝓤 H (𝓖 .A) (𝓜 .mem) (𝓡 .run)) 𝓜 𝓡 code.env #nth nth-def.routine code.calls-read·spans·nth (nth-thm.met 𝓤 H 𝓜 𝓖 𝓡)))))
+    (cited 𝓤 H (Nth 𝓤 H (𝓖 .A) (𝓜 .mem) (𝓡 .run)) 𝓜 𝓡 code.env #nth nth-def.routine code.calls-read·spans·nth (nth-thm.met 𝓤 H 𝓜 𝓖 𝓡))))

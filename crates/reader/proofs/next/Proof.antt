@@ -1,15 +1,24 @@
 -- `reader::next` meets its contract: its code is followed by hand, for a struct that holds a reference is lent. The borrow of the reader is
 -- opened, its fields are read, `step` is called on them, the place, the count and the state are stored, and the borrow is closed.
 -- Assumes nothing.
-use Rattle.walks.proofs.Names.{_≡_, refl, ℕ, _<_, _^_, [], _∷_, List, length, URA, fullShare, named, erased, w64, Val, vint, vptr, SProp, ent, emp, via, fst∗, id⊢, Lft, Share, GName, Fml, ftrue, flft, fobs, fbor, fat, Memory, Routine, Heap, Calls, Loops, WpFn, Atoms, Fun, givenOf, Given, ‵, raw, given, _⊛_, ⋆, _$_, _∵_, !, qed, by, move, keep, let-go, use1, use2, split, join, learn, fsplit, fsplit3, fjoin, fjoin3, feqI, suffices, frame, done, look, init, forget, stop, hop, fld, from, load, of-opd, and-then, no-more, assigns, land, returns, enter, alloc1, alloc0, params1, pass1, pass0, whole, sub, look-in, store-in, Body, FmC, fmOf, RattleType, owns, mem, cellAt, Is, shows, uint-makes, u8, usize, RefT, NamedLft, MutRef, ptr-vals, mut-tells, sliceVal, ShrSlice, shr-slice-copy, opens, closes, owned, peeks, nothing, spelt, Declared, all-own, ownAt, rest, own-open, own-out, own-shut, Values, onEntry, tripleOf, Contract, Triple, cited, says, Stays, stay-ref, walkOf, goes-ref, ends-at, walked, Slot, plain, namedLft}
+use Rattle.walks.proofs.Names.{_≡_, refl, ℕ, _<_, _^_, [], _∷_, List, length, URA, fullShare, named, erased, w64, Val, vint, vptr, SProp, ent, emp}
+use Rattle.walks.proofs.Names.{via, fst∗, id⊢, Lft, Share, GName, Fml, ftrue, flft, fobs, fbor, fat, Memory, Routine, Heap, Calls, Loops, WpFn, Atoms}
+use Rattle.walks.proofs.Names.{Fun, givenOf, Given, ‵, raw, given, _⊛_, ⋆, _$_, _∵_, !, qed, by, move, keep, let-go, use1, use2, split, join, learn}
+use Rattle.walks.proofs.Names.{fsplit, fsplit3, fjoin, fjoin3, feqI, suffices, frame, done, look, stop, hop, fld, from, load, of-opd, no-more}
+use Rattle.walks.proofs.Names.{assigns, returns, whole, sub, look-in, store-in, Body, FmC, fmOf, RattleType, owns, mem, cellAt, Is, shows, uint-makes}
+use Rattle.walks.proofs.Names.{u8, usize, RefT, NamedLft, MutRef, ptr-vals, mut-tells, sliceVal, ShrSlice, shr-slice-copy, opens, closes, owned}
+use Rattle.walks.proofs.Names.{peeks, nothing, spelt, Declared, all-own, ownAt, rest, own-open, own-out, own-shut, Values, onEntry, tripleOf}
+use Rattle.walks.proofs.Names.{Contract, Triple, cited, says, Stays, stay-ref, walkOf, goes-ref, ends-at, Slot, plain, namedLft}
 use contract.Lifetimes.{AllOutlive}
 use contract.Running.{tablesOf}
 use denote.Struct.Laws as LL
 use denote.Enum.Laws as EL
 use Rattle.state.proofs.State as S
 use Rattle.state.proofs.State.Laws as S′
-use Rattle.walks.proofs.Body.{proved, 𝓣of, frees-all}
+use Rattle.walks.proofs.Body.{𝓣of, proved-by}
 use Rattle.walks.proofs.Calls.{calls-value}
+use Rattle.walks.proofs.Frame.{enters, leaves}
+use Rattle.walks.proofs.Steps.{arg, part, sets, lands-in, beside}
 use Rattle.reader.specs.Reader.{stepOf, moved}
 use Rattle.reader.specs.declared.Reader.{Reader}
 use Rattle.reader.specs.declared.Stepped.{Stepped}
@@ -87,8 +96,8 @@ module _ {M : Type 1} (𝓤 : URA M) (H : Heap 𝓤) (A : Atoms 𝓤) (W : Given
   asks : h .place < 2 ^ 64 → h .count < 2 ^ 64 → Is S.the-row (h .state) (S′.lowered (h .state) ∷ []) → ent 𝓤 (⋆ 𝓤 H A (‵ (flft κ′ q′) ∷ ‵ Octets ∷ [])) (Steps 𝓤 H A at-mem run .pre to)
   asks place-fits count-fits is =
       qed W (‵ (flft κ′ q′) ∷ ‵ Octets ∷ []) ∵ nothing ! $ move ! (1 ∷ 0 ∷ []) $ join ! $ move ! (1 ∷ []) $
-      nothing ! $ owned ! S.the-row (Is S.the-row) (LL.makes S.the-type S′.the-plain 𝓤 H A) (h .state) _ is $ fjoin ! $ owned ! usize (Is usize) (uint-makes 𝓤 H A W w64) (h .count) _ (refl, count-fits) $ fjoin ! $
-      owned ! usize (Is usize) (uint-makes 𝓤 H A W w64) (h .place) _ (refl, place-fits) $ fjoin ! $ move ! (1 ∷ 0 ∷ []) $ fjoin ! $ move ! (1 ∷ 0 ∷ []) $ join ! $ frame ! $ done !
+      nothing ! $ beside ! S.the-row (LL.makes S.the-type S′.the-plain 𝓤 H A) (h .state) _ is $ beside ! usize (uint-makes 𝓤 H A W w64) (h .count) _ (refl, count-fits) $
+      beside ! usize (uint-makes 𝓤 H A W w64) (h .place) _ (refl, place-fits) $ move ! (1 ∷ 0 ∷ []) $ fjoin ! $ move ! (1 ∷ 0 ∷ []) $ join ! $ frame ! $ done !
 
   exits : Is I.the-row (g .item) (item ∷ []) → ent 𝓤 (⋆ 𝓤 H A (‵ (fobs γ (R .coded .code h′)) ∷ ‵ (fbor κ (Body (mem R) b o γ)) ∷ ‵ (flft κ q) ∷ (‵ (flft κ′ q′) ⊛ ‵ ftrue) ∷ [])) (Post item)
   exits is =
@@ -102,47 +111,44 @@ module _ {M : Type 1} (𝓤 : URA M) (H : Heap 𝓤) (A : Atoms 𝓤) (W : Given
     walk =
         qed W ((‵ (flft κ q) ⊛ ‵ (flft κ′ q′) ⊛ ‵ ftrue) ∷ ‵ (owns (MutRef (named 0) κ R ∷ []) a vals) ∷ []) ∵
         split ! $ move ! (1 ∷ []) $ split ! $ move ! (3 ∷ []) $ fsplit ! $ fsplit3 ! $ keep ! (1 ∷ 2 ∷ 6 ∷ 4 ∷ []) $
-        enter ! C Λ code.function (vptr b o ∷ []) _ $
-        alloc1 ! (λ l₀. alloc1 ! (λ l₁. alloc1 ! (λ l₂. alloc1 ! (λ l₃. alloc1 ! (λ l₄. alloc1 ! (λ l₅. alloc1 ! (λ l₆. alloc0 ! $ params1 ! $ pass1 ! (init ! 10 refl (tt, tt)) $ pass0 ! $
+        enters ! C Λ code.function (vptr b o ∷ []) _ (λ bs. ((tt, tt), tt)) (λ bs.
         -- the borrow is opened
         move ! (14 ∷ 15 ∷ 16 ∷ []) $ opens ! tt R {h = h} b o (λ vs. spelt ! R (Is R) (shows 𝓤 H A R) (LL.vals D L) (LL.tells D L) fullShare h vs b o $
         use1 W (‵ (fat fullShare (T′.mir erased) b o (T′.lowered h))) (W .laws .raw-at fullShare (T′.mir erased) b o (T′.lowered h)) $
         move ! (1 ∷ []) $ peeks ! R (Is R) (shows 𝓤 H A R) h (T′.lowered h ∷ []) (λ is-h. move ! (1 ∷ 0 ∷ []) $
         -- [the reader's cell; what it owns; the open borrow; obs; auth; the locals, _6 first; the token of the string]: the fields are read
-        assigns ! (of-opd ! (load ! (from ! (hop ! (look ! 15 refl) (fld ! refl (stop !)))) (look-in ! 0 (sub ! 0 refl (whole !))))) (from ! (stop !)) (init ! 11 refl (tt, LL.lawful D L 𝓤 H A W .typed h _ is-h .0 .1 .0)) $
-        assigns ! (of-opd ! (load ! (from ! (hop ! (look ! 15 refl) (fld ! refl (stop !)))) (look-in ! 0 (sub ! 1 refl (whole !))))) (from ! (stop !)) (init ! 9 refl (tt, LL.lawful D L 𝓤 H A W .typed h _ is-h .0 .1 .1 .0)) $
-        assigns ! (of-opd ! (load ! (from ! (hop ! (look ! 15 refl) (fld ! refl (stop !)))) (look-in ! 0 (sub ! 2 refl (whole !))))) (from ! (stop !)) (init ! 7 refl (tt, LL.lawful D L 𝓤 H A W .typed h _ is-h .0 .1 .1 .1 .0)) $
-        assigns ! (of-opd ! (load ! (from ! (hop ! (look ! 15 refl) (fld ! refl (stop !)))) (look-in ! 0 (sub ! 3 refl (whole !))))) (from ! (stop !)) (init ! 5 refl (tt, LL.lawful D L 𝓤 H A W .typed h _ is-h .0 .1 .1 .1 .1 .0)) $
+        sets ! 11 (of-opd ! (load ! (from ! (hop ! (look ! 15 refl) (fld ! refl (stop !)))) (look-in ! 0 (sub ! 0 refl (whole !))))) refl (tt, LL.lawful D L 𝓤 H A W .typed h _ is-h .0 .1 .0) $
+        sets ! 9 (of-opd ! (load ! (from ! (hop ! (look ! 15 refl) (fld ! refl (stop !)))) (look-in ! 0 (sub ! 1 refl (whole !))))) refl (tt, LL.lawful D L 𝓤 H A W .typed h _ is-h .0 .1 .1 .0) $
+        sets ! 7 (of-opd ! (load ! (from ! (hop ! (look ! 15 refl) (fld ! refl (stop !)))) (look-in ! 0 (sub ! 2 refl (whole !))))) refl (tt, LL.lawful D L 𝓤 H A W .typed h _ is-h .0 .1 .1 .1 .0) $
+        sets ! 5 (of-opd ! (load ! (from ! (hop ! (look ! 15 refl) (fld ! refl (stop !)))) (look-in ! 0 (sub ! 3 refl (whole !))))) refl (tt, LL.lawful D L 𝓤 H A W .typed h _ is-h .0 .1 .1 .1 .1 .0) $
         -- what the string owns is had twice: one goes to the call, and one back into the reader
         move ! (1 ∷ []) $ use1 W (given (T′.lowered h ∷ [] ≡ T′.lowered h ∷ []) (‵ (all-own (D .parts) L fields))) (own-open 𝓤 H A W D L fields (T′.lowered h)) $ learn ! (λ _.
         use1 W (‵ (ownAt (D .parts) L 0 (h .octets)) ⊛ ‵ (rest (D .parts) L 0 fields)) (own-out 𝓤 H A W (D .parts) L 0 fields) $ split ! $
         move ! (1 ∷ []) $ let-go ! $ use1 W (‵ Octets ⊛ ‵ Octets) (shr-slice-copy 𝓤 H A W (named 1) κ′ u8 .twice (h .octets) (v ∷ [])) $ split ! $
         move ! (20 ∷ 0 ∷ []) $ use2 W (raw (Steps 𝓤 H A at-mem run .pre to)) (asks (LL.owed D L h _ is-h .1 .0 .1) (LL.owed D L h _ is-h .1 .1 .0 .1) (LL.owed D L h _ is-h .1 .1 .1 .0)) $
         calls-value ! fm step.ended (step.clauses 𝓤 H A at-mem run) known to g (λ r e. id⊢ 𝓤 _) (LL.vals G.the-type G′.the-laws) (LL.tells G.the-type G′.the-laws)
-        (and-then ! (load ! (from ! (stop !)) (look ! 12 refl)) (and-then ! (load ! (from ! (stop !)) (look ! 10 refl)) (and-then ! (load ! (from ! (stop !)) (look ! 8 refl)) (and-then ! (load ! (from ! (stop !)) (look ! 6 refl)) (no-more !))))) (λ is.
-        use1 W (‵ (flft κ′ q′) ⊛ ‵ ftrue) (id⊢ 𝓤 _) $ land ! (from ! (stop !)) (init ! 14 refl (LL.lawful G.the-type G′.the-laws 𝓤 H A W .typed g _ is .0)) $
+        (arg ! 12 refl (arg ! 10 refl (arg ! 8 refl (arg ! 6 refl (no-more !))))) (λ is.
+        use1 W (‵ (flft κ′ q′) ⊛ ‵ ftrue) (id⊢ 𝓤 _) $ lands-in ! 14 refl (LL.lawful G.the-type G′.the-laws 𝓤 H A W .typed g _ is .0) $
         -- [the string's token; what it owns; the reader's cell; the open borrow; obs; auth; the locals]: place, count and state are stored
-        assigns ! (of-opd ! (load ! (from ! (fld ! refl (stop !))) (look-in ! 14 (sub ! 0 refl (whole !))))) (from ! (hop ! (look ! 16 refl) (fld ! refl (stop !)))) (store-in ! 2 (sub ! 1 refl (whole !)) (tt, LL.lawful G.the-type G′.the-laws 𝓤 H A W .typed g _ is .0 .1 .0)) $
-        assigns ! (of-opd ! (load ! (from ! (fld ! refl (stop !))) (look-in ! 14 (sub ! 1 refl (whole !))))) (from ! (hop ! (look ! 16 refl) (fld ! refl (stop !)))) (store-in ! 2 (sub ! 2 refl (whole !)) (tt, LL.lawful G.the-type G′.the-laws 𝓤 H A W .typed g _ is .0 .1 .1 .0)) $
-        assigns ! (of-opd ! (load ! (from ! (fld ! refl (stop !))) (look-in ! 14 (sub ! 2 refl (whole !))))) (from ! (hop ! (look ! 16 refl) (fld ! refl (stop !)))) (store-in ! 2 (sub ! 3 refl (whole !)) (tt, LL.lawful G.the-type G′.the-laws 𝓤 H A W .typed g _ is .0 .1 .1 .1 .0)) $
-        assigns ! (of-opd ! (load ! (from ! (fld ! refl (stop !))) (look-in ! 14 (sub ! 3 refl (whole !))))) (from ! (stop !)) (init ! 18 refl (EL.lawful I.the-type I′.the-laws 𝓤 H A W tt .typed (g .item) _ (LL.owed G.the-type G′.the-laws g _ is .1 .1 .1 .0) .0)) $
+        assigns ! (of-opd ! (part ! 14 0 refl refl refl)) (from ! (hop ! (look ! 16 refl) (fld ! refl (stop !)))) (store-in ! 2 (sub ! 1 refl (whole !)) (tt, LL.lawful G.the-type G′.the-laws 𝓤 H A W .typed g _ is .0 .1 .0)) $
+        assigns ! (of-opd ! (part ! 14 1 refl refl refl)) (from ! (hop ! (look ! 16 refl) (fld ! refl (stop !)))) (store-in ! 2 (sub ! 2 refl (whole !)) (tt, LL.lawful G.the-type G′.the-laws 𝓤 H A W .typed g _ is .0 .1 .1 .0)) $
+        assigns ! (of-opd ! (part ! 14 2 refl refl refl)) (from ! (hop ! (look ! 16 refl) (fld ! refl (stop !)))) (store-in ! 2 (sub ! 3 refl (whole !)) (tt, LL.lawful G.the-type G′.the-laws 𝓤 H A W .typed g _ is .0 .1 .1 .1 .0)) $
+        sets ! 18 (of-opd ! (part ! 14 3 refl refl refl)) refl (EL.lawful I.the-type I′.the-laws 𝓤 H A W tt .typed (g .item) _ (LL.owed G.the-type G′.the-laws g _ is .1 .1 .1 .0) .0) $
         -- the reader is put together again, and the borrow is closed
         move ! (1 ∷ []) $ nothing ! $ owned ! S.the-row (Is S.the-row) (LL.makes S.the-type S′.the-plain 𝓤 H A) (g .state) _ (LL.owed G.the-type G′.the-laws g _ is .1 .1 .0) $ fjoin ! $
-        owned ! usize (Is usize) (uint-makes 𝓤 H A W w64) (g .count) _ (LL.owed G.the-type G′.the-laws g _ is .1 .0) $ fjoin ! $
-        owned ! usize (Is usize) (uint-makes 𝓤 H A W w64) (g .place) _ (LL.owed G.the-type G′.the-laws g _ is .0) $ fjoin ! $ move ! (1 ∷ 0 ∷ []) $ fjoin ! $
+        beside ! usize (uint-makes 𝓤 H A W w64) (g .count) _ (LL.owed G.the-type G′.the-laws g _ is .1 .0) $
+        beside ! usize (uint-makes 𝓤 H A W w64) (g .place) _ (LL.owed G.the-type G′.the-laws g _ is .0) $ move ! (1 ∷ 0 ∷ []) $ fjoin ! $
         use1 W (‵ (R .own h′ (T′.lowered h′ ∷ []))) (own-shut 𝓤 H A W D L (h .octets, (g .place, (g .count, (g .state, tt))))) $
         move ! (2 ∷ []) $ use1 W (‵ (cellAt fullShare (R .mir) (T′.lowered h′ ∷ []) b o)) (W .laws .at-raw fullShare (T′.mir erased) b o (T′.lowered h′)) $
         move ! (0 ∷ 1 ∷ 3 ∷ 4 ∷ 5 ∷ []) $ closes ! tt R h′ (T′.lowered h′ ∷ []) b o $
-        returns ! (look ! 16 refl) $ forget ! 4 refl $ forget ! 6 refl $ forget ! 8 refl $ forget ! 10 refl $ forget ! 12 refl $ forget ! 14 refl $ forget ! 16 refl $
-        move ! (16 ∷ 17 ∷ 14 ∷ 15 ∷ 12 ∷ 13 ∷ 10 ∷ 11 ∷ 8 ∷ 9 ∷ 6 ∷ 7 ∷ 4 ∷ 5 ∷ []) $ frees-all ! _ $ by ! (exits (LL.owed G.the-type G′.the-laws g _ is .1 .1 .1 .0)))))))))))))
+        returns ! (look ! 16 refl) $ leaves ! 4 refl refl $ by ! (exits (LL.owed G.the-type G′.the-laws g _ is .1 .1 .1 .0)))))))
 
 pub next-spec : {M : Type 1} → stated.statement M
 unfolding code.routine tablesOf
 next-spec 𝓤 H 𝓜 𝓖 𝓡 =
-    proved 𝓤 H 𝓜 𝓖 𝓡 code.env #next code.function (code.unfolded 𝓤 H 𝓜 𝓡) next.ended stayed (next.clauses 𝓤 H (𝓖 .A) (𝓜 .mem) (𝓡 .run))
+    proved-by 𝓤 H 𝓜 𝓖 𝓡 code.env #next code.function (code.unfolded 𝓤 H 𝓜 𝓡) next.ended stayed (next.clauses 𝓤 H (𝓖 .A) (𝓜 .mem) (𝓡 .run))
     (goes-ref 𝓤 H (𝓖 .A) (givenOf 𝓤 H 𝓜 𝓖) 2 0 tt behind, tt)
-    (walked 𝓤 H (𝓖 .A) next.ended stayed (next.clauses 𝓤 H (𝓖 .A) (𝓜 .mem) (𝓡 .run)) (WpFn 𝓤 H (𝓣of 𝓤 H 𝓜 𝓖 𝓡 code.env .C) (𝓣of 𝓤 H 𝓜 𝓖 𝓡 code.env .Λ) code.function)
     (λ κs. (ptr-vals, tt)) (λ κs. (mut-tells (named 0) (κs .0) (T.the-row (namedLft 2 1 tt κs)), tt))
     (λ κs qs bounds a g are. via 𝓤 _ (fst∗ 𝓤 _ (emp 𝓤)) (walk 𝓤 H (𝓖 .A) (givenOf 𝓤 H 𝓜 𝓖) (𝓜 .mem) (𝓡 .run) (κs .0) (κs .1 .0) bounds (qs .0) (qs .1 .0) (a .0 .ptr .0) (a .0 .ptr .1) (a .0 .name) (a .0 .now)
     (𝓣of 𝓤 H 𝓜 𝓖 𝓡 code.env .C) (𝓣of 𝓤 H 𝓜 𝓖 𝓡 code.env .Λ) (fmOf 𝓤 H (givenOf 𝓤 H 𝓜 𝓖 .laws) (𝓣of 𝓤 H 𝓜 𝓖 𝓡 code.env))
-    (cited 𝓤 H (Steps 𝓤 H (𝓖 .A) (𝓜 .mem) (𝓡 .run)) 𝓜 𝓡 code.env #step step-def.routine code.calls-reader·step (step-thm.met 𝓤 H 𝓜 𝓖 𝓡)))))
+    (cited 𝓤 H (Steps 𝓤 H (𝓖 .A) (𝓜 .mem) (𝓡 .run)) 𝓜 𝓡 code.env #step step-def.routine code.calls-reader·step (step-thm.met 𝓤 H 𝓜 𝓖 𝓡))))

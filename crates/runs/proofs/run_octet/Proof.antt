@@ -1,9 +1,17 @@
 -- `runs::run_octet` meets its contract: a walk of its code by hand. A local holds the run, and its part is lent to `octet`.
-use Rattle.walks.proofs.Names.{_≡_, refl, ap, ℕ, _<_, _^_, [], _∷_, List, length, getD, URA, named, erased, w64, w8, Val, vint, SProp, ent, emp, via, fst∗, id⊢, Lft, Share, Fml, ftrue, flft, Memory, Routine, Heap, Calls, Loops, WpFn, Atoms, Fun, givenOf, Given, ‵, raw, given, _⊛_, ⋆, _$_, _∵_, !, qed, by, move, keep, let-go, use1, use2, split, join, learn, fsplit, fjoin, suffices, frame, done, look, init, forget, stop, fld, from, load, of-opd, and-then, no-more, assigns, land, returns, enter, alloc1, alloc0, params1, pass1, pass0, whole, sub, look-in, FmC, fmOf, owns, Is, uint-makes, uint-vals, uint-tells, u8, usize, RefT, NamedLft, sliceVal, ShrSlice, slice-vals, shr-slice-tells, shr-slice-copy, owned, nothing, Declared, all-own, ownAt, rest, own-open, own-out, Values, onEntry, tripleOf, Contract, Triple, cited, says, Stays, stay-none, stay-none-slice, walkOf, goes-none, goes-none-slice, Walks, ends-at, walked, yes, plain, namedLft}
+use Rattle.walks.proofs.Names.{_≡_, refl, ap, ℕ, _<_, _^_, [], _∷_, List, length, getD, URA, named, erased, w64, w8, Val, vint, SProp, ent, emp, via}
+use Rattle.walks.proofs.Names.{fst∗, id⊢, Lft, Share, Fml, ftrue, flft, Memory, Routine, Heap, Calls, Loops, WpFn, Atoms, Fun, givenOf, Given, ‵, raw}
+use Rattle.walks.proofs.Names.{given, _⊛_, ⋆, _$_, _∵_, !, qed, by, move, keep, let-go, use1, use2, split, join, learn, fsplit, fjoin, suffices}
+use Rattle.walks.proofs.Names.{frame, done, look, of-opd, no-more, returns, FmC, fmOf, owns, Is, uint-makes, uint-vals, uint-tells, u8, usize, RefT}
+use Rattle.walks.proofs.Names.{NamedLft, sliceVal, ShrSlice, slice-vals, shr-slice-tells, shr-slice-copy, owned, nothing, Declared, all-own, ownAt}
+use Rattle.walks.proofs.Names.{rest, own-open, own-out, Values, onEntry, tripleOf, Contract, Triple, cited, says, Stays, stay-none, stay-none-slice}
+use Rattle.walks.proofs.Names.{walkOf, goes-none, goes-none-slice, Walks, ends-at, walked, yes, plain, namedLft}
 use contract.Running.{tablesOf}
 use denote.Struct.Laws as LL
-use Rattle.walks.proofs.Body.{frees-all, 𝓣of, proved}
+use Rattle.walks.proofs.Body.{𝓣of, proved}
 use Rattle.walks.proofs.Calls.{calls-value, calls-some}
+use Rattle.walks.proofs.Frame.{enters, leaves}
+use Rattle.walks.proofs.Steps.{arg, part, sets, lands-in, in64, sliced, beside}
 use Rattle.runs.specs.Runs.{Shown}
 use Rattle.runs.specs.declared.view.Run.{Run}
 use Rattle.runs.proofs.view.Run as T
@@ -65,7 +73,7 @@ module _ {M : Type 1} (𝓤 : URA M) (H : Heap 𝓤) (A : Atoms 𝓤) (W : Given
   to-run = (((κ, tt), (q, tt), tt, (s, (k, tt)), (v ∷ [], (vint w64 k ∷ [], tt))), tt)
 
   asks-run : ent 𝓤 (⋆ 𝓤 H A ((‵ (flft κ q) ⊛ ‵ ftrue) ∷ ‵ (Own s) ∷ [])) (Asked 𝓤 H A mem run .pre to-run)
-  asks-run = qed W ((‵ (flft κ q) ⊛ ‵ ftrue) ∷ ‵ (Own s) ∷ []) ∵ move ! (1 ∷ []) $ nothing ! $ owned ! usize (Is usize) (uint-makes 𝓤 H A W w64) k _ (refl, k-fits) $ fjoin ! $ move ! (1 ∷ 0 ∷ []) $ fjoin ! $ move ! (1 ∷ 0 ∷ []) $ join ! $ frame ! $ done !
+  asks-run = qed W ((‵ (flft κ q) ⊛ ‵ ftrue) ∷ ‵ (Own s) ∷ []) ∵ move ! (1 ∷ []) $ nothing ! $ beside ! usize (uint-makes 𝓤 H A W w64) k _ (refl, k-fits) $ move ! (1 ∷ 0 ∷ []) $ fjoin ! $ move ! (1 ∷ 0 ∷ []) $ join ! $ frame ! $ done !
 
   module _ (r : Run) where
     -- the fields' values, and the octet
@@ -82,40 +90,37 @@ module _ {M : Type 1} (𝓤 : URA M) (H : Heap 𝓤) (A : Atoms 𝓤) (W : Given
     to-octet = (((κ, tt), (q, tt), tt, (r .part, (i, tt)), (p ∷ [], (vint w64 i ∷ [], tt))), tt)
 
     asks-octet : ent 𝓤 (⋆ 𝓤 H A ((‵ (flft κ q) ⊛ ‵ ftrue) ∷ ‵ (Own (r .part)) ∷ [])) (Octet 𝓤 H A mem run .pre to-octet)
-    asks-octet = qed W ((‵ (flft κ q) ⊛ ‵ ftrue) ∷ ‵ (Own (r .part)) ∷ []) ∵ move ! (1 ∷ []) $ nothing ! $ owned ! usize (Is usize) (uint-makes 𝓤 H A W w64) i _ (refl, i-fits) $ fjoin ! $ move ! (1 ∷ 0 ∷ []) $ fjoin ! $ move ! (1 ∷ 0 ∷ []) $ join ! $ frame ! $ done !
+    asks-octet = qed W ((‵ (flft κ q) ⊛ ‵ ftrue) ∷ ‵ (Own (r .part)) ∷ []) ∵ move ! (1 ∷ []) $ nothing ! $ beside ! usize (uint-makes 𝓤 H A W w64) i _ (refl, i-fits) $ move ! (1 ∷ 0 ∷ []) $ fjoin ! $ move ! (1 ∷ 0 ∷ []) $ join ! $ frame ! $ done !
 
     exits : Shown s k r → Is u8 x (vint w8 x ∷ []) → ent 𝓤 (⋆ 𝓤 H A ((‵ (flft κ q) ⊛ ‵ ftrue) ∷ ‵ (Own s) ∷ [])) (Post (vint w8 x))
     exits e is =
         qed W ((‵ (flft κ q) ⊛ ‵ ftrue) ∷ ‵ (Own s) ∷ []) ∵
         suffices ! _ (ends-at 𝓤 H A this.ended stayed (this.clauses 𝓤 H A mem run) W (((κ, tt), (q, tt), tt, a, vals), tt) (vint w8 x) x (tt, (tt, (tt, tt))) (tt, (tt, (tt, tt)))) $
         says ! (ap (λ (l : List ℕ). getD l i 0) (e .part)) $ frame ! $
-        nothing ! $ owned ! usize (Is usize) (uint-makes 𝓤 H A W w64) i _ (refl, i-fits) $ fjoin ! $ owned ! usize (Is usize) (uint-makes 𝓤 H A W w64) k _ (refl, k-fits) $ fjoin ! $ move ! (1 ∷ 0 ∷ []) $ fjoin ! $ frame ! $
+        nothing ! $ beside ! usize (uint-makes 𝓤 H A W w64) i _ (refl, i-fits) $ beside ! usize (uint-makes 𝓤 H A W w64) k _ (refl, k-fits) $ move ! (1 ∷ 0 ∷ []) $ fjoin ! $ frame ! $
         owned ! u8 (Is u8) (uint-makes 𝓤 H A W w8) x _ is $ done !
 
   module _ (C : Calls 𝓤 H) (Λ : Loops 𝓤 H) (fm : FmC 𝓤 H (W .laws) C) (known-run : Triple 𝓤 (C #run) (Asked 𝓤 H A mem run)) (known-octet : Triple 𝓤 (C #octet) (Octet 𝓤 H A mem run)) where
     walk : ent 𝓤 (onEntry 𝓤 H A this.signature (κ, tt) (q, tt) a vals) (WpFn 𝓤 H C Λ code.function (v ∷ vint w64 k ∷ vint w64 i ∷ []) Post)
     walk =
         qed W ((‵ (flft κ q) ⊛ ‵ ftrue) ∷ ‵ (owns (ShrSlice (named 0) κ u8 ∷ usize ∷ usize ∷ []) a vals) ∷ []) ∵ move ! (1 ∷ []) $ fsplit ! $ keep ! (2 ∷ 0 ∷ []) $
-        enter ! C Λ code.function (v ∷ vint w64 k ∷ vint w64 i ∷ []) _ $
-        alloc1 ! (λ l₀. alloc1 ! (λ l₁. alloc1 ! (λ l₂. alloc1 ! (λ l₃. alloc1 ! (λ l₄. alloc1 ! (λ l₅. alloc0 ! $ params1 ! $
-        pass1 ! (init ! 8 refl (tt, (tt, (record { fits = s-fits }, tt)))) $ pass1 ! (init ! 6 refl (tt, record { fits = k-fits })) $ pass1 ! (init ! 4 refl (tt, record { fits = i-fits })) $ pass0 ! $
+        enters ! C Λ code.function (v ∷ vint w64 k ∷ vint w64 i ∷ []) _ (λ bs. (sliced s-fits, (in64 k-fits, (in64 i-fits, tt)))) (λ bs.
         -- [_5; …; _4; …; _3; …; _2; …; _1; …; room for _0; …; the token; what s owns]
         move ! (13 ∷ []) $ use1 W (‵ (Own s) ⊛ ‵ (Own s)) (shr-slice-copy 𝓤 H A W (named 0) κ u8 .twice s (v ∷ [])) $ split ! $ move ! (14 ∷ 0 ∷ []) $ use2 W (raw (Asked 𝓤 H A mem run .pre to-run)) asks-run $
         calls-some ! fm asked.ended (asked.clauses 𝓤 H A mem run) known-run to-run (λ r. Shown s k r) (λ r e. id⊢ 𝓤 _) (LL.vals D (T′.the-laws α)) (LL.tells D (T′.the-laws α))
-        (and-then ! (load ! (from ! (stop !)) (look ! 10 refl)) (and-then ! (load ! (from ! (stop !)) (look ! 8 refl)) (no-more !))) (λ r e is.
-        use1 W (‵ (flft κ q) ⊛ ‵ ftrue) (id⊢ 𝓤 _) $ land ! (from ! (stop !)) (init ! 5 refl (LL.lawful (T.the-type αᵉ) (T′.the-laws αᵉ) 𝓤 H A W .typed r _ is .0)) $
+        (arg ! 10 refl (arg ! 8 refl (no-more !))) (λ r e is.
+        use1 W (‵ (flft κ q) ⊛ ‵ ftrue) (id⊢ 𝓤 _) $ lands-in ! 5 refl (LL.lawful (T.the-type αᵉ) (T′.the-laws αᵉ) 𝓤 H A W .typed r _ is .0) $
         -- [the token; what the run owns; what s owns; _5; …; _4; …; the other locals]
-        assigns ! (of-opd ! (load ! (from ! (fld ! refl (stop !))) (look-in ! 5 (sub ! 0 refl (whole !))))) (from ! (stop !)) (init ! 3 refl (tt, LL.lawful (T.the-type αᵉ) (T′.the-laws αᵉ) 𝓤 H A W .typed r _ is .0 .1 .0)) $
+        sets ! 3 (of-opd ! (part ! 5 0 refl refl refl)) refl (tt, LL.lawful (T.the-type αᵉ) (T′.the-laws αᵉ) 𝓤 H A W .typed r _ is .0 .1 .0) $
         move ! (1 ∷ []) $ use1 W (given (T′.lowered r ∷ [] ≡ T′.lowered r ∷ []) (‵ (all-own (D .parts) (T′.the-laws α) (vd r)))) (own-open 𝓤 H A W D (T′.the-laws α) (vd r) (T′.lowered r)) $ learn ! (λ _.
         use1 W (‵ (ownAt (D .parts) (T′.the-laws α) 0 (r .part)) ⊛ ‵ (rest (D .parts) (T′.the-laws α) 0 (vd r))) (own-out 𝓤 H A W (D .parts) (T′.the-laws α) 0 (vd r)) $ split ! $
         -- [what the part owns; what the other fields own; the token; what s owns; the locals]
         move ! (2 ∷ 0 ∷ []) $ use2 W (raw (Octet 𝓤 H A mem run .pre (to-octet r))) (asks-octet r) $
         calls-value ! fm octet.ended (octet.clauses 𝓤 H A mem run) known-octet (to-octet r) (x r) (λ y f. id⊢ 𝓤 _) (uint-vals w8) (uint-tells w8)
-        (and-then ! (load ! (from ! (stop !)) (look ! 3 refl)) (and-then ! (load ! (from ! (stop !)) (look ! 7 refl)) (no-more !))) (λ is-x.
-        use1 W (‵ (flft κ q) ⊛ ‵ ftrue) (id⊢ 𝓤 _) $ land ! (from ! (stop !)) (init ! 13 refl (tt, record { fits = is-x .1 })) $
+        (arg ! 3 refl (arg ! 7 refl (no-more !))) (λ is-x.
+        use1 W (‵ (flft κ q) ⊛ ‵ ftrue) (id⊢ 𝓤 _) $ lands-in ! 13 refl (tt, record { fits = is-x .1 }) $
         -- [the token; what the other fields own; what s owns; the locals]
-        move ! (1 ∷ []) $ let-go ! $ returns ! (look ! 12 refl) $ forget ! 2 refl $ forget ! 4 refl $ forget ! 6 refl $ forget ! 8 refl $ forget ! 10 refl $ forget ! 12 refl $
-        move ! (12 ∷ 13 ∷ 10 ∷ 11 ∷ 8 ∷ 9 ∷ 6 ∷ 7 ∷ 4 ∷ 5 ∷ 2 ∷ 3 ∷ []) $ frees-all ! _ $ by ! (exits r e is-x))))))))))
+        move ! (1 ∷ []) $ let-go ! $ returns ! (look ! 12 refl) $ leaves ! 2 refl refl $ by ! (exits r e is-x)))))
 
 module _ {M : Type 1} (𝓤 : URA M) (H : Heap 𝓤) (A : Atoms 𝓤) (W : Given 𝓤 H A) (mem : Memory → SProp 𝓤) (run : Routine → Fun 𝓤) where
   walks : (C : Calls 𝓤 H) (Λ : Loops 𝓤 H) → FmC 𝓤 H (W .laws) C → Triple 𝓤 (C #run) (Asked 𝓤 H A mem run) → Triple 𝓤 (C #octet) (Octet 𝓤 H A mem run) → Walks 𝓤 H A this.ended stayed (WpFn 𝓤 H C Λ code.function) (this.clauses 𝓤 H A mem run)

@@ -2,11 +2,21 @@
 -- the list, and the work room is lent to `quick_turn`, which says whether the quick check lets the record through and puts it into its row.
 -- Where it does, the next record has its turn; where it does not, the end is set to this place, and the loop is left. Of the functions that
 -- it calls the proof knows their contracts alone. Assumes nothing.
-use Rattle.walks.proofs.Names.{_≡_, refl, sym, _∙_, ap, subst, ℕ, suc, _+_, _-_, _*_, _≤_, _<_, _^_, Bool, true, false, not, [], _∷_, List, length, getD, URA, fullShare, Ty, named, erased, imm, mut, w8, w64, tyInt, tyBool, tyPtr, tyRef, Val, vint, vptr, SProp, ent, emp, sep, ex, guard, id⊢, Lft, Share, GName, Fml, ftrue, flft, fat, froom, fdies, Memory, Routine, Heap, Out, Env, afterSeq, afterBlock, Calls, Loops, Wp, atReturn, WpFn, Tables, Atoms, sem, Fun, fact, givenOf, let-go, Given, Item, ‵, raw, _⊛_, ⋆, runs, anyQ, atRet, Sq, _$_, _∵_, !, qed, by, move, keep, use0, use1, split, join, rewrite, fsplit, fjoin, check, show, suffices, frame, done, look, look-raw, init, store, forget, stop, hop, fld, from, load, lit, of-opd, bin, addr, and-then, no-more, assigns, assigns-last, first, blocks, branches, land, returns, enter, alloc1, alloc0, params1, pass1, pass0, exec, Below, again, loops, agg, whole, sub, look-in, FmC, fmOf, owns, pointee, Is, shows, bool-vals, bool-tells, uint-makes, uint-vals, uint-tells, uint-lawful, u8, usize, RefT, sliceVal, sliceTy, ShrSlice, MutSlice, Room, finally, slice-vals, shr-slice-tells, mut-slice-tells, shr-slice-copy, place-is, elem-out, elem-back, looks-slice, shuts-slice, owned, heard, nothing, plain, yes, onEntry, tripleOf, Contract, Triple, Lasts, lasts, cited, says, needs, Stays, stay-none, stay-none-slice, stay-slice, walkOf, goes-none, goes-none-slice, goes-slice, ends-at, walked}
+use Rattle.walks.proofs.Names.{_≡_, refl, sym, _∙_, ap, subst, ℕ, suc, _+_, _-_, _*_, _≤_, _<_, _^_, Bool, true, false, [], _∷_, List, length, getD}
+use Rattle.walks.proofs.Names.{URA, fullShare, Ty, named, erased, imm, mut, w8, w64, tyInt, tyRef, Val, vint, vptr, SProp, ent, emp, sep, ex, guard}
+use Rattle.walks.proofs.Names.{id⊢, Lft, Share, GName, Fml, ftrue, flft, Memory, Routine, Heap, Out, Env, afterSeq, afterBlock, Calls, Loops, Wp}
+use Rattle.walks.proofs.Names.{atReturn, WpFn, Tables, Atoms, sem, Fun, fact, givenOf, let-go, Given, Item, ‵, raw, _⊛_, ⋆, runs, anyQ, atRet, Sq}
+use Rattle.walks.proofs.Names.{_$_, _∵_, !, qed, by, move, keep, use0, split, join, rewrite, fsplit, fjoin, check, show, suffices, frame, done, look}
+use Rattle.walks.proofs.Names.{look-raw, stop, hop, from, load, lit, of-opd, bin, no-more, first, blocks, branches, returns, exec, Below, again}
+use Rattle.walks.proofs.Names.{loops, FmC, fmOf, owns, pointee, Is, shows, bool-vals, bool-tells, uint-makes, uint-vals, uint-tells, uint-lawful, u8}
+use Rattle.walks.proofs.Names.{usize, RefT, sliceVal, sliceTy, ShrSlice, MutSlice, Room, finally, slice-vals, shr-slice-tells, mut-slice-tells}
+use Rattle.walks.proofs.Names.{place-is, elem-out, elem-back, looks-slice, shuts-slice, owned, heard, nothing, plain, yes, onEntry, tripleOf}
+use Rattle.walks.proofs.Names.{Contract, Triple, Lasts, lasts, cited, says, needs, Stays, stay-none, stay-none-slice, stay-slice, walkOf, goes-none}
+use Rattle.walks.proofs.Names.{goes-none-slice, goes-slice, ends-at}
 use native.Mathlib.Numerals.{add-one}
 use native.Mathlib.Omega.{arith}
 use mathlib.Core.WellFounded.{WellFounded, InvImage·wf}
-use lib.Dec.{T as Holds, ltb, ltb→lt, nltb→le}
+use lib.Dec.{ltb→lt, nltb→le}
 use lib.WfN.{Nat·lt-wfRel}
 use prog.Wp.{afterTurn}
 use contract.Running.{tablesOf}
@@ -16,9 +26,11 @@ use Rattle.base.specs.Choice.{pick}
 use Rattle.base.specs.declared.Unit.{Unit as UnitRecord}
 use Rattle.base.proofs.Unit as U
 use Rattle.base.proofs.Unit.Laws as U′
-use Rattle.walks.proofs.Body.{proved, 𝓣of, tests, holds, fails, frees-all}
+use Rattle.walks.proofs.Body.{𝓣of, tests, holds, fails, proved-by}
 use Rattle.walks.proofs.Calls.{calls-value, gave-some}
 use Rattle.walks.proofs.Lent.{calls-lent}
+use Rattle.walks.proofs.Frame.{empty, full, Blocks, envOf, laid, enters, clears, leaves}
+use Rattle.walks.proofs.Steps.{var, arg, part, sets, resets-last, lands-in, recasts, behind, resliced, in64, sliced, beside, copies}
 use Rattle.shortest.specs.Offence.{noRecord}
 use Rattle.rows.specs.Rows.{withRecord}
 use Rattle.check_list.specs.Plain.{plainOf}
@@ -133,8 +145,8 @@ module _ {M : Type 1} (𝓤 : URA M) (H : Heap 𝓤) (A : Atoms 𝓤) (W : Given
       -- the tokens
       nothing ! $ move ! (4 ∷ 0 ∷ []) $ join ! $ move ! (1 ∷ 0 ∷ []) $ join ! $ frame ! $
       -- [what the units own; the room]
-      nothing ! $ move ! (2 ∷ 0 ∷ []) $ fjoin ! $ owned ! usize (Is usize) (uint-makes 𝓤 H A W w64) n _ (refl, n-fits) $ fjoin ! $ owned ! usize (Is usize) (uint-makes 𝓤 H A W w64) i₀ _ (refl, i₀-fits) $ fjoin ! $
-      move ! (1 ∷ 0 ∷ []) $ fjoin ! $ owned ! P.the-row (Is P.the-row) (EL.makes P.the-type P′.the-plain 𝓤 H A) p _ is-p $ fjoin ! $ frame ! $
+      nothing ! $ move ! (2 ∷ 0 ∷ []) $ fjoin ! $ beside ! usize (uint-makes 𝓤 H A W w64) n _ (refl, n-fits) $ beside ! usize (uint-makes 𝓤 H A W w64) i₀ _ (refl, i₀-fits) $
+      move ! (1 ∷ 0 ∷ []) $ fjoin ! $ beside ! P.the-row (EL.makes P.the-type P′.the-plain 𝓤 H A) p _ is-p $ frame ! $
       owned ! usize (Is usize) (uint-makes 𝓤 H A W w64) fin _ (refl, fin-fits) $ done !
 
   -- ---- what the callees ask and give
@@ -143,8 +155,8 @@ module _ {M : Type 1} (𝓤 : URA M) (H : Heap 𝓤) (A : Atoms 𝓤) (W : Given
 
   asks-until : ent 𝓤 (emp 𝓤) (QuickUntil 𝓤 H A at-mem run .pre to-until)
   asks-until =
-      qed W [] ∵ nothing ! $ owned ! usize (Is usize) (uint-makes 𝓤 H A W w64) n _ (refl, n-fits) $ fjoin ! $ owned ! usize (Is usize) (uint-makes 𝓤 H A W w64) i₀ _ (refl, i₀-fits) $ fjoin ! $
-      owned ! P.the-row (Is P.the-row) (EL.makes P.the-type P′.the-plain 𝓤 H A) p _ is-p $ fjoin ! $ nothing ! $ join ! $ frame ! $ done !
+      qed W [] ∵ nothing ! $ beside ! usize (uint-makes 𝓤 H A W w64) n _ (refl, n-fits) $ beside ! usize (uint-makes 𝓤 H A W w64) i₀ _ (refl, i₀-fits) $
+      beside ! P.the-row (EL.makes P.the-type P′.the-plain 𝓤 H A) p _ is-p $ nothing ! $ join ! $ frame ! $ done !
 
   abbrev IsU : ℕ → Type 0
   IsU i = Is U.the-row (unit i) (U′.lowered (unit i) ∷ [])
@@ -162,8 +174,8 @@ module _ {M : Type 1} (𝓤 : URA M) (H : Heap 𝓤) (A : Atoms 𝓤) (W : Given
       qed W (‵ ftrue ∷ ‵ (flft (ν ∷ []) fullShare) ∷ ‵ (MutSlice (named 0) (ν ∷ []) u8 .own (x δ w) (vw ∷ [])) ∷ []) ∵
       let-go ! $ nothing ! $ move ! (1 ∷ 0 ∷ []) $ join ! $
       -- [the token; the room]
-      nothing ! $ move ! (2 ∷ 0 ∷ []) $ fjoin ! $ owned ! usize (Is usize) (uint-makes 𝓤 H A W w64) i _ (refl, fits) $ fjoin ! $
-      owned ! U.the-row (Is U.the-row) (LL.makes U.the-type U′.the-plain 𝓤 H A) (unit i) _ is-u $ fjoin ! $ move ! (1 ∷ 0 ∷ []) $ join ! $ frame ! $ done !
+      nothing ! $ move ! (2 ∷ 0 ∷ []) $ fjoin ! $ beside ! usize (uint-makes 𝓤 H A W w64) i _ (refl, fits) $
+      beside ! U.the-row (LL.makes U.the-type U′.the-plain 𝓤 H A) (unit i) _ is-u $ move ! (1 ∷ 0 ∷ []) $ join ! $ frame ! $ done !
 
   back-turn : (ν : ℕ) → ent 𝓤 (sep 𝓤 (A .lft (ν ∷ []) fullShare) (emp 𝓤)) (sep 𝓤 (emp 𝓤) (A .lft (ν ∷ []) fullShare))
   back-turn ν = qed W ((‵ (flft (ν ∷ []) fullShare) ⊛ ‵ ftrue) ∷ []) ∵ split ! $ keep ! (1 ∷ 0 ∷ []) $ done !
@@ -256,7 +268,7 @@ module _ {M : Type 1} (𝓤 : URA M) (H : Heap 𝓤) (A : Atoms 𝓤) (W : Given
   unfolding pick
   left-out g e = rw e
 
-  module _ (𝓣 : Tables 𝓤 H) (fm : FmC 𝓤 H (W .laws) (𝓣 .C)) (known-turn : Triple 𝓤 (𝓣 .C #quick-turn) (QuickTurn 𝓤 H A at-mem run)) (l₀ l₁ l₂ l₃ l₄ l₅ l₆ l₇ l₈ l₉ l₁₀ l₁₁ l₁₂ l₁₃ l₁₄ : ℕ) where
+  module _ (𝓣 : Tables 𝓤 H) (fm : FmC 𝓤 H (W .laws) (𝓣 .C)) (known-turn : Triple 𝓤 (𝓣 .C #quick-turn) (QuickTurn 𝓤 H A at-mem run)) (bs : Blocks (code.function .locals)) where
     abbrev C : Calls 𝓤 H
     C = 𝓣 .C
 
@@ -264,15 +276,11 @@ module _ {M : Type 1} (𝓤 : URA M) (H : Heap 𝓤) (A : Atoms 𝓤) (W : Given
     Λ = 𝓣 .Λ
 
     abbrev En : Env 𝓤 H
-    En = (word, l₀) ∷ (P′.mir, l₁) ∷ (list, l₂) ∷ (word, l₃) ∷ (word, l₄) ∷ (room-ty, l₅) ∷ (word, l₆) ∷ (word, l₇) ∷ (tyBool, l₈) ∷ (tyBool, l₉) ∷ (word, l₁₀) ∷ (tyPtr, l₁₁) ∷ (U′.mir, l₁₂) ∷ (lent, l₁₃) ∷ (sliceTy lent, l₁₄) ∷ []
+    En = envOf (code.function .locals) bs
 
     abbrev At : Going → List (Item 𝓤)
-    At g = ‵ (flft κ₀ q₀) ∷ ‵ Units ∷ ‵ (Work (got g)) ∷ ‵ (flft κ₁ q₁)
-        ∷ ‵ (froom (sliceTy lent) l₁₄ 0) ∷ ‵ (fdies (sliceTy lent) l₁₄) ∷ ‵ (froom lent l₁₃ 0) ∷ ‵ (fdies lent l₁₃) ∷ ‵ (froom U′.mir l₁₂ 0) ∷ ‵ (fdies U′.mir l₁₂) ∷ ‵ (froom tyPtr l₁₁ 0) ∷ ‵ (fdies tyPtr l₁₁)
-        ∷ ‵ (froom word l₁₀ 0) ∷ ‵ (fdies word l₁₀) ∷ ‵ (froom tyBool l₉ 0) ∷ ‵ (fdies tyBool l₉) ∷ ‵ (froom tyBool l₈ 0) ∷ ‵ (fdies tyBool l₈)
-        ∷ ‵ (fat fullShare word l₇ 0 (vint w64 (g .0))) ∷ ‵ (fdies word l₇) ∷ ‵ (fat fullShare word l₆ 0 (vint w64 (end g))) ∷ ‵ (fdies word l₆) ∷ ‵ (fat fullShare room-ty l₅ 0 vw) ∷ ‵ (fdies room-ty l₅)
-        ∷ ‵ (fat fullShare word l₄ 0 (vint w64 n)) ∷ ‵ (fdies word l₄) ∷ ‵ (fat fullShare word l₃ 0 (vint w64 i₀)) ∷ ‵ (fdies word l₃) ∷ ‵ (fat fullShare list l₂ 0 vs) ∷ ‵ (fdies list l₂)
-        ∷ ‵ (fat fullShare P′.mir l₁ 0 (mach p)) ∷ ‵ (fdies P′.mir l₁) ∷ ‵ (froom word l₀ 0) ∷ ‵ (fdies word l₀) ∷ []
+    At g = ‵ (flft κ₀ q₀) ∷ ‵ Units ∷ ‵ (Work (got g)) ∷ ‵ (flft κ₁ q₁) ∷
+        laid En (empty ∷ full (mach p) ∷ full vs ∷ full (vint w64 i₀) ∷ full (vint w64 n) ∷ full vw ∷ full (vint w64 (end g)) ∷ full (vint w64 (g .0)) ∷ []) []
 
     abbrev Turned : Going → Out → SProp 𝓤
     Turned g = afterTurn 𝓤 H (Below 𝓤 H A Nearer At g) (afterBlock 𝓤 H (afterSeq 𝓤 H (Wp 𝓤 H C Λ En M1.t-4 (atReturn 𝓤 H En Post)) (atReturn 𝓤 H En Post)))
@@ -280,53 +288,52 @@ module _ {M : Type 1} (𝓤 : URA M) (H : Heap 𝓤) (A : Atoms 𝓤) (W : Given
     turns : (g : Going) → Sq W (At g) (runs C Λ En M1.turn-1 (anyQ (Turned g)))
     unfolding afterTurn
     turns g =
-        assigns ! (bin ! (load ! (from ! (stop !)) (look ! 18 refl)) (load ! (from ! (stop !)) (look ! 20 refl)) tt) (from ! (stop !)) (init ! 16 refl (tt, tt)) $
-        tests ! (load ! (from ! (stop !)) (look ! 16 refl))
+        sets ! 16 (bin ! (var ! 18 refl) (var ! 20 refl) tt) refl (tt, tt) $
+        tests ! (var ! 16 refl)
         (λ test.
         let less : g .0 < end g = ltb→lt (g .0) (end g) test in
         -- the record is read
-        assigns ! (bin ! (load ! (from ! (stop !)) (look ! 18 refl)) (lit ! tt) (record { fits = place-fits g less })) (from ! (stop !)) (init ! 12 refl (tt, record { fits = place-fits g less })) $
-        assigns ! (bin ! (load ! (from ! (fld ! refl (stop !))) (look-in ! 28 (sub ! 0 refl (whole !)))) (load ! (from ! (stop !)) (look ! 12 refl)) tt) (from ! (stop !)) (init ! 10 refl (tt, tt)) $
-        rewrite ! 10 (λ (q : ℕ). ‵ (fat fullShare tyPtr l₁₁ 0 (vptr (s .ptr .0) q))) (sym (place-is 12 (s .ptr .1) (g .0))) refl $
-        move ! (1 ∷ []) $ use1 W (‵ Units ⊛ ‵ Units) (shr-slice-copy 𝓤 H A W (named 0) κ₀ U.the-row .twice s (vs ∷ [])) $ split ! $ fsplit ! $ let-go ! $ fsplit ! $ let-go ! $ move ! (0 ∷ 2 ∷ []) $
+        sets ! 12 (bin ! (var ! 18 refl) (lit ! tt) (record { fits = place-fits g less })) refl (in64 (place-fits g less)) $
+        sets ! 10 (bin ! (part ! 28 0 refl refl refl) (var ! 12 refl) tt) refl (tt, tt) $
+        recasts ! 10 (vptr (s .ptr .0)) (sym (place-is 12 (s .ptr .1) (g .0))) refl $
+        move ! (1 ∷ []) $ copies ! (named 0) κ₀ U.the-row s (vs ∷ []) $ fsplit ! $ let-go ! $ fsplit ! $ let-go ! $ move ! (0 ∷ 2 ∷ []) $
         looks-slice ! tt U.the-row (Is U.the-row) (shows 𝓤 H A U.the-row) (LL.vals U.the-type U′.the-laws) (LL.tells U.the-type U′.the-laws) (LL.copy U.the-type U′.the-copy 𝓤 H A W) us (s .ptr .0) (s .ptr .1) (λ q.
         elem-out ! U.the-row (Is U.the-row) (shows 𝓤 H A U.the-row) (LL.vals U.the-type U′.the-laws) (LL.tells U.the-type U′.the-laws) q us (g .0) noRecord (s .ptr .0) (s .ptr .1) (inside g less) (λ is-u.
-        assigns ! (of-opd ! (load ! (from ! (hop ! (look ! 14 refl) (stop !))) (look-raw ! 0 refl))) (from ! (stop !)) (init ! 12 refl (LL.lawful U.the-type U′.the-laws 𝓤 H A W .typed (unit (g .0)) _ is-u .0)) $
+        sets ! 12 (of-opd ! (load ! (from ! (hop ! (look ! 14 refl) (stop !))) (look-raw ! 0 refl))) refl (LL.lawful U.the-type U′.the-laws 𝓤 H A W .typed (unit (g .0)) _ is-u .0) $
         elem-back ! U.the-row q us (g .0) noRecord (U′.lowered (unit (g .0)) ∷ []) (s .ptr .0) (s .ptr .1) (inside g less) $ shuts-slice ! tt U.the-row q us (s .ptr .0) (s .ptr .1) $ move ! (1 ∷ []) $ let-go ! $
         -- [the token of the units; what they own; the room; its token; the locals]: the room is borrowed again
-        assigns ! (addr ! (from ! (fld ! refl (hop ! (look-in ! 22 (sub ! 0 refl (whole !))) (stop !))))) (from ! (stop !)) (init ! 6 refl (tt, tt)) $
-        assigns ! (agg ! (and-then ! (load ! (from ! (stop !)) (look ! 6 refl)) (and-then ! (load ! (from ! (fld ! refl (stop !))) (look-in ! 22 (sub ! 1 refl (whole !)))) (no-more !)))) (from ! (stop !)) (init ! 4 refl (tt, (tt, (record { fits = room .0 }, tt)))) $
+        sets ! 6 (behind ! 22 refl refl) refl (tt, tt) $
+        sets ! 4 (resliced ! 6 22 refl refl refl) refl (sliced (room .0)) $
         -- the call
         nothing ! $ move ! (0 ∷ 3 ∷ 4 ∷ []) $
         calls-lent ! fm (QuickTurn 𝓤 H A at-mem run) known-turn u8 κ₁ q₁ (named 1) γ b o (length ys) (got g) room (known g .passed .same)
         (to-turn (g .0) (got g)) (‵ ftrue) (‵ ftrue) _ (λ l. l ≡ left (g .0) (got g)) (λ l e. ap length e ∙ length-quick (plainOf (unit (g .0))) (unit (g .0)) (g .0) (got g) ∙ known g .passed .same)
         (λ ν. sep 𝓤 (A .lft (ν ∷ []) fullShare) (emp 𝓤)) back-turn (asks-turn (g .0) (got g) (known g .fits) is-u) _
         (λ ν δ u. gave-some 𝓤 H A W quick-turn.ended (quick-turn.clauses 𝓤 H A at-mem run) (to-turn (g .0) (got g) ν δ) (plainOf (unit (g .0))) (λ l. l ≡ left (g .0) (got g)) (λ l. finally u8 δ l) (gives-turn (g .0) (got g) ν δ) bool-vals bool-tells u)
-        (λ ν δ. and-then ! (load ! (from ! (stop !)) (look ! 8 refl)) (and-then ! (load ! (from ! (stop !)) (look ! 18 refl)) (and-then ! (load ! (from ! (stop !)) (look ! 4 refl)) (no-more !)))) (λ l is e.
+        (λ ν δ. arg ! 8 refl (arg ! 18 refl (arg ! 4 refl (no-more !)))) (λ l is e.
         -- [nothing; the room; its token; the token of the units; what they own; the locals]
-        let-go ! $ rewrite ! 0 (λ (w : List ℕ). ‵ (Work w)) e refl $ land ! (from ! (stop !)) (init ! 14 refl (tt, tt)) $
-        branches ! (load ! (from ! (stop !)) (look ! 14 refl))
+        let-go ! $ rewrite ! 0 (λ (w : List ℕ). ‵ (Work w)) e refl $ lands-in ! 14 refl (tt, tt) $
+        branches ! (var ! 14 refl)
         -- the record is let through
         (λ yes-b.
         rewrite ! 0 (λ (w : List ℕ). ‵ (Work w)) (put-in g (holds (plainOf (unit (g .0))) yes-b)) refl $
-        assigns-last ! (bin ! (load ! (from ! (stop !)) (look ! 18 refl)) (lit ! tt) (record { fits = next-fits g less })) (from ! (stop !)) (store ! 18 refl (tt, record { fits = next-fits g less })) $
-        rewrite ! 18 (λ (j : ℕ). ‵ (fat fullShare word l₇ 0 (vint w64 j))) (add-one (g .0)) refl $
-        forget ! 4 refl $ forget ! 6 refl $ forget ! 8 refl $ forget ! 10 refl $ forget ! 12 refl $ forget ! 14 refl $ forget ! 16 refl $ move ! (2 ∷ 3 ∷ 0 ∷ 1 ∷ []) $
+        resets-last ! 18 (bin ! (var ! 18 refl) (lit ! tt) (record { fits = next-fits g less })) refl (in64 (next-fits g less)) $
+        recasts ! 18 (vint w64) (add-one (g .0)) refl $
+        clears ! 4 13 refl $ move ! (2 ∷ 3 ∷ 0 ∷ 1 ∷ []) $
         again ! Nearer At g (further g less (holds (plainOf (unit (g .0))) yes-b)) (let h : end g - suc (g .0) < end g - g .0 = omega (arith, less) in h))
         -- it is not: the end is here
         (λ no-b.
         rewrite ! 0 (λ (w : List ℕ). ‵ (Work w)) (left-out g (fails (plainOf (unit (g .0))) no-b)) refl $
-        assigns-last ! (of-opd ! (load ! (from ! (stop !)) (look ! 18 refl))) (from ! (stop !)) (store ! 20 refl (tt, record { fits = known g .fits })) $
-        forget ! 4 refl $ forget ! 6 refl $ forget ! 8 refl $ forget ! 10 refl $ forget ! 12 refl $ forget ! 14 refl $ forget ! 16 refl $ move ! (2 ∷ 3 ∷ 0 ∷ 1 ∷ []) $
+        resets-last ! 20 (of-opd ! (var ! 18 refl)) refl (in64 (known g .fits)) $
+        clears ! 4 13 refl $ move ! (2 ∷ 3 ∷ 0 ∷ 1 ∷ []) $
         again ! Nearer At g (stopped g less (fails (plainOf (unit (g .0))) no-b)) (let h : g .0 - g .0 < end g - g .0 = omega (arith, less) in h))))))
         -- the loop is left
         (λ over.
         let at-end : g .0 ≡ fin = run-over us (end g - g .0) (g .0) (omega (arith, nltb→le (g .0) (end g) over)) ∙ known g .ends in
         exec ! C Λ En M1.t-4 (atRet En Post) $
-        assigns ! (of-opd ! (load ! (from ! (stop !)) (look ! 18 refl))) (from ! (stop !)) (init ! 32 refl (tt, record { fits = known g .fits })) $
-        rewrite ! 32 (λ (j : ℕ). ‵ (fat fullShare word l₀ 0 (vint w64 j))) at-end refl $
-        returns ! (look ! 32 refl) $ forget ! 16 refl $ forget ! 18 refl $ forget ! 20 refl $ forget ! 22 refl $ forget ! 24 refl $ forget ! 26 refl $ forget ! 28 refl $ forget ! 30 refl $ forget ! 32 refl $
-        move ! (32 ∷ 33 ∷ 30 ∷ 31 ∷ 28 ∷ 29 ∷ 26 ∷ 27 ∷ 24 ∷ 25 ∷ 22 ∷ 23 ∷ 20 ∷ 21 ∷ 18 ∷ 19 ∷ 16 ∷ 17 ∷ 14 ∷ 15 ∷ 12 ∷ 13 ∷ 10 ∷ 11 ∷ 8 ∷ 9 ∷ 6 ∷ 7 ∷ 4 ∷ 5 ∷ []) $ frees-all ! En $
+        sets ! 32 (of-opd ! (var ! 18 refl)) refl (in64 (known g .fits)) $
+        recasts ! 32 (vint w64) at-end refl $
+        returns ! (look ! 32 refl) $ leaves ! 4 refl refl $
         by ! (exits (got g) (subst (λ (j : ℕ). Passed p us i₀ j ys (got g)) at-end (known g .passed))))
 
     abbrev start-at : Going
@@ -341,21 +348,18 @@ module _ {M : Type 1} (𝓤 : URA M) (H : Heap 𝓤) (A : Atoms 𝓤) (W : Given
     walk =
         qed W ((‵ (flft κ₀ q₀) ⊛ ‵ (flft κ₁ q₁) ⊛ ‵ ftrue) ∷ ‵ (owns (P.the-row ∷ ShrSlice (named 0) κ₀ U.the-row ∷ usize ∷ usize ∷ MutSlice (named 1) κ₁ u8 ∷ []) a vals) ∷ []) ∵
         split ! $ move ! (1 ∷ []) $ split ! $ move ! (3 ∷ []) $ fsplit ! $ move ! (1 ∷ []) $ fsplit ! $ move ! (1 ∷ []) $ fsplit ! $ move ! (1 ∷ []) $ fsplit ! $ move ! (1 ∷ []) $ fsplit ! $ keep ! (8 ∷ 4 ∷ 0 ∷ 6 ∷ []) $
-        enter ! (𝓣 .C) (𝓣 .Λ) code.function (mach p ∷ vs ∷ vint w64 i₀ ∷ vint w64 n ∷ vw ∷ []) _ $
-        alloc1 ! (λ l₀. alloc1 ! (λ l₁. alloc1 ! (λ l₂. alloc1 ! (λ l₃. alloc1 ! (λ l₄. alloc1 ! (λ l₅. alloc1 ! (λ l₆. alloc1 ! (λ l₇. alloc1 ! (λ l₈. alloc1 ! (λ l₉. alloc1 ! (λ l₁₀. alloc1 ! (λ l₁₁. alloc1 ! (λ l₁₂. alloc1 ! (λ l₁₃. alloc1 ! (λ l₁₄. alloc0 ! $ params1 ! $
-        pass1 ! (init ! 26 refl (EL.lawful P.the-type P′.the-laws 𝓤 H A W tt .typed p _ is-p .0)) $ pass1 ! (init ! 24 refl (tt, (tt, (record { fits = s-room .0 }, tt)))) $ pass1 ! (init ! 22 refl (tt, record { fits = i₀-fits })) $
-        pass1 ! (init ! 20 refl (tt, record { fits = n-fits })) $ pass1 ! (init ! 18 refl (tt, (tt, (record { fits = room .0 }, tt)))) $ pass0 ! $
+        enters ! (𝓣 .C) (𝓣 .Λ) code.function (mach p ∷ vs ∷ vint w64 i₀ ∷ vint w64 n ∷ vw ∷ []) _ (λ bs. (EL.lawful P.the-type P′.the-laws 𝓤 H A W tt .typed p _ is-p .0, (sliced (s-room .0), (in64 i₀-fits, (in64 n-fits, (sliced (room .0), tt)))))) (λ bs.
         -- [the locals; the token of the units; what they own; the room; its token]
         use0 W (raw (QuickUntil 𝓤 H A at-mem run .pre to-until)) asks-until $
-        calls-value ! fm quick-until.ended (quick-until.clauses 𝓤 H A at-mem run) known-until to-until until (λ r e. id⊢ 𝓤 _) (uint-vals w64) (uint-tells w64) (and-then ! (load ! (from ! (stop !)) (look ! 27 refl)) (and-then ! (load ! (from ! (stop !)) (look ! 23 refl)) (and-then ! (load ! (from ! (stop !)) (look ! 21 refl)) (no-more !)))) (λ is-end.
-        let-go ! $ land ! (from ! (stop !)) (init ! 16 refl (uint-lawful 𝓤 H A W w64 .typed until _ is-end .0)) $
-        assigns ! (of-opd ! (load ! (from ! (stop !)) (look ! 22 refl))) (from ! (stop !)) (init ! 14 refl (tt, record { fits = i₀-fits })) $ move ! (30 ∷ 31 ∷ 32 ∷ 33 ∷ []) $
-        looped 𝓣 fm known-turn l₀ l₁ l₂ l₃ l₄ l₅ l₆ l₇ l₈ l₉ l₁₀ l₁₁ l₁₂ l₁₃ l₁₄))))))))))))))))
+        calls-value ! fm quick-until.ended (quick-until.clauses 𝓤 H A at-mem run) known-until to-until until (λ r e. id⊢ 𝓤 _) (uint-vals w64) (uint-tells w64) (arg ! 27 refl (arg ! 23 refl (arg ! 21 refl (no-more !)))) (λ is-end.
+        let-go ! $ lands-in ! 16 refl (uint-lawful 𝓤 H A W w64 .typed until _ is-end .0) $
+        sets ! 14 (of-opd ! (var ! 22 refl)) refl (in64 i₀-fits) $ move ! (30 ∷ 31 ∷ 32 ∷ 33 ∷ []) $
+        looped 𝓣 fm known-turn bs))
 
 pub stow-quickly-spec : {M : Type 1} → stated.statement M
 unfolding code.routine tablesOf
 stow-quickly-spec 𝓤 H 𝓜 𝓖 𝓡 =
-    proved 𝓤 H 𝓜 𝓖 𝓡 code.env #stow-quickly code.function (code.unfolded 𝓤 H 𝓜 𝓡) stow-quickly.ended stayed (stow-quickly.clauses 𝓤 H (𝓖 .A) (𝓜 .mem) (𝓡 .run)) (
+    proved-by 𝓤 H 𝓜 𝓖 𝓡 code.env #stow-quickly code.function (code.unfolded 𝓤 H 𝓜 𝓡) stow-quickly.ended stayed (stow-quickly.clauses 𝓤 H (𝓖 .A) (𝓜 .mem) (𝓡 .run)) (
       goes-none 𝓤 H (𝓖 .A) (givenOf 𝓤 H 𝓜 𝓖) 2 (λ _. P.the-row) yes (λ κs x f. refl),
       (
         goes-none-slice 𝓤 H (𝓖 .A) (givenOf 𝓤 H 𝓜 𝓖) 2 (0 ∷ []) tt (plain (λ _. U.the-row)) yes,
@@ -365,7 +369,6 @@ stow-quickly-spec 𝓤 H 𝓜 𝓖 𝓡 =
         ),
       ),
     )
-    (walked 𝓤 H (𝓖 .A) stow-quickly.ended stayed (stow-quickly.clauses 𝓤 H (𝓖 .A) (𝓜 .mem) (𝓡 .run)) (WpFn 𝓤 H (𝓣of 𝓤 H 𝓜 𝓖 𝓡 code.env .C) (𝓣of 𝓤 H 𝓜 𝓖 𝓡 code.env .Λ) code.function)
     (λ κs. (EL.vals P.the-type P′.the-laws, (slice-vals, (uint-vals w64, (uint-vals w64, (slice-vals, tt))))))
     (λ κs. (EL.tells P.the-type P′.the-laws, (shr-slice-tells (named 0) (κs .0) U.the-row, (uint-tells w64, (uint-tells w64, (mut-slice-tells (named 1) (κs .1 .0) u8, tt))))))
     (λ κs qs bounds a g are. needs 𝓤 _ _ (λ pre. walk 𝓤 H (𝓖 .A) (givenOf 𝓤 H 𝓜 𝓖) (𝓜 .mem) (𝓡 .run) (κs .0) (κs .1 .0) (qs .0) (qs .1 .0)
@@ -373,4 +376,4 @@ stow-quickly-spec 𝓤 H 𝓜 𝓖 𝓡 =
     (are .0) (are .1 .0 .0 .1) (are .1 .1 .0 .1) (are .1 .1 .1 .0 .1) (are .1 .1 .1 .1 .0 .0 .1) (pre .0) (pre .1)
     (𝓣of 𝓤 H 𝓜 𝓖 𝓡 code.env) (fmOf 𝓤 H (givenOf 𝓤 H 𝓜 𝓖 .laws) (𝓣of 𝓤 H 𝓜 𝓖 𝓡 code.env))
     (cited 𝓤 H (QuickUntil 𝓤 H (𝓖 .A) (𝓜 .mem) (𝓡 .run)) 𝓜 𝓡 code.env #quick-until quick-until-def.routine code.calls-check-list·quick-until (quick-until-thm.met 𝓤 H 𝓜 𝓖 𝓡))
-    (cited 𝓤 H (QuickTurn 𝓤 H (𝓖 .A) (𝓜 .mem) (𝓡 .run)) 𝓜 𝓡 code.env #quick-turn quick-turn-def.routine code.calls-check-list·quick-turn (quick-turn-thm.met 𝓤 H 𝓜 𝓖 𝓡)))))
+    (cited 𝓤 H (QuickTurn 𝓤 H (𝓖 .A) (𝓜 .mem) (𝓡 .run)) 𝓜 𝓡 code.env #quick-turn quick-turn-def.routine code.calls-check-list·quick-turn (quick-turn-thm.met 𝓤 H 𝓜 𝓖 𝓡))))

@@ -1,7 +1,13 @@
 -- `write::write` meets its contract: its code is followed by hand, for it passes on a list of structs. The work room is lent to `stow`,
 -- and comes back with the records in its rows; then it and the output are given to `finish` for good. Of the two the proof knows their
 -- contracts alone; that their answer is the writer's is shown in Whole.antt. Assumes nothing.
-use Rattle.walks.proofs.Names.{_≡_, refl, _∙_, ℕ, [], _∷_, List, length, URA, fullShare, named, w64, Val, vint, SProp, ent, emp, sep, ex, guard, via, fst∗, id⊢, Lft, Share, GName, Fml, ftrue, fsep, flft, Memory, Routine, Heap, Calls, Loops, WpFn, Atoms, sem, Fun, fact, givenOf, Given, ‵, raw, _⊛_, ⋆, _$_, _∵_, !, qed, by, move, keep, use1, use2, split, join, feqL, fsplit, fjoin, check, show, suffices, frame, done, look, init, forget, stop, hop, fld, from, load, of-opd, addr, and-then, no-more, assigns, land, returns, enter, alloc1, alloc0, params1, pass1, pass0, agg, whole, sub, look-in, FmC, fmOf, owns, Is, uint-makes, u8, usize, RefT, sliceVal, ShrSlice, MutSlice, Room, finally, slice-vals, shr-slice-tells, mut-slice-tells, shr-slice-copy, owned, heard, nothing, plain, yes, onEntry, tripleOf, Contract, Triple, Lasts, lasts, cited, says, Stays, stay-none-slice, gave-slice, walkOf, goes-none-slice, goes-gave-slice, ends-at, walked}
+use Rattle.walks.proofs.Names.{_≡_, refl, _∙_, ℕ, [], _∷_, List, length, URA, fullShare, named, w64, Val, vint, SProp, ent, emp, sep, ex, guard, via}
+use Rattle.walks.proofs.Names.{fst∗, id⊢, Lft, Share, GName, Fml, ftrue, fsep, flft, Memory, Routine, Heap, Calls, Loops, WpFn, Atoms, sem, Fun, fact}
+use Rattle.walks.proofs.Names.{givenOf, Given, ‵, raw, _⊛_, ⋆, _$_, _∵_, !, qed, by, move, keep, use1, use2, split, join, feqL, fsplit, fjoin, check}
+use Rattle.walks.proofs.Names.{show, suffices, frame, done, look, of-opd, no-more, returns, FmC, fmOf, owns, Is, uint-makes, u8, usize, RefT}
+use Rattle.walks.proofs.Names.{sliceVal, ShrSlice, MutSlice, Room, finally, slice-vals, shr-slice-tells, mut-slice-tells, owned, heard, nothing}
+use Rattle.walks.proofs.Names.{plain, yes, onEntry, tripleOf, Contract, Triple, Lasts, lasts, cited, says, Stays, stay-none-slice, gave-slice, walkOf}
+use Rattle.walks.proofs.Names.{goes-none-slice, goes-gave-slice, ends-at}
 use contract.Running.{tablesOf}
 use denote.Enum.Laws as EL
 use denote.Struct.Laws as LL
@@ -10,9 +16,11 @@ use Rattle.base.specs.declared.Unit.{Unit as UnitRecord}
 use Rattle.base.proofs.Answer as N
 use Rattle.base.proofs.Answer.Laws as N′
 use Rattle.base.proofs.Unit as U
-use Rattle.walks.proofs.Body.{proved, 𝓣of, frees-all}
+use Rattle.walks.proofs.Body.{𝓣of, proved-by}
 use Rattle.walks.proofs.Calls.{calls-ends, gave-some}
 use Rattle.walks.proofs.Lent.{calls-lent}
+use Rattle.walks.proofs.Frame.{enters, leaves}
+use Rattle.walks.proofs.Steps.{arg, part, sets, lands-in, behind, resliced, in64, sliced, beside, copies}
 use Rattle.shortest.specs.Records.{writerAnswer, writerOutput}
 use Rattle.check_list.specs.Turn.{lookedAt}
 use Rattle.check_list.specs.declared.Progress.{Progress}
@@ -169,8 +177,8 @@ module _ {M : Type 1} (𝓤 : URA M) (H : Heap 𝓤) (A : Atoms 𝓤) (W : Given
   asks-finish w is =
       qed W ((‵ (flft κ₁ q₁) ⊛ ‵ (flft κ₂ q₂) ⊛ ‵ (flft κ₃ q₃) ⊛ ‵ ftrue) ∷ (‵ Segments ⊛ (‵ (Work w) ⊛ ‵ Output)) ∷ []) ∵ move ! (1 ∷ []) $ split ! $ move ! (1 ∷ []) $ split ! $
       -- [the room; the output; what the segments own; the tokens]
-      nothing ! $ move ! (2 ∷ 0 ∷ []) $ fjoin ! $ move ! (1 ∷ 0 ∷ []) $ fjoin ! $ move ! (1 ∷ 0 ∷ []) $ fjoin ! $ owned ! usize (Is usize) (uint-makes 𝓤 H A W w64) (length us) _ (refl, s-room .0) $ fjoin ! $
-      owned ! P.the-row (Is P.the-row) (EL.makes P.the-type P′.the-plain 𝓤 H A) p _ is $ fjoin ! $ move ! (1 ∷ 0 ∷ []) $ join ! $ frame ! $ done !
+      nothing ! $ move ! (2 ∷ 0 ∷ []) $ fjoin ! $ move ! (1 ∷ 0 ∷ []) $ fjoin ! $ move ! (1 ∷ 0 ∷ []) $ fjoin ! $ beside ! usize (uint-makes 𝓤 H A W w64) (length us) _ (refl, s-room .0) $
+      beside ! P.the-row (EL.makes P.the-type P′.the-plain 𝓤 H A) p _ is $ move ! (1 ∷ 0 ∷ []) $ join ! $ frame ! $ done !
 
   abbrev Finished : List ℕ → Answer → Z → Type 0
   Finished w m z = (m ≡ finishAnswer p (length us) os w (length zs)) × (z .1 ≡ finishOutput p (length us) os w zs) × (length (z .0) ≡ length w)
@@ -191,47 +199,43 @@ module _ {M : Type 1} (𝓤 : URA M) (H : Heap 𝓤) (A : Atoms 𝓤) (W : Given
         split ! $ move ! (1 ∷ []) $ split ! $ move ! (1 ∷ []) $ split ! $ move ! (4 ∷ []) $ fsplit ! $ move ! (1 ∷ []) $ fsplit ! $ move ! (1 ∷ []) $ fsplit ! $ move ! (1 ∷ []) $ fsplit ! $
         -- [the output; true; the room; what the segments own; what the units own; the room's token; the output's; the segments'; the units']
         keep ! (8 ∷ 4 ∷ 7 ∷ 3 ∷ 2 ∷ 5 ∷ 0 ∷ 6 ∷ []) $
-        enter ! C Λ code.function (vs ∷ vt ∷ vw ∷ vr ∷ []) _ $
-        alloc1 ! (λ l₀. alloc1 ! (λ l₁. alloc1 ! (λ l₂. alloc1 ! (λ l₃. alloc1 ! (λ l₄. alloc1 ! (λ l₅. alloc1 ! (λ l₆. alloc1 ! (λ l₇. alloc1 ! (λ l₈. alloc1 ! (λ l₉. alloc1 ! (λ l₁₀. alloc1 ! (λ l₁₁. alloc1 ! (λ l₁₂. alloc0 ! $ params1 ! $
-        pass1 ! (init ! 22 refl (tt, (tt, (record { fits = s-room .0 }, tt)))) $ pass1 ! (init ! 20 refl (tt, (tt, (record { fits = t-room .0 }, tt)))) $ pass1 ! (init ! 18 refl (tt, (tt, (record { fits = room .0 }, tt)))) $ pass1 ! (init ! 16 refl (tt, (tt, (record { fits = r-room .0 }, tt)))) $ pass0 ! $
-        assigns ! (addr ! (from ! (fld ! refl (hop ! (look-in ! 18 (sub ! 0 refl (whole !))) (stop !))))) (from ! (stop !)) (init ! 12 refl (tt, tt)) $
-        assigns ! (agg ! (and-then ! (load ! (from ! (stop !)) (look ! 12 refl)) (and-then ! (load ! (from ! (fld ! refl (stop !))) (look-in ! 18 (sub ! 1 refl (whole !)))) (no-more !)))) (from ! (stop !)) (init ! 10 refl (tt, (tt, (record { fits = room .0 }, tt)))) $
+        enters ! C Λ code.function (vs ∷ vt ∷ vw ∷ vr ∷ []) _ (λ bs. (sliced (s-room .0), (sliced (t-room .0), (sliced (room .0), (sliced (r-room .0), tt))))) (λ bs.
+        sets ! 12 (behind ! 18 refl refl) refl (tt, tt) $
+        sets ! 10 (resliced ! 12 18 refl refl refl) refl (sliced (room .0)) $
         -- [the locals; the units' token; what they own; the segments' token; what they own; the room; its token; the output; its token]
-        move ! (27 ∷ []) $ use1 W (‵ Units ⊛ ‵ Units) (shr-slice-copy 𝓤 H A W (named 0) κ₀ U.the-row .twice s (vs ∷ [])) $ split ! $ move ! (28 ∷ 0 ∷ []) $ join ! $
-        move ! (29 ∷ []) $ use1 W (‵ Segments ⊛ ‵ Segments) (shr-slice-copy 𝓤 H A W (named 1) κ₁ u8 .twice t (vt ∷ [])) $ split ! $ move ! (30 ∷ 0 ∷ []) $ join ! $ move ! (2 ∷ 0 ∷ []) $ join ! $ move ! (0 ∷ 29 ∷ 30 ∷ []) $
+        move ! (27 ∷ []) $ copies ! (named 0) κ₀ U.the-row s (vs ∷ []) $ move ! (28 ∷ 0 ∷ []) $ join ! $
+        move ! (29 ∷ []) $ copies ! (named 1) κ₁ u8 t (vt ∷ []) $ move ! (30 ∷ 0 ∷ []) $ join ! $ move ! (2 ∷ 0 ∷ []) $ join ! $ move ! (0 ∷ 29 ∷ 30 ∷ []) $
         -- [what goes to `stow`; the room; its token; what the segments own; what the units own; the locals; the output; its token]
         calls-lent ! fm (Stow 𝓤 H A at-mem run) known-stow u8 κ₂ q₂ (named 2) γ b o (length ys) ys room refl to-stow ((‵ (flft κ₀ q₀) ⊛ ‵ Units) ⊛ (‵ (flft κ₁ q₁) ⊛ ‵ Segments)) (‵ (flft κ₀ q₀) ⊛ ‵ (flft κ₁ q₁)) (mach p) Kept (λ l st. st .same)
         (λ ν. sep 𝓤 (A .lft κ₀ q₀) (sep 𝓤 (A .lft κ₁ q₁) (sep 𝓤 (A .lft (ν ∷ []) fullShare) (emp 𝓤)))) back-stow asks-stow IsP
         (λ ν δ u. gave-some 𝓤 H A W stow.ended (stow.clauses 𝓤 H A at-mem run) (to-stow ν δ) p Kept (λ l. finally u8 δ l) (gives-stow ν δ) (EL.vals P.the-type P′.the-laws) (EL.tells P.the-type P′.the-laws) u)
-        (λ ν δ. and-then ! (load ! (from ! (stop !)) (look ! 26 refl)) (and-then ! (load ! (from ! (stop !)) (look ! 24 refl)) (and-then ! (load ! (from ! (stop !)) (look ! 14 refl)) (no-more !)))) (λ w is st.
+        (λ ν δ. arg ! 26 refl (arg ! 24 refl (arg ! 14 refl (no-more !)))) (λ w is st.
         -- [the tokens; the room; its token; what the segments own; what the units own; the locals; the output; its token]
-        land ! (from ! (stop !)) (init ! 19 refl (EL.lawful P.the-type P′.the-laws 𝓤 H A W tt .typed p _ is .0)) $
-        assigns ! (of-opd ! (load ! (from ! (fld ! refl (stop !))) (look-in ! 27 (sub ! 1 refl (whole !))))) (from ! (stop !)) (init ! 13 refl (tt, record { fits = s-room .0 })) $
-        assigns ! (addr ! (from ! (fld ! refl (hop ! (look-in ! 23 (sub ! 0 refl (whole !))) (stop !))))) (from ! (stop !)) (init ! 11 refl (tt, tt)) $
-        assigns ! (agg ! (and-then ! (load ! (from ! (stop !)) (look ! 11 refl)) (and-then ! (load ! (from ! (fld ! refl (stop !))) (look-in ! 23 (sub ! 1 refl (whole !)))) (no-more !)))) (from ! (stop !)) (init ! 9 refl (tt, (tt, (record { fits = room .0 }, tt)))) $
-        assigns ! (addr ! (from ! (fld ! refl (hop ! (look-in ! 21 (sub ! 0 refl (whole !))) (stop !))))) (from ! (stop !)) (init ! 7 refl (tt, tt)) $
-        assigns ! (agg ! (and-then ! (load ! (from ! (stop !)) (look ! 7 refl)) (and-then ! (load ! (from ! (fld ! refl (stop !))) (look-in ! 21 (sub ! 1 refl (whole !)))) (no-more !)))) (from ! (stop !)) (init ! 5 refl (tt, (tt, (record { fits = r-room .0 }, tt)))) $
+        lands-in ! 19 refl (EL.lawful P.the-type P′.the-laws 𝓤 H A W tt .typed p _ is .0) $
+        sets ! 13 (of-opd ! (part ! 27 1 refl refl refl)) refl (in64 (s-room .0)) $
+        sets ! 11 (behind ! 23 refl refl) refl (tt, tt) $
+        sets ! 9 (resliced ! 11 23 refl refl refl) refl (sliced (room .0)) $
+        sets ! 7 (behind ! 21 refl refl) refl (tt, tt) $
+        sets ! 5 (resliced ! 7 21 refl refl refl) refl (sliced (r-room .0)) $
         -- the tokens together, then what goes to `finish`
         split ! $ move ! (3 ∷ 33 ∷ []) $ join ! $ move ! (2 ∷ 0 ∷ []) $ join ! $
-        move ! (3 ∷ []) $ use1 W (‵ Segments ⊛ ‵ Segments) (shr-slice-copy 𝓤 H A W (named 1) κ₁ u8 .twice t (vt ∷ [])) $ split ! $ move ! (4 ∷ 32 ∷ []) $ join ! $ move ! (1 ∷ 0 ∷ []) $ join ! $
+        move ! (3 ∷ []) $ copies ! (named 1) κ₁ u8 t (vt ∷ []) $ move ! (4 ∷ 32 ∷ []) $ join ! $ move ! (1 ∷ 0 ∷ []) $ join ! $
         move ! (2 ∷ 0 ∷ []) $ use2 W (raw (Finish 𝓤 H A at-mem run .pre (to-finish w))) (asks-finish w is) $
         -- [what `finish` asks; what the segments own; the units' token; what they own; the locals]
         calls-ends ! fm finish.ended (finish.clauses 𝓤 H A at-mem run) known-finish (to-finish w) ans Known Said (gives-finish w st) (LL.vals N.the-type N′.the-laws) (LL.tells N.the-type N′.the-laws)
-        (and-then ! (load ! (from ! (stop !)) (look ! 18 refl)) (and-then ! (load ! (from ! (stop !)) (look ! 12 refl)) (and-then ! (load ! (from ! (stop !)) (look ! 24 refl)) (and-then ! (load ! (from ! (stop !)) (look ! 8 refl)) (and-then ! (load ! (from ! (stop !)) (look ! 4 refl)) (no-more !)))))) (λ z e is-n.
-        use1 W (‵ (flft κ₁ q₁) ⊛ ‵ (flft κ₂ q₂) ⊛ ‵ (flft κ₃ q₃) ⊛ ‵ ftrue) (id⊢ 𝓤 _) $ land ! (from ! (stop !)) (init ! 29 refl (LL.lawful N.the-type N′.the-laws 𝓤 H A W .typed ans _ is-n .0)) $
-        returns ! (look ! 29 refl) $ forget ! 5 refl $ forget ! 7 refl $ forget ! 9 refl $ forget ! 11 refl $ forget ! 13 refl $ forget ! 15 refl $ forget ! 17 refl $ forget ! 19 refl $ forget ! 21 refl $ forget ! 23 refl $ forget ! 25 refl $ forget ! 27 refl $ forget ! 29 refl $
-        move ! (29 ∷ 30 ∷ 27 ∷ 28 ∷ 25 ∷ 26 ∷ 23 ∷ 24 ∷ 21 ∷ 22 ∷ 19 ∷ 20 ∷ 17 ∷ 18 ∷ 15 ∷ 16 ∷ 13 ∷ 14 ∷ 11 ∷ 12 ∷ 9 ∷ 10 ∷ 7 ∷ 8 ∷ 5 ∷ 6 ∷ []) $ frees-all ! _ $
-        move ! (1 ∷ 3 ∷ 4 ∷ 2 ∷ 0 ∷ []) $ by ! (exits z e is-n))))))))))))))))
+        (arg ! 18 refl (arg ! 12 refl (arg ! 24 refl (arg ! 8 refl (arg ! 4 refl (no-more !)))))) (λ z e is-n.
+        use1 W (‵ (flft κ₁ q₁) ⊛ ‵ (flft κ₂ q₂) ⊛ ‵ (flft κ₃ q₃) ⊛ ‵ ftrue) (id⊢ 𝓤 _) $ lands-in ! 29 refl (LL.lawful N.the-type N′.the-laws 𝓤 H A W .typed ans _ is-n .0) $
+        returns ! (look ! 29 refl) $ leaves ! 5 refl refl $
+        move ! (1 ∷ 3 ∷ 4 ∷ 2 ∷ 0 ∷ []) $ by ! (exits z e is-n))))
 
 pub write-spec : {M : Type 1} → stated.statement M
 unfolding code.routine tablesOf
 write-spec 𝓤 H 𝓜 𝓖 𝓡 =
-    proved 𝓤 H 𝓜 𝓖 𝓡 code.env #write code.function (code.unfolded 𝓤 H 𝓜 𝓡) write.ended stayed (write.clauses 𝓤 H (𝓖 .A) (𝓜 .mem) (𝓡 .run))
+    proved-by 𝓤 H 𝓜 𝓖 𝓡 code.env #write code.function (code.unfolded 𝓤 H 𝓜 𝓡) write.ended stayed (write.clauses 𝓤 H (𝓖 .A) (𝓜 .mem) (𝓡 .run))
     (goes-none-slice 𝓤 H (𝓖 .A) (givenOf 𝓤 H 𝓜 𝓖) 4 (0 ∷ []) tt (plain (λ _. U.the-row)) yes, (goes-none-slice 𝓤 H (𝓖 .A) (givenOf 𝓤 H 𝓜 𝓖) 4 (1 ∷ []) tt (plain (λ _. u8)) yes, (goes-gave-slice 𝓤 H (𝓖 .A) (givenOf 𝓤 H 𝓜 𝓖) 4 2 tt (plain (λ _. u8)), (goes-gave-slice 𝓤 H (𝓖 .A) (givenOf 𝓤 H 𝓜 𝓖) 4 3 tt (plain (λ _. u8)), tt))))
-    (walked 𝓤 H (𝓖 .A) write.ended stayed (write.clauses 𝓤 H (𝓖 .A) (𝓜 .mem) (𝓡 .run)) (WpFn 𝓤 H (𝓣of 𝓤 H 𝓜 𝓖 𝓡 code.env .C) (𝓣of 𝓤 H 𝓜 𝓖 𝓡 code.env .Λ) code.function)
     (λ κs. (slice-vals, (slice-vals, (slice-vals, (slice-vals, tt))))) (λ κs. (shr-slice-tells (named 0) (κs .0) U.the-row, (shr-slice-tells (named 1) (κs .1 .0) u8, (mut-slice-tells (named 2) (κs .1 .1 .0) u8, (mut-slice-tells (named 3) (κs .1 .1 .1 .0) u8, tt)))))
     (λ κs qs bounds a g are. via 𝓤 _ (fst∗ 𝓤 _ (emp 𝓤)) (walk 𝓤 H (𝓖 .A) (givenOf 𝓤 H 𝓜 𝓖) (𝓜 .mem) (𝓡 .run) (κs .0) (κs .1 .0) (κs .1 .1 .0) (κs .1 .1 .1 .0) (qs .0) (qs .1 .0) (qs .1 .1 .0) (qs .1 .1 .1 .0)
     (a .0) (a .1 .0) (a .1 .1 .0 .ptr .0) (a .1 .1 .0 .ptr .1) (a .1 .1 .0 .name) (a .1 .1 .0 .now) (a .1 .1 .1 .0) (are .0 .0 .1) (are .1 .0 .0 .1) (are .1 .1 .0 .0 .1) (are .1 .1 .1 .0 .0 .1)
     (𝓣of 𝓤 H 𝓜 𝓖 𝓡 code.env .C) (𝓣of 𝓤 H 𝓜 𝓖 𝓡 code.env .Λ) (fmOf 𝓤 H (givenOf 𝓤 H 𝓜 𝓖 .laws) (𝓣of 𝓤 H 𝓜 𝓖 𝓡 code.env))
     (cited 𝓤 H (Stow 𝓤 H (𝓖 .A) (𝓜 .mem) (𝓡 .run)) 𝓜 𝓡 code.env #stow stow-def.routine code.calls-write·stow (stow-thm.met 𝓤 H 𝓜 𝓖 𝓡))
-    (cited 𝓤 H (Finish 𝓤 H (𝓖 .A) (𝓜 .mem) (𝓡 .run)) 𝓜 𝓡 code.env #finish finish-def.routine code.calls-write·finish (finish-thm.met 𝓤 H 𝓜 𝓖 𝓡)))))
+    (cited 𝓤 H (Finish 𝓤 H (𝓖 .A) (𝓜 .mem) (𝓡 .run)) 𝓜 𝓡 code.env #finish finish-def.routine code.calls-write·finish (finish-thm.met 𝓤 H 𝓜 𝓖 𝓡))))

@@ -1,14 +1,18 @@
 -- `ctext::lists::ctext_read` meets its contract, which is that of `read::read`: its code is followed by hand, for the list lent is of
 -- structs. It passes its two slices on, and what `read` leaves is what it leaves.
 -- Assumes nothing.
-use Rattle.walks.proofs.Names.{_≡_, refl, ℕ, _<_, _^_, [], _∷_, List, length, URA, named, Val, SProp, ent, Lft, Share, Memory, Routine, Heap, WpFn, Tables, Atoms, Fun, givenOf, Given, raw, _$_, _∵_, !, qed, move, done, look, init, forget, stop, hop, fld, from, load, addr, and-then, no-more, assigns, land, returns, enter, alloc1, alloc0, params1, pass1, pass0, agg, whole, sub, look-in, FmC, fmOf, u8, RefT, sliceVal, slice-vals, shr-slice-tells, mut-slice-tells, tripleOf, Contract, Triple, cited}
+use Rattle.walks.proofs.Names.{_≡_, refl, ℕ, _<_, _^_, [], _∷_, List, length, URA, named, Val, SProp, ent, Lft, Share, Memory, Routine, Heap, WpFn}
+use Rattle.walks.proofs.Names.{Tables, Atoms, Fun, givenOf, Given, raw, _$_, _∵_, !, qed, move, done, look, no-more, returns, FmC, fmOf, u8, RefT}
+use Rattle.walks.proofs.Names.{sliceVal, slice-vals, shr-slice-tells, mut-slice-tells, tripleOf, Contract, Triple, cited}
 use contract.Running.{tablesOf}
 use denote.Struct.Laws as LL
 use Rattle.base.specs.declared.Unit.{Unit as UnitRecord}
 use Rattle.base.proofs.Unit as U
 use Rattle.base.proofs.Answer as N
 use Rattle.base.proofs.Answer.Laws as N′
-use Rattle.walks.proofs.Body.{𝓣of, frees-all}
+use Rattle.walks.proofs.Body.{𝓣of}
+use Rattle.walks.proofs.Frame.{enters, leaves}
+use Rattle.walks.proofs.Steps.{arg, sets, lands-in, behind, resliced, sliced}
 use Rattle.walks.proofs.Passing.{calls-whole, written-out, passed-on}
 use Rattle.read.proofs.read as read
 use Rattle.read.proofs.read.Symbol as read-def
@@ -41,17 +45,14 @@ module _ {M : Type 1} (𝓤 : URA M) (H : Heap 𝓤) (A : Atoms 𝓤) (W : Given
 
     walk : ent 𝓤 (Reads 𝓤 H A mem run .pre to) (WpFn 𝓤 H (𝓣 .C) (𝓣 .Λ) code.function (vs ∷ vo ∷ []) (Reads 𝓤 H A mem run .post to))
     walk =
-        qed W (raw (Reads 𝓤 H A mem run .pre to) ∷ []) ∵ enter ! (𝓣 .C) (𝓣 .Λ) code.function (vs ∷ vo ∷ []) _ $
-        alloc1 ! (λ l₀. alloc1 ! (λ l₁. alloc1 ! (λ l₂. alloc1 ! (λ l₃. alloc1 ! (λ l₄. alloc0 ! $ params1 ! $
-        pass1 ! (init ! 6 refl (tt, (tt, (record { fits = s-fits }, tt)))) $ pass1 ! (init ! 4 refl (tt, (tt, (record { fits = us-fits }, tt)))) $ pass0 ! $
-        assigns ! (addr ! (from ! (fld ! refl (hop ! (look-in ! 4 (sub ! 0 refl (whole !))) (stop !))))) (from ! (stop !)) (init ! 2 refl (tt, tt)) $
-        assigns ! (agg ! (and-then ! (load ! (from ! (stop !)) (look ! 2 refl)) (and-then ! (load ! (from ! (fld ! refl (stop !))) (look-in ! 4 (sub ! 1 refl (whole !)))) (no-more !)))) (from ! (stop !)) (init ! 0 refl (tt, (tt, (record { fits = us-fits }, tt)))) $
+        qed W (raw (Reads 𝓤 H A mem run .pre to) ∷ []) ∵ enters ! (𝓣 .C) (𝓣 .Λ) code.function (vs ∷ vo ∷ []) _ (λ bs. (sliced s-fits, (sliced us-fits, tt))) (λ bs.
+        sets ! 2 (behind ! 4 refl refl) refl (tt, tt) $
+        sets ! 0 (resliced ! 2 4 refl refl refl) refl (sliced us-fits) $
         -- [the locals; what `read` asks]
         move ! (10 ∷ []) $ calls-whole ! fm read.signature (read.spec 𝓤 H A mem run) known to (LL.lawful N.the-type N′.the-laws 𝓤 H A W)
-        (and-then ! (load ! (from ! (stop !)) (look ! 7 refl)) (and-then ! (load ! (from ! (stop !)) (look ! 1 refl)) (no-more !))) (λ v typed.
-        land ! (from ! (stop !)) (init ! 9 refl (typed .0)) $
-        returns ! (look ! 9 refl) $ forget ! 1 refl $ forget ! 3 refl $ forget ! 5 refl $ forget ! 7 refl $ forget ! 9 refl $
-        move ! (9 ∷ 10 ∷ 7 ∷ 8 ∷ 5 ∷ 6 ∷ 3 ∷ 4 ∷ 1 ∷ 2 ∷ []) $ frees-all ! _ $ done !))))))
+        (arg ! 7 refl (arg ! 1 refl (no-more !))) (λ v typed.
+        lands-in ! 9 refl (typed .0) $
+        returns ! (look ! 9 refl) $ leaves ! 1 refl refl $ done !))
 
   reads : Triple 𝓤 (WpFn 𝓤 H (𝓣 .C) (𝓣 .Λ) code.function) (Reads 𝓤 H A mem run)
   reads =
