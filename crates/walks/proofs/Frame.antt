@@ -26,6 +26,10 @@ pub data Holds : Type 0 where
   empty : Holds
   full : Val → Holds
 
+abbrev cell : {M : Type 1} {𝓤 : URA M} → Ty × ℕ → Holds → Item 𝓤
+cell e empty = ‵ (froom (e .0) (e .1) zero)
+cell e (full v) = ‵ (fat fullShare (e .0) (e .1) zero v)
+
 abbrev pub Blocks : List Local → Type 0
 Blocks [] = Unit {0}
 Blocks (l ∷ ls) = ℕ × Blocks ls
@@ -73,12 +77,18 @@ abbrev deep : List (Ty × ℕ) → ℕ → ℕ
 deep [] m = m
 deep (e ∷ E) m = deep E (suc (suc m))
 
+abbrev Locals : Type 0
+Locals = List (Ty × ℕ)
+
 module _ {M : Type 1} {𝓤 : URA M} where
-  abbrev pub laid : List (Ty × ℕ) → List Holds → List (Item 𝓤) → List (Item 𝓤)
+  -- a local, and its right to be freed
+  abbrev one : Ty × ℕ → Holds → List (Item 𝓤) → List (Item 𝓤)
+  one e h Γ = cell e h ∷ ‵ (fdies (e .0) (e .1)) ∷ Γ
+
+  abbrev pub laid : Locals → List Holds → List (Item 𝓤) → List (Item 𝓤)
   laid [] hs Γ = Γ
-  laid (e ∷ E) [] Γ = laid E [] (‵ (froom (e .0) (e .1) zero) ∷ ‵ (fdies (e .0) (e .1)) ∷ Γ)
-  laid (e ∷ E) (empty ∷ hs) Γ = laid E hs (‵ (froom (e .0) (e .1) zero) ∷ ‵ (fdies (e .0) (e .1)) ∷ Γ)
-  laid (e ∷ E) (full v ∷ hs) Γ = laid E hs (‵ (fat fullShare (e .0) (e .1) zero v) ∷ ‵ (fdies (e .0) (e .1)) ∷ Γ)
+  laid (e ∷ E) [] Γ = laid E [] (one e empty Γ)
+  laid (e ∷ E) (h ∷ hs) Γ = laid E hs (one e h Γ)
 
   -- the entries before a place
   abbrev pub before : ℕ → List (Item 𝓤) → List (Item 𝓤)
@@ -86,51 +96,54 @@ module _ {M : Type 1} {𝓤 : URA M} where
   before (suc k) [] = []
   before (suc k) (i ∷ Γ) = i ∷ before k Γ
 
-  laid-after : (E : List (Ty × ℕ)) (hs : List Holds) (Δ Γ : List (Item 𝓤)) → laid E hs (Δ ++ Γ) ≡ laid E hs Δ ++ Γ
-  laid-after [] hs Δ Γ = refl
-  laid-after (e ∷ E) [] Δ Γ = laid-after E [] (‵ (froom (e .0) (e .1) zero) ∷ ‵ (fdies (e .0) (e .1)) ∷ Δ) Γ
-  laid-after (e ∷ E) (empty ∷ hs) Δ Γ = laid-after E hs (‵ (froom (e .0) (e .1) zero) ∷ ‵ (fdies (e .0) (e .1)) ∷ Δ) Γ
-  laid-after (e ∷ E) (full v ∷ hs) Δ Γ = laid-after E hs (‵ (fat fullShare (e .0) (e .1) zero v) ∷ ‵ (fdies (e .0) (e .1)) ∷ Δ) Γ
+  laid-after : (E : Locals) (Δ Γ : List (Item 𝓤)) → laid E [] (Δ ++ Γ) ≡ laid E [] Δ ++ Γ
+  laid-after [] Δ Γ = refl
+  laid-after (e ∷ E) Δ Γ = laid-after E (one e empty Δ) Γ
 
   module _ (H : Heap 𝓤) (A : Atoms 𝓤) where
-    nth-deep : (E : List (Ty × ℕ)) (m : ℕ) (Γ : List (Item 𝓤)) → nth 𝓤 H A (deep E m) (laid E [] Γ) ≡ nth 𝓤 H A m Γ
+    -- the context as one assertion
+    abbrev ∗∗ : List (Item 𝓤) → SProp 𝓤
+    ∗∗ Γ = ⋆ 𝓤 H A Γ
+
+    infixr 35 _∗_
+    abbrev _∗_ : Item 𝓤 → SProp 𝓤 → SProp 𝓤
+    i ∗ P = sep 𝓤 (mean 𝓤 H A i) P
+
+    nth-deep : (E : Locals) (m : ℕ) (Γ : List (Item 𝓤)) → nth 𝓤 H A (deep E m) (laid E [] Γ) ≡ nth 𝓤 H A m Γ
     nth-deep [] m Γ = refl
-    nth-deep (e ∷ E) m Γ = nth-deep E (suc (suc m)) (‵ (froom (e .0) (e .1) zero) ∷ ‵ (fdies (e .0) (e .1)) ∷ Γ)
+    nth-deep (e ∷ E) m Γ = nth-deep E (suc (suc m)) (one e empty Γ)
 
-    put-deep : (E : List (Ty × ℕ)) (m : ℕ) (i : Item 𝓤) (Γ : List (Item 𝓤)) → put 𝓤 H A (deep E m) i (laid E [] Γ) ≡ laid E [] (put 𝓤 H A m i Γ)
+    put-deep : (E : Locals) (m : ℕ) (i : Item 𝓤) (Γ : List (Item 𝓤)) → put 𝓤 H A (deep E m) i (laid E [] Γ) ≡ laid E [] (put 𝓤 H A m i Γ)
     put-deep [] m i Γ = refl
-    put-deep (e ∷ E) m i Γ = put-deep E (suc (suc m)) i (‵ (froom (e .0) (e .1) zero) ∷ ‵ (fdies (e .0) (e .1)) ∷ Γ)
+    put-deep (e ∷ E) m i Γ = put-deep E (suc (suc m)) i (one e empty Γ)
 
-    del-deep : (E : List (Ty × ℕ)) (m : ℕ) (Γ : List (Item 𝓤)) → del 𝓤 H A (deep E m) (laid E [] Γ) ≡ laid E [] (del 𝓤 H A m Γ)
+    del-deep : (E : Locals) (m : ℕ) (Γ : List (Item 𝓤)) → del 𝓤 H A (deep E m) (laid E [] Γ) ≡ laid E [] (del 𝓤 H A m Γ)
     del-deep [] m Γ = refl
-    del-deep (e ∷ E) m Γ = del-deep E (suc (suc m)) (‵ (froom (e .0) (e .1) zero) ∷ ‵ (fdies (e .0) (e .1)) ∷ Γ)
+    del-deep (e ∷ E) m Γ = del-deep E (suc (suc m)) (one e empty Γ)
 
     -- the entry under the locals, taken out
-    out : (E : List (Ty × ℕ)) (i : Item 𝓤) (Γ : List (Item 𝓤)) → ent 𝓤 (⋆ 𝓤 H A (laid E [] (i ∷ Γ))) (sep 𝓤 (mean 𝓤 H A i) (⋆ 𝓤 H A (laid E [] Γ)))
+    out : (E : Locals) (i : Item 𝓤) (Γ : List (Item 𝓤)) → ent 𝓤 (∗∗ (laid E [] (i ∷ Γ))) (i ∗ ∗∗ (laid E [] Γ))
     out E i Γ =
-        subst (λ (j : Item 𝓤). ent 𝓤 (⋆ 𝓤 H A (laid E [] (i ∷ Γ))) (sep 𝓤 (mean 𝓤 H A j) (⋆ 𝓤 H A (laid E [] Γ)))) (nth-deep E zero (i ∷ Γ))
-        (subst (λ (Δ : List (Item 𝓤)). ent 𝓤 (⋆ 𝓤 H A (laid E [] (i ∷ Γ))) (sep 𝓤 (mean 𝓤 H A (nth 𝓤 H A (deep E zero) (laid E [] (i ∷ Γ)))) (⋆ 𝓤 H A Δ)))
-        (del-deep E zero (i ∷ Γ)) (pull 𝓤 H A (deep E zero) (laid E [] (i ∷ Γ))))
+        let Δ : List (Item 𝓤) = laid E [] (i ∷ Γ) in
+        subst (λ (j : Item 𝓤). ent 𝓤 (∗∗ Δ) (j ∗ ∗∗ (laid E [] Γ))) (nth-deep E zero (i ∷ Γ))
+        (subst (λ (Θ : List (Item 𝓤)). ent 𝓤 (∗∗ Δ) (nth 𝓤 H A (deep E zero) Δ ∗ ∗∗ Θ)) (del-deep E zero (i ∷ Γ)) (pull 𝓤 H A (deep E zero) Δ))
 
     -- what stands before the locals stands after them
-    swapped : (Δ Γ : List (Item 𝓤)) → ent 𝓤 (⋆ 𝓤 H A (Δ ++ Γ)) (⋆ 𝓤 H A (Γ ++ Δ))
-    swapped Δ Γ =
-        via 𝓤 (sep 𝓤 (⋆ 𝓤 H A Δ) (⋆ 𝓤 H A Γ)) (⊢++ 𝓤 H A Δ Γ)
-        (via 𝓤 (sep 𝓤 (⋆ 𝓤 H A Γ) (⋆ 𝓤 H A Δ)) (comm∗ 𝓤 (⋆ 𝓤 H A Δ) (⋆ 𝓤 H A Γ)) (++⊢ 𝓤 H A Γ Δ))
+    under : (E : Locals) (Γ : List (Item 𝓤)) → ent 𝓤 (∗∗ (Γ ++ laid E [] [])) (∗∗ (laid E [] Γ))
+    under E Γ =
+        subst (λ (Δ : List (Item 𝓤)). ent 𝓤 (∗∗ (Γ ++ laid E [] [])) (∗∗ Δ)) (sym (laid-after E [] Γ))
+        (via 𝓤 (sep 𝓤 (∗∗ Γ) (∗∗ (laid E [] []))) (⊢++ 𝓤 H A Γ (laid E [] []))
+        (via 𝓤 (sep 𝓤 (∗∗ (laid E [] [])) (∗∗ Γ)) (comm∗ 𝓤 (∗∗ Γ) (∗∗ (laid E [] []))) (++⊢ 𝓤 H A (laid E [] []) Γ)))
 
-    under : (E : List (Ty × ℕ)) (hs : List Holds) (Γ : List (Item 𝓤)) → ent 𝓤 (⋆ 𝓤 H A (Γ ++ laid E hs [])) (⋆ 𝓤 H A (laid E hs Γ))
-    under E hs Γ =
-        subst (λ (Δ : List (Item 𝓤)). ent 𝓤 (⋆ 𝓤 H A (Γ ++ laid E hs [])) (⋆ 𝓤 H A Δ)) (sym (laid-after E hs [] Γ)) (swapped Γ (laid E hs []))
-
-    frees-laid : (E : List (Ty × ℕ)) (Γ : List (Item 𝓤)) (P : SProp 𝓤) → ent 𝓤 (⋆ 𝓤 H A Γ) P → ent 𝓤 (⋆ 𝓤 H A (laid E [] Γ)) (release 𝓤 H E P)
+    frees-laid : (E : Locals) (Γ : List (Item 𝓤)) (P : SProp 𝓤) → ent 𝓤 (∗∗ Γ) P → ent 𝓤 (∗∗ (laid E [] Γ)) (release 𝓤 H E P)
     frees-laid [] Γ P h = h
     frees-laid (e ∷ E) Γ P h =
-        let R : Item 𝓤 = ‵ (froom (e .0) (e .1) zero) in
+        let R : Item 𝓤 = cell e empty in
         let D : Item 𝓤 = ‵ (fdies (e .0) (e .1)) in
-        via 𝓤 (sep 𝓤 (mean 𝓤 H A R) (⋆ 𝓤 H A (laid E [] (D ∷ Γ)))) (out E R (D ∷ Γ))
-        (via 𝓤 (sep 𝓤 (mean 𝓤 H A R) (sep 𝓤 (mean 𝓤 H A D) (⋆ 𝓤 H A (laid E [] Γ)))) (monoR 𝓤 (mean 𝓤 H A R) (out E D Γ))
-        (via 𝓤 (sep 𝓤 (sep 𝓤 (mean 𝓤 H A R) (mean 𝓤 H A D)) (⋆ 𝓤 H A (laid E [] Γ))) (assoc′ 𝓤 (mean 𝓤 H A R) (mean 𝓤 H A D) (⋆ 𝓤 H A (laid E [] Γ)))
-        (monoR 𝓤 (sep 𝓤 (mean 𝓤 H A R) (mean 𝓤 H A D)) (frees-laid E Γ P h))))
+        via 𝓤 (R ∗ ∗∗ (laid E [] (D ∷ Γ))) (out E R (D ∷ Γ))
+        (via 𝓤 (R ∗ (D ∗ ∗∗ (laid E [] Γ))) (monoR 𝓤 (mean 𝓤 H A R) (out E D Γ))
+        (via 𝓤 ((R ⊛ D) ∗ ∗∗ (laid E [] Γ)) (assoc′ 𝓤 (mean 𝓤 H A R) (mean 𝓤 H A D) (∗∗ (laid E [] Γ)))
+        (monoR 𝓤 (mean 𝓤 H A (R ⊛ D)) (frees-laid E Γ P h))))
 
     -- ---- what a formula leaves where a cell is made room: what else is no cell stays
     record Cleared (W : Given 𝓤 H A) (P : Fml) : Type 2 where
@@ -208,16 +221,16 @@ module _ {M : Type 1} {𝓤 : URA M} where
       shares-from zero zero (i ∷ Γ) = []
       shares-from zero (suc n) (i ∷ Γ) = shares-of i ++ shares-from zero n Γ
 
-      both : (i j : Item 𝓤) (Γ Δ : List (Item 𝓤)) → ent 𝓤 (mean 𝓤 H A i) (mean 𝓤 H A j) → ent 𝓤 (⋆ 𝓤 H A Γ) (⋆ 𝓤 H A Δ) → ent 𝓤 (⋆ 𝓤 H A (i ∷ Γ)) (⋆ 𝓤 H A (j ∷ Δ))
+      both : (i j : Item 𝓤) (Γ Δ : List (Item 𝓤)) → ent 𝓤 (mean 𝓤 H A i) (mean 𝓤 H A j) → ent 𝓤 (∗∗ Γ) (∗∗ Δ) → ent 𝓤 (∗∗ (i ∷ Γ)) (∗∗ (j ∷ Δ))
       both i j Γ Δ h k =
-          via 𝓤 (sep 𝓤 (mean 𝓤 H A i) (⋆ 𝓤 H A Γ)) (pop 𝓤 H A i Γ)
-          (via 𝓤 (sep 𝓤 (mean 𝓤 H A j) (⋆ 𝓤 H A Γ)) (monoL 𝓤 (⋆ 𝓤 H A Γ) h)
-          (via 𝓤 (sep 𝓤 (mean 𝓤 H A j) (⋆ 𝓤 H A Δ)) (monoR 𝓤 (mean 𝓤 H A j) k) (push 𝓤 H A j Δ)))
+          via 𝓤 (i ∗ ∗∗ Γ) (pop 𝓤 H A i Γ)
+          (via 𝓤 (j ∗ ∗∗ Γ) (monoL 𝓤 (∗∗ Γ) h)
+          (via 𝓤 (j ∗ ∗∗ Δ) (monoR 𝓤 (mean 𝓤 H A j) k) (push 𝓤 H A j Δ)))
 
-      clear-from⊢ : (k n : ℕ) (Γ : List (Item 𝓤)) → shares-from k n Γ ≡ wholes (shares-from k n Γ) → ent 𝓤 (⋆ 𝓤 H A Γ) (⋆ 𝓤 H A (clear-from k n Γ))
-      clear-from⊢ k n [] e = id⊢ 𝓤 (⋆ 𝓤 H A [])
+      clear-from⊢ : (k n : ℕ) (Γ : List (Item 𝓤)) → shares-from k n Γ ≡ wholes (shares-from k n Γ) → ent 𝓤 (∗∗ Γ) (∗∗ (clear-from k n Γ))
+      clear-from⊢ k n [] e = id⊢ 𝓤 (∗∗ [])
       clear-from⊢ (suc k) n (i ∷ Γ) e = both i i Γ (clear-from k n Γ) (id⊢ 𝓤 (mean 𝓤 H A i)) (clear-from⊢ k n Γ e)
-      clear-from⊢ zero zero (i ∷ Γ) e = id⊢ 𝓤 (⋆ 𝓤 H A (i ∷ Γ))
+      clear-from⊢ zero zero (i ∷ Γ) e = id⊢ 𝓤 (∗∗ (i ∷ Γ))
       clear-from⊢ zero (suc n) (i ∷ Γ) e =
           let es : (shares-of i ≡ wholes (shares-of i)) × (shares-from zero n Γ ≡ wholes (shares-from zero n Γ)) = wholes-split (shares-of i) (shares-from zero n Γ) e in
           both i (clear i) Γ (clear-from zero n Γ) (clear⊢ i (es .0)) (clear-from⊢ zero n Γ (es .1))
@@ -227,22 +240,22 @@ module _ {M : Type 1} {𝓤 : URA M} {H : Heap 𝓤} {A : Atoms 𝓤} {K : Type 
     pub clears : K → (k n : ℕ) → shares-from H A W k n Γ ≡ wholes (shares-from H A W k n Γ) → Step K W (clear-from H A W k n Γ) G Γ G
     clears t k n e = step (λ s. record { prf = via 𝓤 (⋆ 𝓤 H A (clear-from H A W k n Γ)) (clear-from⊢ H A W k n Γ e) (s .prf) })
 
-    pub leaves : K → (k : ℕ) {E : List (Ty × ℕ)} → clear-from H A W k 100 Γ ≡ before k Γ ++ laid E [] []
+    pub leaves : K → (k : ℕ) {E : Locals} → clear-from H A W k 100 Γ ≡ before k Γ ++ laid E [] []
         → shares-from H A W k 100 Γ ≡ wholes (shares-from H A W k 100 Γ) → Step K W (before k Γ) G Γ (frees E G)
     leaves t k {E} e f = step (λ s. record {
       prf = via 𝓤 (⋆ 𝓤 H A (laid E [] (before k Γ)))
           (via 𝓤 (⋆ 𝓤 H A (clear-from H A W k 100 Γ)) (clear-from⊢ H A W k 100 Γ f)
-          (subst (λ (Δ : List (Item 𝓤)). ent 𝓤 (⋆ 𝓤 H A Δ) (⋆ 𝓤 H A (laid E [] (before k Γ)))) (sym e) (under H A E [] (before k Γ))))
+          (subst (λ (Δ : List (Item 𝓤)). ent 𝓤 (⋆ 𝓤 H A Δ) (⋆ 𝓤 H A (laid E [] (before k Γ)))) (sym e) (under H A E (before k Γ))))
           (frees-laid H A E (before k Γ) (aim 𝓤 H G) (s .prf));
     })
 
 -- ---- into a function
 module _ {M : Type 1} {𝓤 : URA M} {H : Heap 𝓤} {A : Atoms 𝓤} {K : Type 0} {W : Given 𝓤 H A} where
-  allocs-all : K → (ls : List Local) {Kt : List (Ty × ℕ) → Goal 𝓤 H} (Δ : List (Item 𝓤)) → ((bs : Blocks ls) → Seq K W (laid (envOf ls bs) [] Δ) (Kt (envOf ls bs))) → Seq K W Δ (allocs ls Kt)
+  allocs-all : K → (ls : List Local) {Kt : Locals → Goal 𝓤 H} (Δ : List (Item 𝓤)) → ((bs : Blocks ls) → Seq K W (laid (envOf ls bs) [] Δ) (Kt (envOf ls bs))) → Seq K W Δ (allocs ls Kt)
   allocs-all t [] Δ k = alloc0 t $ k tt
   allocs-all t (local τ h ∷ ls) Δ k = alloc1 t (λ b. allocs-all t ls (‵ (froom τ b zero) ∷ ‵ (fdies τ b) ∷ Δ) (λ bs. k (b, bs)))
 
-  passes-all : K → (E : List (Ty × ℕ)) (vs : List Val) {g : Goal 𝓤 H} (Δ : List (Item 𝓤)) → Fit E vs → Seq K W (laid E (each-full vs) Δ) g → Seq K W (laid E [] Δ) (passes E vs g)
+  passes-all : K → (E : Locals) (vs : List Val) {g : Goal 𝓤 H} (Δ : List (Item 𝓤)) → Fit E vs → Seq K W (laid E (each-full vs) Δ) g → Seq K W (laid E [] Δ) (passes E vs g)
   passes-all t E [] Δ f s = pass0 t $ s
   passes-all t [] (v ∷ vs) Δ f s = absurd f
   passes-all t (e ∷ E) (v ∷ vs) Δ f s =
@@ -252,9 +265,9 @@ module _ {M : Type 1} {𝓤 : URA M} {H : Heap 𝓤} {A : Atoms 𝓤} {K : Type 
       pass1 t (subst (λ (Γ′ : List (Item 𝓤)). Writes K W (laid E [] (R ∷ D ∷ Δ)) (e .0) (e .1) zero v Γ′) (put-deep H A E zero F (R ∷ D ∷ Δ))
       (init t (deep E zero) (nth-deep H A E zero (R ∷ D ∷ Δ)) (f .0))) $ passes-all t E vs (F ∷ D ∷ Δ) (f .1) s
 
-  params-all : K → (E : List (Ty × ℕ)) (vs : List Val) {g : Goal 𝓤 H} (Γ : List (Item 𝓤)) → FitAfter E vs → Seq K W (laid E (empty ∷ each-full vs) Γ) g → Seq K W (laid E [] Γ) (params′ E vs g)
+  params-all : K → (E : Locals) (vs : List Val) {g : Goal 𝓤 H} (Γ : List (Item 𝓤)) → FitAfter E vs → Seq K W (laid E (empty ∷ each-full vs) Γ) g → Seq K W (laid E [] Γ) (params′ E vs g)
   params-all t [] vs Γ f s = absurd f
-  params-all t (e ∷ E) vs Γ f s = params1 t $ passes-all t E vs (‵ (froom (e .0) (e .1) zero) ∷ ‵ (fdies (e .0) (e .1)) ∷ Γ) f s
+  params-all t (e ∷ E) vs Γ f s = params1 t $ passes-all t E vs (one e empty Γ) f s
 
   pub enters : K → {Γ : List (Item 𝓤)} (C : Calls 𝓤 H) (Λ : Loops 𝓤 H) (f : Fn) (vs : List Val) (Kf : Val → SProp 𝓤)
       → ((bs : Blocks (f .locals)) → FitAfter (envOf (f .locals) bs) vs)

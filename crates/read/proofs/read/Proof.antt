@@ -3,15 +3,14 @@
 -- functions that it calls the proof knows their contracts alone.
 -- Assumes nothing.
 use Rattle.walks.proofs.Names.{_≡_, refl, sym, _∙_, ap, subst, ℕ, _+_, _-_, _*_, _≤_, _<_, _^_, zero-le, [], _∷_, List, length, URA, fullShare, Ty}
-use Rattle.walks.proofs.Names.{named, erased, imm, mut, w8, w64, tyInt, tyRef, Val, vint, SProp, ent, emp, sep, ex, guard, via, fst∗, id⊢, Lft, Share}
-use Rattle.walks.proofs.Names.{GName, Fml, ftrue, flft, Memory, Routine, Heap, Out, Env, afterSeq, afterBlock, Calls, Loops, Wp, atReturn, WpFn}
-use Rattle.walks.proofs.Names.{Tables, Atoms, sem, Fun, fact, givenOf, Given, Item, ‵, raw, _⊛_, ⋆, runs, anyQ, atRet, Sq, _$_, _∵_, !, qed, by, move}
-use Rattle.walks.proofs.Names.{keep, let-go, use0, use1, use2, split, join, rewrite, fsplit, fjoin, check, show, suffices, frame, done, look, store}
-use Rattle.walks.proofs.Names.{forget, stop, from, lit, of-opd, bin, no-more, assigns-last, first as begins, blocks, land, returns, exec, Below}
-use Rattle.walks.proofs.Names.{again, loops, FmC, fmOf, owns, pointee, Is, uint-makes, uint-vals, uint-tells, uint-lawful, u8, usize, RefT, sliceVal}
-use Rattle.walks.proofs.Names.{sliceTy, ShrSlice, MutSlice, Room, finally, slice-vals, shr-slice-tells, mut-slice-tells, owned, heard, nothing, plain}
-use Rattle.walks.proofs.Names.{onEntry, tripleOf, Contract, Triple, Lasts, lasts, cited, says, Stays, stay-none-slice, stay-slice, walkOf}
-use Rattle.walks.proofs.Names.{goes-none-slice, goes-slice, ends-at, yes}
+use Rattle.walks.proofs.Names.{named, erased, imm, mut, w8, w64, tyInt, tyRef, Val, vint, SProp, ent, emp, sep, via, fst∗, id⊢, Lft, Share, GName}
+use Rattle.walks.proofs.Names.{Fml, ftrue, flft, Memory, Routine, Heap, Out, Env, afterSeq, afterBlock, Calls, Loops, Wp, atReturn, WpFn, Tables}
+use Rattle.walks.proofs.Names.{Atoms, sem, Fun, givenOf, Given, Item, ‵, raw, _⊛_, ⋆, runs, anyQ, atRet, Sq, _$_, _∵_, !, qed, by, move, keep, let-go}
+use Rattle.walks.proofs.Names.{use0, use1, use2, split, join, rewrite, fsplit, fjoin, suffices, frame, done, look, store, forget, stop, from, lit}
+use Rattle.walks.proofs.Names.{of-opd, bin, no-more, assigns-last, first as begins, blocks, land, returns, exec, Below, again, loops, FmC, fmOf, owns}
+use Rattle.walks.proofs.Names.{pointee, Is, uint-makes, uint-vals, uint-tells, uint-lawful, u8, usize, RefT, sliceVal, sliceTy, ShrSlice, MutSlice}
+use Rattle.walks.proofs.Names.{Room, finally, slice-vals, shr-slice-tells, mut-slice-tells, owned, nothing, plain, onEntry, tripleOf, Contract}
+use Rattle.walks.proofs.Names.{Triple, cited, says, Stays, stay-none-slice, stay-slice, walkOf, goes-none-slice, goes-slice, ends-at, yes}
 use native.Mathlib.Nat.{le-antisymm}
 use native.Mathlib.Omega.{arith}
 use mathlib.Core.WellFounded.{WellFounded, InvImage·wf}
@@ -26,10 +25,10 @@ use Rattle.base.proofs.Unit as U
 use Rattle.base.proofs.Answer as N
 use Rattle.base.proofs.Answer.Laws as N′
 use Rattle.walks.proofs.Body.{𝓣of, tests, proved-by}
-use Rattle.walks.proofs.Calls.{calls-value, gave-some}
-use Rattle.walks.proofs.Lent.{calls-lent}
+use Rattle.walks.proofs.Calls.{calls-value, gave-one}
+use Rattle.walks.proofs.Lent.{calls-lent, Beside, back-beside}
 use Rattle.walks.proofs.Frame.{empty, full, Blocks, envOf, laid, enters, clears, leaves}
-use Rattle.walks.proofs.Steps.{var, arg, part, sets, lands-in, recasts, behind, resliced, in64, sliced, beside, copies}
+use Rattle.walks.proofs.Steps.{var, arg, part, sets, lands-in, recasts, behind, resliced, in64, sliced, beside, copies, past, front}
 use Rattle.walks.proofs.Filling.{length-fill}
 use Rattle.cursor.specs.Cursor.{first}
 use Rattle.read.specs.Spans.{ones, spanOf, movedOf, countFrom, storedFrom}
@@ -222,18 +221,6 @@ module _ {M : Type 1} (𝓤 : URA M) (H : Heap 𝓤) (A : Atoms 𝓤) (W : Given
       frame ! $ nothing ! $ beside ! usize (uint-makes 𝓤 H A W w64) i _ (refl, fits) $ move ! (2 ∷ 0 ∷ []) $ fjoin ! $
       beside ! R.the-row (LL.makes R.the-type R′.the-plain 𝓤 H A) (span i) _ is $ move ! (1 ∷ 0 ∷ []) $ fjoin ! $ done !
 
-  back-fill : (ν : ℕ) → ent 𝓤 (sep 𝓤 (A .lft κ q) (sep 𝓤 (A .lft (ν ∷ []) fullShare) (emp 𝓤))) (sep 𝓤 (A .lft κ q) (A .lft (ν ∷ []) fullShare))
-  back-fill ν = qed W (‵ (flft κ q) ∷ (‵ (flft (ν ∷ []) fullShare) ⊛ ‵ ftrue) ∷ []) ∵ move ! (1 ∷ []) $ split ! $ keep ! (2 ∷ 0 ∷ []) $ done !
-
-  gives-fill : (i ν : ℕ) (δ : GName) (k : ℕ) (ws : Lasts fill.ended (κ, (ν ∷ [], tt)) (s, (span i, (x δ (got xs ys i), (i, tt)))))
-      → ent 𝓤 (sep 𝓤 (sem 𝓤 H A (lasts fill.ended (κ, (ν ∷ [], tt)) (s, (span i, (x δ (got xs ys i), (i, tt)))) ws)) (fact 𝓤 ((k ≡ count i) × Left i (ws .1 .1 .0))))
-      (ex 𝓤 (λ (l : List UnitRecord). guard 𝓤 ((k ≡ count i) × Left i l) (sem 𝓤 H A (finally U.the-row δ l))))
-  gives-fill i ν δ k ws =
-      qed W (‵ (lasts fill.ended (κ, (ν ∷ [], tt)) (s, (span i, (x δ (got xs ys i), (i, tt)))) ws) ∷ raw (fact 𝓤 ((k ≡ count i) × Left i (ws .1 .1 .0))) ∷ []) ∵
-      move ! (1 ∷ []) $ heard ! ((k ≡ count i) × Left i (ws .1 .1 .0)) (λ e.
-      fsplit ! $ move ! (1 ∷ []) $ fsplit ! $ move ! (1 ∷ []) $ fsplit ! $ fsplit ! $ keep ! (0 ∷ []) $
-      show ! (λ (l : List UnitRecord). guard 𝓤 ((k ≡ count i) × Left i l) (sem 𝓤 H A (finally U.the-row δ l))) (ws .1 .1 .0) $ check ! e $ done !)
-
   abbrev to-moved : ℕ → Moved 𝓤 H A at-mem run .Ghost
   to-moved i = ((tt, tt, tt, (span i, (count i, tt)), (R′.lowered (span i) ∷ [], (vint w64 (count i) ∷ [], tt))), tt)
 
@@ -328,8 +315,9 @@ module _ {M : Type 1} (𝓤 : URA M) (H : Heap 𝓤) (A : Atoms 𝓤) (W : Given
         calls-lent ! fm (Fill 𝓤 H A at-mem run) known-fill U.the-row κ′ q′ (named 1) γ b o (length ys) (got xs ys (i .0)) room (same (i .0))
         (to-fill (i .0)) (‵ (flft κ q) ⊛ ‵ Own) (‵ (flft κ q)) (vint w64 (count (i .0))) (Left (i .0))
         (λ l e. ap length (e ∙ list-next xs ys (short (i .0) less) (i .0) (n - i .0) (left-most (i .0) less)) ∙ same (i .0 + count (i .0)))
-        (λ ν. sep 𝓤 (A .lft κ q) (sep 𝓤 (A .lft (ν ∷ []) fullShare) (emp 𝓤))) back-fill (asks-fill (i .0) is-r (omega (arith, less, n-fits)) (left-got (i .0) less)) (Is usize (count (i .0)) (vint w64 (count (i .0)) ∷ []))
-        (λ ν δ u. gave-some 𝓤 H A W fill.ended (fill.clauses 𝓤 H A at-mem run) (to-fill (i .0) ν δ) (count (i .0)) (Left (i .0)) (λ l. finally U.the-row δ l) (gives-fill (i .0) ν δ) (uint-vals w64) (uint-tells w64) u)
+        (Beside W κ q) (back-beside W κ q) (asks-fill (i .0) is-r (omega (arith, less, n-fits)) (left-got (i .0) less)) (Is usize (count (i .0)) (vint w64 (count (i .0)) ∷ []))
+        (λ ν δ u. gave-one 𝓤 H A W fill.ended (fill.clauses 𝓤 H A at-mem run) (to-fill (i .0) ν δ) (count (i .0)) (Left (i .0)) (finally U.the-row δ) (λ ws. ws .1 .1 .0) (λ r ws. id⊢ 𝓤 _)
+        (λ ws. past ! $ past ! $ front ! $ front ! $ done !) (uint-vals w64) (uint-tells w64) u)
         (λ ν δ. arg ! 27 refl (arg ! 15 refl (arg ! 3 refl (arg ! 17 refl (no-more !))))) (λ l is-k e.
         -- [the token of s; the list; its token; what s owns; the locals]
         rewrite ! 1 (λ (w : List UnitRecord). ‵ (Units w)) (e ∙ list-next xs ys (short (i .0) less) (i .0) (n - i .0) (left-most (i .0) less)) refl $

@@ -3,15 +3,15 @@
 -- does so for records that the quick check lets through and answers where the next turn begins. Of the functions that it calls the proof
 -- knows their contracts alone. Assumes nothing.
 use Rattle.walks.proofs.Names.{_≡_, refl, sym, _∙_, ap, subst, ℕ, suc, _+_, _-_, _*_, _≤_, _<_, _^_, zero-le, [], _∷_, List, length, getD, URA}
-use Rattle.walks.proofs.Names.{fullShare, Ty, named, erased, imm, mut, w8, w64, tyInt, tyRef, Val, vint, vptr, SProp, ent, emp, sep, ex, guard, via}
-use Rattle.walks.proofs.Names.{fst∗, id⊢, Lft, Share, GName, Fml, ftrue, flft, Memory, Routine, Heap, Out, Env, afterSeq, afterBlock, Calls, Loops}
-use Rattle.walks.proofs.Names.{Wp, atReturn, WpFn, Tables, Atoms, sem, Fun, fact, givenOf, let-go, Given, Item, ‵, raw, _⊛_, ⋆, runs, anyQ, atRet, Sq}
-use Rattle.walks.proofs.Names.{_$_, _∵_, !, qed, by, move, keep, use0, split, join, rewrite, fsplit, fjoin, check, show, suffices, frame, done, look}
-use Rattle.walks.proofs.Names.{look-raw, store, forget, stop, hop, from, load, lit, of-opd, bin, no-more, first, blocks, land, returns, exec, Below}
-use Rattle.walks.proofs.Names.{again, loops, FmC, fmOf, owns, pointee, Is, shows, uint-makes, uint-vals, uint-tells, uint-lawful, u8, usize, RefT}
-use Rattle.walks.proofs.Names.{sliceVal, sliceTy, ShrSlice, MutSlice, Room, finally, slice-vals, shr-slice-tells, mut-slice-tells, place-is, elem-out}
-use Rattle.walks.proofs.Names.{elem-back, looks-slice, shuts-slice, owned, heard, nothing, plain, yes, onEntry, tripleOf, Contract, Triple, Lasts}
-use Rattle.walks.proofs.Names.{lasts, cited, says, Stays, stay-none-slice, stay-slice, walkOf, goes-none-slice, goes-slice, ends-at}
+use Rattle.walks.proofs.Names.{fullShare, Ty, named, erased, imm, mut, w8, w64, tyInt, tyRef, Val, vint, vptr, SProp, ent, emp, sep, via, fst∗, id⊢}
+use Rattle.walks.proofs.Names.{Lft, Share, GName, Fml, ftrue, flft, Memory, Routine, Heap, Out, Env, afterSeq, afterBlock, Calls, Loops, Wp, atReturn}
+use Rattle.walks.proofs.Names.{WpFn, Tables, Atoms, sem, Fun, givenOf, let-go, Given, Item, ‵, raw, _⊛_, ⋆, runs, anyQ, atRet, Sq, _$_, _∵_, !, qed}
+use Rattle.walks.proofs.Names.{by, move, keep, use0, split, join, rewrite, fsplit, fjoin, suffices, frame, done, look, look-raw, store, forget, stop}
+use Rattle.walks.proofs.Names.{hop, from, load, lit, of-opd, bin, no-more, first, blocks, land, returns, exec, Below, again, loops, FmC, fmOf, owns}
+use Rattle.walks.proofs.Names.{pointee, Is, shows, uint-makes, uint-vals, uint-tells, uint-lawful, u8, usize, RefT, sliceVal, sliceTy, ShrSlice}
+use Rattle.walks.proofs.Names.{MutSlice, Room, finally, slice-vals, shr-slice-tells, mut-slice-tells, place-is, elem-out, elem-back, looks-slice}
+use Rattle.walks.proofs.Names.{shuts-slice, owned, nothing, plain, yes, onEntry, tripleOf, Contract, Triple, cited, says, Stays, stay-none-slice}
+use Rattle.walks.proofs.Names.{stay-slice, walkOf, goes-none-slice, goes-slice, ends-at}
 use native.Mathlib.Nat.{le-antisymm}
 use native.Mathlib.Numerals.{add-one}
 use native.Mathlib.Omega.{arith}
@@ -26,10 +26,11 @@ use Rattle.base.specs.declared.Unit.{Unit as UnitRecord}
 use Rattle.base.proofs.Unit as U
 use Rattle.base.proofs.Unit.Laws as U′
 use Rattle.walks.proofs.Body.{𝓣of, tests, proved-by}
-use Rattle.walks.proofs.Calls.{calls-value, gave-some}
-use Rattle.walks.proofs.Lent.{calls-lent}
+use Rattle.walks.proofs.Calls.{calls-value, gave-one}
+use Rattle.walks.proofs.Lent.{calls-lent, Beside, back-beside}
 use Rattle.walks.proofs.Frame.{empty, full, Blocks, envOf, laid, enters, clears, leaves}
-use Rattle.walks.proofs.Steps.{var, arg, part, sets, resets, resets-last, lands-in, recasts, behind, resliced, in64, sliced, beside, copies}
+use Rattle.walks.proofs.Steps.{var, arg, part, sets, resets, resets-last, lands-in, recasts, behind, resliced, in64, sliced, beside, copies, past}
+use Rattle.walks.proofs.Steps.{front}
 use Rattle.shortest.specs.Offence.{noRecord}
 use Rattle.check_list.specs.Turn.{begun, turnOf, roomAfter, quickUntil, lookedAt}
 use Rattle.check_list.specs.declared.Progress.{Progress}
@@ -201,18 +202,6 @@ module _ {M : Type 1} (𝓤 : URA M) (H : Heap 𝓤) (A : Atoms 𝓤) (W : Given
       beside ! U.the-row (LL.makes U.the-type U′.the-plain 𝓤 H A) (unit i) _ is-u $
       beside ! P.the-row (EL.makes P.the-type P′.the-plain 𝓤 H A) (at i) _ is-p $ move ! (1 ∷ 0 ∷ []) $ join ! $ frame ! $ done !
 
-  back-turn : (ν : ℕ) → ent 𝓤 (sep 𝓤 (A .lft κ₁ q₁) (sep 𝓤 (A .lft (ν ∷ []) fullShare) (emp 𝓤))) (sep 𝓤 (A .lft κ₁ q₁) (A .lft (ν ∷ []) fullShare))
-  back-turn ν = qed W (‵ (flft κ₁ q₁) ∷ (‵ (flft (ν ∷ []) fullShare) ⊛ ‵ ftrue) ∷ []) ∵ move ! (1 ∷ []) $ split ! $ keep ! (2 ∷ 0 ∷ []) $ done !
-
-  gives-turn : (i : ℕ) (w : List ℕ) (ν : ℕ) (δ : GName) (r : Progress) (ws : Lasts turn.ended (κ₁, (ν ∷ [], tt)) (at i, (unit i, (i, (t, (x δ w, tt))))))
-      → ent 𝓤 (sep 𝓤 (sem 𝓤 H A (lasts turn.ended (κ₁, (ν ∷ [], tt)) (at i, (unit i, (i, (t, (x δ w, tt))))) ws)) (fact 𝓤 ((r ≡ next i) × Left i w (ws .1 .1 .1 .1 .0))))
-      (ex 𝓤 (λ (l : List ℕ). guard 𝓤 ((r ≡ next i) × Left i w l) (sem 𝓤 H A (finally u8 δ l))))
-  gives-turn i w ν δ r ws =
-      qed W (‵ (lasts turn.ended (κ₁, (ν ∷ [], tt)) (at i, (unit i, (i, (t, (x δ w, tt))))) ws) ∷ raw (fact 𝓤 ((r ≡ next i) × Left i w (ws .1 .1 .1 .1 .0))) ∷ []) ∵
-      move ! (1 ∷ []) $ heard ! ((r ≡ next i) × Left i w (ws .1 .1 .1 .1 .0)) (λ e.
-      fsplit ! $ move ! (1 ∷ []) $ fsplit ! $ move ! (1 ∷ []) $ fsplit ! $ move ! (1 ∷ []) $ fsplit ! $ move ! (1 ∷ []) $ fsplit ! $ fsplit ! $ keep ! (0 ∷ []) $
-      show ! (λ (l : List ℕ). guard 𝓤 ((r ≡ next i) × Left i w l) (sem 𝓤 H A (finally u8 δ l))) (ws .1 .1 .1 .1 .0) $ check ! e $ done !)
-
   -- where the next turn begins, after record i and the records that then pass quickly, and the room then
   abbrev fin : ℕ → ℕ
   fin i = quickEnd (at (suc i)) us (suc i) n
@@ -232,18 +221,6 @@ module _ {M : Type 1} (𝓤 : URA M) (H : Heap 𝓤) (A : Atoms 𝓤) (W : Given
       -- [what the units own; the room]
       nothing ! $ move ! (2 ∷ 0 ∷ []) $ fjoin ! $ beside ! usize (uint-makes 𝓤 H A W w64) n _ (refl, n-fits) $ beside ! usize (uint-makes 𝓤 H A W w64) (suc i) _ (refl, omega (arith, less, n-fits)) $
       move ! (1 ∷ 0 ∷ []) $ fjoin ! $ owned ! P.the-row (Is P.the-row) (EL.makes P.the-type P′.the-plain 𝓤 H A) (at (suc i)) _ is-p $ fjoin ! $ done !
-
-  back-quickly : (ν : ℕ) → ent 𝓤 (sep 𝓤 (A .lft κ₀ q₀) (sep 𝓤 (A .lft (ν ∷ []) fullShare) (emp 𝓤))) (sep 𝓤 (A .lft κ₀ q₀) (A .lft (ν ∷ []) fullShare))
-  back-quickly ν = qed W (‵ (flft κ₀ q₀) ∷ (‵ (flft (ν ∷ []) fullShare) ⊛ ‵ ftrue) ∷ []) ∵ move ! (1 ∷ []) $ split ! $ keep ! (2 ∷ 0 ∷ []) $ done !
-
-  gives-quickly : (i : ℕ) (w : List ℕ) (ν : ℕ) (δ : GName) (r : ℕ) (ws : Lasts quickly.ended (κ₀, (ν ∷ [], tt)) (at (suc i), (s, (suc i, (n, (x δ w, tt))))))
-      → ent 𝓤 (sep 𝓤 (sem 𝓤 H A (lasts quickly.ended (κ₀, (ν ∷ [], tt)) (at (suc i), (s, (suc i, (n, (x δ w, tt))))) ws)) (fact 𝓤 ((r ≡ fin i) × Kept i w (ws .1 .1 .1 .1 .0))))
-      (ex 𝓤 (λ (l : List ℕ). guard 𝓤 ((r ≡ fin i) × Kept i w l) (sem 𝓤 H A (finally u8 δ l))))
-  gives-quickly i w ν δ r ws =
-      qed W (‵ (lasts quickly.ended (κ₀, (ν ∷ [], tt)) (at (suc i), (s, (suc i, (n, (x δ w, tt))))) ws) ∷ raw (fact 𝓤 ((r ≡ fin i) × Kept i w (ws .1 .1 .1 .1 .0))) ∷ []) ∵
-      move ! (1 ∷ []) $ heard ! ((r ≡ fin i) × Kept i w (ws .1 .1 .1 .1 .0)) (λ e.
-      fsplit ! $ move ! (1 ∷ []) $ fsplit ! $ move ! (1 ∷ []) $ fsplit ! $ move ! (1 ∷ []) $ fsplit ! $ move ! (1 ∷ []) $ fsplit ! $ fsplit ! $ keep ! (0 ∷ []) $
-      show ! (λ (l : List ℕ). guard 𝓤 ((r ≡ fin i) × Kept i w l) (sem 𝓤 H A (finally u8 δ l))) (ws .1 .1 .1 .1 .0) $ check ! e $ done !)
 
   -- ---- the loop: its variant is a turn's number, the room, and what is known of them
   abbrev Going : Type 0
@@ -329,8 +306,9 @@ module _ {M : Type 1} (𝓤 : URA M) (H : Heap 𝓤) (A : Atoms 𝓤) (W : Given
         move ! (3 ∷ []) $ copies ! (named 1) κ₁ u8 t (vt ∷ []) $ move ! (4 ∷ 0 ∷ []) $ join ! $ move ! (0 ∷ 4 ∷ 5 ∷ []) $
         calls-lent ! fm (Turn 𝓤 H A at-mem run) known-turn u8 κ₂ q₂ (named 2) γ b o (length ys) (g .1 .0) room (g .1 .1 .1 .0 .same)
         (to-turn (g .0) (g .1 .0)) (‵ (flft κ₁ q₁) ⊛ ‵ Segments) (‵ (flft κ₁ q₁)) (mach (next (g .0))) (Left (g .0) (g .1 .0)) (λ l e. ap length e ∙ length-room (next (g .0)) (unit (g .0)) (g .0) (g .1 .0) ∙ g .1 .1 .1 .0 .same)
-        (λ ν. sep 𝓤 (A .lft κ₁ q₁) (sep 𝓤 (A .lft (ν ∷ []) fullShare) (emp 𝓤))) back-turn (asks-turn (g .0) (g .1 .0) (omega (arith, next-fits (g .0) less)) (g .1 .1 .1 .1) is-u) (IsP (next (g .0)))
-        (λ ν δ u. gave-some 𝓤 H A W turn.ended (turn.clauses 𝓤 H A at-mem run) (to-turn (g .0) (g .1 .0) ν δ) (next (g .0)) (Left (g .0) (g .1 .0)) (λ l. finally u8 δ l) (gives-turn (g .0) (g .1 .0) ν δ) (EL.vals P.the-type P′.the-laws) (EL.tells P.the-type P′.the-laws) u)
+        (Beside W κ₁ q₁) (back-beside W κ₁ q₁) (asks-turn (g .0) (g .1 .0) (omega (arith, next-fits (g .0) less)) (g .1 .1 .1 .1) is-u) (IsP (next (g .0)))
+        (λ ν δ u. gave-one 𝓤 H A W turn.ended (turn.clauses 𝓤 H A at-mem run) (to-turn (g .0) (g .1 .0) ν δ) (next (g .0)) (Left (g .0) (g .1 .0)) (finally u8 δ) (λ ws. ws .1 .1 .1 .1 .0) (λ r ws. id⊢ 𝓤 _)
+        (λ ws. past ! $ past ! $ past ! $ past ! $ front ! $ front ! $ done !) (EL.vals P.the-type P′.the-laws) (EL.tells P.the-type P′.the-laws) u)
         (λ ν δ. arg ! 27 refl (arg ! 13 refl (arg ! 25 refl (arg ! 33 refl (arg ! 9 refl (no-more !)))))) (λ l is e.
         -- [the token of the segments; the room; its token; what the segments own; the token of the units; what they own; the locals]
         rewrite ! 1 (λ (w : List ℕ). ‵ (Work w)) e refl $ land ! (from ! (stop !)) (store ! 28 refl (EL.lawful P.the-type P′.the-laws 𝓤 H A W tt .typed (next (g .0)) _ is .0)) $
@@ -344,8 +322,9 @@ module _ {M : Type 1} (𝓤 : URA M) (H : Heap 𝓤) (A : Atoms 𝓤) (W : Given
         move ! (5 ∷ []) $ copies ! (named 0) κ₀ U.the-row s (vs ∷ []) $ move ! (6 ∷ 0 ∷ []) $ join ! $ move ! (0 ∷ 3 ∷ 4 ∷ []) $
         calls-lent ! fm (Quickly 𝓤 H A at-mem run) known-quickly u8 κ₂ q₂ (named 2) γ b o (length ys) (turned g) room (length-room (next (g .0)) (unit (g .0)) (g .0) (g .1 .0) ∙ g .1 .1 .1 .0 .same)
         (to-quickly (g .0) (turned g)) (‵ (flft κ₀ q₀) ⊛ ‵ Units) (‵ (flft κ₀ q₀)) (vint w64 (fin (g .0))) (Kept (g .0) (turned g)) (λ l k. k .same ∙ length-room (next (g .0)) (unit (g .0)) (g .0) (g .1 .0) ∙ g .1 .1 .1 .0 .same)
-        (λ ν. sep 𝓤 (A .lft κ₀ q₀) (sep 𝓤 (A .lft (ν ∷ []) fullShare) (emp 𝓤))) back-quickly (asks-quickly (g .0) (turned g) (ltb→lt (g .0) n less) (subst IsP (reached-next os us (g .0)) is)) _
-        (λ ν δ u. gave-some 𝓤 H A W quickly.ended (quickly.clauses 𝓤 H A at-mem run) (to-quickly (g .0) (turned g) ν δ) (fin (g .0)) (Kept (g .0) (turned g)) (λ l. finally u8 δ l) (gives-quickly (g .0) (turned g) ν δ) (uint-vals w64) (uint-tells w64) u)
+        (Beside W κ₀ q₀) (back-beside W κ₀ q₀) (asks-quickly (g .0) (turned g) (ltb→lt (g .0) n less) (subst IsP (reached-next os us (g .0)) is)) _
+        (λ ν δ u. gave-one 𝓤 H A W quickly.ended (quickly.clauses 𝓤 H A at-mem run) (to-quickly (g .0) (turned g) ν δ) (fin (g .0)) (Kept (g .0) (turned g)) (finally u8 δ) (λ ws. ws .1 .1 .1 .1 .0) (λ r ws. id⊢ 𝓤 _)
+        (λ ws. past ! $ past ! $ past ! $ past ! $ front ! $ front ! $ done !) (uint-vals w64) (uint-tells w64) u)
         (λ ν δ. arg ! 27 refl (arg ! 35 refl (arg ! 17 refl (arg ! 29 refl (arg ! 5 refl (no-more !)))))) (λ l′ is-fin k.
         -- [the token of the units; the room; its token; what the units own; the token of the segments; what they own; the locals]
         lands-in ! 24 refl (uint-lawful 𝓤 H A W w64 .typed (fin (g .0)) _ is-fin .0) $

@@ -2,17 +2,16 @@
 -- the list, and the work room is lent to `quick_turn`, which says whether the quick check lets the record through and puts it into its row.
 -- Where it does, the next record has its turn; where it does not, the end is set to this place, and the loop is left. Of the functions that
 -- it calls the proof knows their contracts alone. Assumes nothing.
-use Rattle.walks.proofs.Names.{_≡_, refl, sym, _∙_, ap, subst, ℕ, suc, _+_, _-_, _*_, _≤_, _<_, _^_, Bool, true, false, [], _∷_, List, length, getD}
-use Rattle.walks.proofs.Names.{URA, fullShare, Ty, named, erased, imm, mut, w8, w64, tyInt, tyRef, Val, vint, vptr, SProp, ent, emp, sep, ex, guard}
-use Rattle.walks.proofs.Names.{id⊢, Lft, Share, GName, Fml, ftrue, flft, Memory, Routine, Heap, Out, Env, afterSeq, afterBlock, Calls, Loops, Wp}
-use Rattle.walks.proofs.Names.{atReturn, WpFn, Tables, Atoms, sem, Fun, fact, givenOf, let-go, Given, Item, ‵, raw, _⊛_, ⋆, runs, anyQ, atRet, Sq}
-use Rattle.walks.proofs.Names.{_$_, _∵_, !, qed, by, move, keep, use0, split, join, rewrite, fsplit, fjoin, check, show, suffices, frame, done, look}
-use Rattle.walks.proofs.Names.{look-raw, stop, hop, from, load, lit, of-opd, bin, no-more, first, blocks, branches, returns, exec, Below, again}
-use Rattle.walks.proofs.Names.{loops, FmC, fmOf, owns, pointee, Is, shows, bool-vals, bool-tells, uint-makes, uint-vals, uint-tells, uint-lawful, u8}
-use Rattle.walks.proofs.Names.{usize, RefT, sliceVal, sliceTy, ShrSlice, MutSlice, Room, finally, slice-vals, shr-slice-tells, mut-slice-tells}
-use Rattle.walks.proofs.Names.{place-is, elem-out, elem-back, looks-slice, shuts-slice, owned, heard, nothing, plain, yes, onEntry, tripleOf}
-use Rattle.walks.proofs.Names.{Contract, Triple, Lasts, lasts, cited, says, needs, Stays, stay-none, stay-none-slice, stay-slice, walkOf, goes-none}
-use Rattle.walks.proofs.Names.{goes-none-slice, goes-slice, ends-at}
+use Rattle.walks.proofs.Names.{_≡_, refl, sym, _∙_, ap, subst, ℕ, suc, _+_, _-_, _*_, _≤_, _<_, _^_, true, false, [], _∷_, List, length, getD, URA}
+use Rattle.walks.proofs.Names.{fullShare, Ty, named, erased, imm, mut, w8, w64, tyInt, tyRef, Val, vint, vptr, SProp, ent, emp, sep, id⊢, Lft, Share}
+use Rattle.walks.proofs.Names.{GName, Fml, ftrue, flft, Memory, Routine, Heap, Out, Env, afterSeq, afterBlock, Calls, Loops, Wp, atReturn, WpFn}
+use Rattle.walks.proofs.Names.{Tables, Atoms, sem, Fun, givenOf, let-go, Given, Item, ‵, raw, _⊛_, ⋆, runs, anyQ, atRet, Sq, _$_, _∵_, !, qed, by}
+use Rattle.walks.proofs.Names.{move, keep, use0, split, join, rewrite, fsplit, fjoin, suffices, frame, done, look, look-raw, stop, hop, from, load}
+use Rattle.walks.proofs.Names.{lit, of-opd, bin, no-more, first, blocks, branches, returns, exec, Below, again, loops, FmC, fmOf, owns, pointee, Is}
+use Rattle.walks.proofs.Names.{shows, bool-vals, bool-tells, uint-makes, uint-vals, uint-tells, uint-lawful, u8, usize, RefT, sliceVal, sliceTy}
+use Rattle.walks.proofs.Names.{ShrSlice, MutSlice, Room, finally, slice-vals, shr-slice-tells, mut-slice-tells, place-is, elem-out, elem-back}
+use Rattle.walks.proofs.Names.{looks-slice, shuts-slice, owned, nothing, plain, yes, onEntry, tripleOf, Contract, Triple, cited, says, needs, Stays}
+use Rattle.walks.proofs.Names.{stay-none, stay-none-slice, stay-slice, walkOf, goes-none, goes-none-slice, goes-slice, ends-at}
 use native.Mathlib.Numerals.{add-one}
 use native.Mathlib.Omega.{arith}
 use mathlib.Core.WellFounded.{WellFounded, InvImage·wf}
@@ -27,10 +26,10 @@ use Rattle.base.specs.declared.Unit.{Unit as UnitRecord}
 use Rattle.base.proofs.Unit as U
 use Rattle.base.proofs.Unit.Laws as U′
 use Rattle.walks.proofs.Body.{𝓣of, tests, holds, fails, proved-by}
-use Rattle.walks.proofs.Calls.{calls-value, gave-some}
-use Rattle.walks.proofs.Lent.{calls-lent}
+use Rattle.walks.proofs.Calls.{calls-value, gave-one}
+use Rattle.walks.proofs.Lent.{calls-lent, Alone, back-alone}
 use Rattle.walks.proofs.Frame.{empty, full, Blocks, envOf, laid, enters, clears, leaves}
-use Rattle.walks.proofs.Steps.{var, arg, part, sets, resets-last, lands-in, recasts, behind, resliced, in64, sliced, beside, copies}
+use Rattle.walks.proofs.Steps.{var, arg, part, sets, resets-last, lands-in, recasts, behind, resliced, in64, sliced, beside, copies, past, front}
 use Rattle.shortest.specs.Offence.{noRecord}
 use Rattle.rows.specs.Rows.{withRecord}
 use Rattle.check_list.specs.Plain.{plainOf}
@@ -177,18 +176,6 @@ module _ {M : Type 1} (𝓤 : URA M) (H : Heap 𝓤) (A : Atoms 𝓤) (W : Given
       nothing ! $ move ! (2 ∷ 0 ∷ []) $ fjoin ! $ beside ! usize (uint-makes 𝓤 H A W w64) i _ (refl, fits) $
       beside ! U.the-row (LL.makes U.the-type U′.the-plain 𝓤 H A) (unit i) _ is-u $ move ! (1 ∷ 0 ∷ []) $ join ! $ frame ! $ done !
 
-  back-turn : (ν : ℕ) → ent 𝓤 (sep 𝓤 (A .lft (ν ∷ []) fullShare) (emp 𝓤)) (sep 𝓤 (emp 𝓤) (A .lft (ν ∷ []) fullShare))
-  back-turn ν = qed W ((‵ (flft (ν ∷ []) fullShare) ⊛ ‵ ftrue) ∷ []) ∵ split ! $ keep ! (1 ∷ 0 ∷ []) $ done !
-
-  gives-turn : (i : ℕ) (w : List ℕ) (ν : ℕ) (δ : GName) (r : Bool) (ws : Lasts quick-turn.ended (ν ∷ [], tt) (unit i, (i, (x δ w, tt))))
-      → ent 𝓤 (sep 𝓤 (sem 𝓤 H A (lasts quick-turn.ended (ν ∷ [], tt) (unit i, (i, (x δ w, tt))) ws)) (fact 𝓤 ((r ≡ plainOf (unit i)) × (ws .1 .1 .0 ≡ left i w))))
-      (ex 𝓤 (λ (l : List ℕ). guard 𝓤 ((r ≡ plainOf (unit i)) × (l ≡ left i w)) (sem 𝓤 H A (finally u8 δ l))))
-  gives-turn i w ν δ r ws =
-      qed W (‵ (lasts quick-turn.ended (ν ∷ [], tt) (unit i, (i, (x δ w, tt))) ws) ∷ raw (fact 𝓤 ((r ≡ plainOf (unit i)) × (ws .1 .1 .0 ≡ left i w))) ∷ []) ∵
-      move ! (1 ∷ []) $ heard ! ((r ≡ plainOf (unit i)) × (ws .1 .1 .0 ≡ left i w)) (λ e.
-      fsplit ! $ move ! (1 ∷ []) $ fsplit ! $ move ! (1 ∷ []) $ fsplit ! $ fsplit ! $ keep ! (0 ∷ []) $
-      show ! (λ (l : List ℕ). guard 𝓤 ((r ≡ plainOf (unit i)) × (l ≡ left i w)) (sem 𝓤 H A (finally u8 δ l))) (ws .1 .1 .0) $ check ! e $ done !)
-
   -- ---- the loop: its variant is a turn's number, the end, the room, and what is known of them
   record Known (i end : ℕ) (w : List ℕ) : Type 0 where
     most : end ≤ n
@@ -308,8 +295,9 @@ module _ {M : Type 1} (𝓤 : URA M) (H : Heap 𝓤) (A : Atoms 𝓤) (W : Given
         nothing ! $ move ! (0 ∷ 3 ∷ 4 ∷ []) $
         calls-lent ! fm (QuickTurn 𝓤 H A at-mem run) known-turn u8 κ₁ q₁ (named 1) γ b o (length ys) (got g) room (known g .passed .same)
         (to-turn (g .0) (got g)) (‵ ftrue) (‵ ftrue) _ (λ l. l ≡ left (g .0) (got g)) (λ l e. ap length e ∙ length-quick (plainOf (unit (g .0))) (unit (g .0)) (g .0) (got g) ∙ known g .passed .same)
-        (λ ν. sep 𝓤 (A .lft (ν ∷ []) fullShare) (emp 𝓤)) back-turn (asks-turn (g .0) (got g) (known g .fits) is-u) _
-        (λ ν δ u. gave-some 𝓤 H A W quick-turn.ended (quick-turn.clauses 𝓤 H A at-mem run) (to-turn (g .0) (got g) ν δ) (plainOf (unit (g .0))) (λ l. l ≡ left (g .0) (got g)) (λ l. finally u8 δ l) (gives-turn (g .0) (got g) ν δ) bool-vals bool-tells u)
+        (Alone W) (back-alone W) (asks-turn (g .0) (got g) (known g .fits) is-u) _
+        (λ ν δ u. gave-one 𝓤 H A W quick-turn.ended (quick-turn.clauses 𝓤 H A at-mem run) (to-turn (g .0) (got g) ν δ) (plainOf (unit (g .0))) (λ l. l ≡ left (g .0) (got g)) (finally u8 δ) (λ ws. ws .1 .1 .0) (λ r ws. id⊢ 𝓤 _)
+        (λ ws. past ! $ past ! $ front ! $ front ! $ done !) bool-vals bool-tells u)
         (λ ν δ. arg ! 8 refl (arg ! 18 refl (arg ! 4 refl (no-more !)))) (λ l is e.
         -- [nothing; the room; its token; the token of the units; what they own; the locals]
         let-go ! $ rewrite ! 0 (λ (w : List ℕ). ‵ (Work w)) e refl $ lands-in ! 14 refl (tt, tt) $

@@ -17,10 +17,10 @@ use Rattle.base.proofs.Answer as N
 use Rattle.base.proofs.Answer.Laws as N′
 use Rattle.base.proofs.Unit as U
 use Rattle.walks.proofs.Body.{𝓣of, proved-by}
-use Rattle.walks.proofs.Calls.{calls-ends, gave-some}
-use Rattle.walks.proofs.Lent.{calls-lent}
+use Rattle.walks.proofs.Calls.{calls-ends, gave-one}
+use Rattle.walks.proofs.Lent.{calls-lent, Beside, back-beside}
 use Rattle.walks.proofs.Frame.{enters, leaves}
-use Rattle.walks.proofs.Steps.{arg, part, sets, lands-in, behind, resliced, in64, sliced, beside, copies}
+use Rattle.walks.proofs.Steps.{arg, part, sets, lands-in, behind, resliced, in64, sliced, beside, copies, past, front}
 use Rattle.shortest.specs.Records.{writerAnswer, writerOutput}
 use Rattle.check_list.specs.Turn.{lookedAt}
 use Rattle.check_list.specs.declared.Progress.{Progress}
@@ -159,15 +159,13 @@ module _ {M : Type 1} (𝓤 : URA M) (H : Heap 𝓤) (A : Atoms 𝓤) (W : Given
       nothing ! $ move ! (5 ∷ 0 ∷ []) $ join ! $ move ! (1 ∷ 0 ∷ []) $ join ! $ move ! (2 ∷ 0 ∷ []) $ join ! $
       nothing ! $ move ! (4 ∷ 0 ∷ []) $ fjoin ! $ move ! (2 ∷ 0 ∷ []) $ fjoin ! $ move ! (2 ∷ 0 ∷ []) $ fjoin ! $ move ! (1 ∷ 0 ∷ []) $ join ! $ frame ! $ done !
 
-  back-stow : (ν : ℕ) → ent 𝓤 (sep 𝓤 (A .lft κ₀ q₀) (sep 𝓤 (A .lft κ₁ q₁) (sep 𝓤 (A .lft (ν ∷ []) fullShare) (emp 𝓤)))) (sep 𝓤 (sep 𝓤 (A .lft κ₀ q₀) (A .lft κ₁ q₁)) (A .lft (ν ∷ []) fullShare))
-  back-stow ν =
-      qed W (‵ (flft κ₀ q₀) ∷ (‵ (flft κ₁ q₁) ⊛ (‵ (flft (ν ∷ []) fullShare) ⊛ ‵ ftrue)) ∷ []) ∵ move ! (1 ∷ []) $ split ! $ move ! (1 ∷ []) $ split ! $ keep ! (3 ∷ 2 ∷ 0 ∷ []) $ join ! $ done !
+  abbrev Back : ℕ → SProp 𝓤
+  Back ν = sep 𝓤 (A .lft κ₀ q₀) (Beside W κ₁ q₁ ν)
 
-  gives-stow : (ν : ℕ) (δ : GName) (m : Progress) (ws : Lasts stow.ended (κ₀, (κ₁, (ν ∷ [], tt))) (s, (t, (x δ ys, tt))))
-      → ent 𝓤 (sep 𝓤 (sem 𝓤 H A (lasts stow.ended (κ₀, (κ₁, (ν ∷ [], tt))) (s, (t, (x δ ys, tt))) ws)) (fact 𝓤 ((m ≡ p) × Kept (ws .1 .1 .0)))) (ex 𝓤 (λ (l : List ℕ). guard 𝓤 ((m ≡ p) × Kept l) (sem 𝓤 H A (finally u8 δ l))))
-  gives-stow ν δ m ws =
-      qed W (‵ (lasts stow.ended (κ₀, (κ₁, (ν ∷ [], tt))) (s, (t, (x δ ys, tt))) ws) ∷ raw (fact 𝓤 ((m ≡ p) × Kept (ws .1 .1 .0))) ∷ []) ∵ move ! (1 ∷ []) $ heard ! ((m ≡ p) × Kept (ws .1 .1 .0)) (λ e.
-      fsplit ! $ move ! (1 ∷ []) $ fsplit ! $ move ! (1 ∷ []) $ fsplit ! $ fsplit ! $ keep ! (0 ∷ []) $ show ! (λ (l : List ℕ). guard 𝓤 ((m ≡ p) × Kept l) (sem 𝓤 H A (finally u8 δ l))) (ws .1 .1 .0) $ check ! e $ done !)
+  back-stow : (ν : ℕ) → ent 𝓤 (Back ν) (sep 𝓤 (sep 𝓤 (A .lft κ₀ q₀) (A .lft κ₁ q₁)) (A .lft (ν ∷ []) fullShare))
+  back-stow ν =
+      qed W (‵ (flft κ₀ q₀) ∷ raw (Beside W κ₁ q₁ ν) ∷ []) ∵ move ! (1 ∷ []) $
+      use1 W (‵ (flft κ₁ q₁) ⊛ ‵ (flft (ν ∷ []) fullShare)) (back-beside W κ₁ q₁ ν) $ split ! $ move ! (2 ∷ 0 ∷ []) $ join ! $ done !
 
   -- ---- `finish`
   abbrev to-finish : List ℕ → Finish 𝓤 H A at-mem run .Ghost
@@ -207,8 +205,9 @@ module _ {M : Type 1} (𝓤 : URA M) (H : Heap 𝓤) (A : Atoms 𝓤) (W : Given
         move ! (29 ∷ []) $ copies ! (named 1) κ₁ u8 t (vt ∷ []) $ move ! (30 ∷ 0 ∷ []) $ join ! $ move ! (2 ∷ 0 ∷ []) $ join ! $ move ! (0 ∷ 29 ∷ 30 ∷ []) $
         -- [what goes to `stow`; the room; its token; what the segments own; what the units own; the locals; the output; its token]
         calls-lent ! fm (Stow 𝓤 H A at-mem run) known-stow u8 κ₂ q₂ (named 2) γ b o (length ys) ys room refl to-stow ((‵ (flft κ₀ q₀) ⊛ ‵ Units) ⊛ (‵ (flft κ₁ q₁) ⊛ ‵ Segments)) (‵ (flft κ₀ q₀) ⊛ ‵ (flft κ₁ q₁)) (mach p) Kept (λ l st. st .same)
-        (λ ν. sep 𝓤 (A .lft κ₀ q₀) (sep 𝓤 (A .lft κ₁ q₁) (sep 𝓤 (A .lft (ν ∷ []) fullShare) (emp 𝓤)))) back-stow asks-stow IsP
-        (λ ν δ u. gave-some 𝓤 H A W stow.ended (stow.clauses 𝓤 H A at-mem run) (to-stow ν δ) p Kept (λ l. finally u8 δ l) (gives-stow ν δ) (EL.vals P.the-type P′.the-laws) (EL.tells P.the-type P′.the-laws) u)
+        Back back-stow asks-stow IsP
+        (λ ν δ u. gave-one 𝓤 H A W stow.ended (stow.clauses 𝓤 H A at-mem run) (to-stow ν δ) p Kept (finally u8 δ) (λ ws. ws .1 .1 .0) (λ r ws. id⊢ 𝓤 _)
+        (λ ws. past ! $ past ! $ front ! $ front ! $ done !) (EL.vals P.the-type P′.the-laws) (EL.tells P.the-type P′.the-laws) u)
         (λ ν δ. arg ! 26 refl (arg ! 24 refl (arg ! 14 refl (no-more !)))) (λ w is st.
         -- [the tokens; the room; its token; what the segments own; what the units own; the locals; the output; its token]
         lands-in ! 19 refl (EL.lawful P.the-type P′.the-laws 𝓤 H A W tt .typed p _ is .0) $
