@@ -16,7 +16,7 @@ pub use prog.Wp.{Heap, Out, Env, afterSeq, afterBlock, Calls, Loops, Wp, atRetur
 pub use ghost.Atoms.{Atoms, sem}
 pub use contract.Monad.{Fun, fact}
 pub use contract.Running.{givenOf, tables}
-pub use types.Kit.{drop as let-go, Given, Item, ‵, raw, given, some, later, _⊛_, ⋆, runs, anyQ, atRet, Sq, _$_, _∵_, !, qed, by, move, keep, use0, use1, use2, use3, split, join, pick, learn, rewrite, fsplit, fsplit3, fjoin, fjoin3, feqL, feqI, check, show, suffices, frame, await, done}
+pub use types.Kit.{drop as let-go, Given, Item, ‵, raw, given, some, later, _⊛_, ⋆, prop, runs, anyQ, atRet, Sq, _$_, _∵_, !, qed, by, move, keep, use0, use1, use2, use3, split, join, pick, learn, rewrite, fsplit, fsplit3, fjoin, fjoin3, feqL, feqI, check, show, suffices, frame, await, done}
 pub use types.Run.{look, look-raw, init, store, store-raw, forget, stop, hop, fld, from, load, lit, unit-lit, true-lit, false-lit, of-opd, bin, un, addr, and-then, no-more, assigns, assigns-last, first, blocks, branches, skips, jumps, land, returns, returns-within, enter, alloc1, alloc0, params1, pass1, pass0, exec, Below, again, loops}
 pub use types.Part.{agg, rep, whole, sub, look-in, store-in}
 pub use types.SemTy.{Body, cells, Arr}

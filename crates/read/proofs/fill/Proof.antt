@@ -3,16 +3,15 @@
 -- list. Of the functions that it calls the proof knows their contracts alone.
 -- Assumes nothing.
 use Rattle.walks.proofs.Names.{_≡_, refl, sym, _∙_, ap, subst, ℕ, suc, _+_, _-_, _*_, _≤_, _<_, _^_, true, false, [], _∷_, List, length, set, URA}
-use Rattle.walks.proofs.Names.{fullShare, Ty, named, imm, mut, w8, w64, tyInt, tyRef, Val, vint, vptr, SProp, ent, id⊢, Lft, Share, GName, Fml, ftrue}
-use Rattle.walks.proofs.Names.{flft, fobs, fauth, fbor, fobor, Memory, Routine, Heap, Out, Env, afterSeq, afterBlock, Calls, Loops, Wp, atReturn}
-use Rattle.walks.proofs.Names.{WpFn, Tables, Atoms, Fun, givenOf, Given, Item, ‵, raw, _⊛_, ⋆, runs, anyQ, atRet, Sq, _$_, _∵_, !, qed, by, move}
-use Rattle.walks.proofs.Names.{keep, let-go, use1, use2, split, join, fsplit, fjoin, suffices, frame, done, look, store-raw, stop, hop, from, lit}
-use Rattle.walks.proofs.Names.{of-opd, bin, no-more, assigns, first as begins, blocks, branches, returns, returns-within, exec, Below, again, loops}
-use Rattle.walks.proofs.Names.{FmC, fmOf, owns, pointee, pureI, Is, shows, bool-vals, bool-tells, uint-makes, uint-vals, uint-tells, u8, usize, RefT}
-use Rattle.walks.proofs.Names.{sliceVal, sliceTy, ShrSlice, MutSlice, Room, heres, codedHoleys, at-slice, slice-vals, shr-slice-tells}
-use Rattle.walks.proofs.Names.{mut-slice-tells, Held, row, place-is, elem-out, elem-put, opens-slice, closes-slice, owned, nothing, plain, onEntry}
-use Rattle.walks.proofs.Names.{tripleOf, Contract, Triple, cited, says, needs, Stays, stay-none, stay-none-slice, stay-slice, walkOf, goes-none}
-use Rattle.walks.proofs.Names.{goes-none-slice, goes-slice, ends-at, yes}
+use Rattle.walks.proofs.Names.{fullShare, named, w64, Val, vint, vptr, SProp, ent, id⊢, Lft, Share, GName, Fml, ftrue, flft, fobs, fauth, fbor, fobor}
+use Rattle.walks.proofs.Names.{Memory, Routine, Heap, Out, Env, afterSeq, afterBlock, Calls, Loops, Wp, atReturn, WpFn, Tables, Atoms, Fun, givenOf}
+use Rattle.walks.proofs.Names.{Given, Item, ‵, raw, _⊛_, prop, runs, anyQ, atRet, Sq, _$_, _∵_, !, qed, move, keep, let-go, use1, use2, split, join}
+use Rattle.walks.proofs.Names.{fsplit, fjoin, suffices, frame, done, look, store-raw, stop, hop, from, lit, of-opd, bin, no-more, assigns}
+use Rattle.walks.proofs.Names.{first as begins, blocks, branches, returns, returns-within, exec, Below, again, loops, FmC, fmOf, owns, pureI, Is}
+use Rattle.walks.proofs.Names.{shows, bool-vals, bool-tells, uint-makes, uint-vals, uint-tells, u8, usize, RefT, sliceVal, ShrSlice, MutSlice, Room}
+use Rattle.walks.proofs.Names.{heres, codedHoleys, at-slice, slice-vals, shr-slice-tells, mut-slice-tells, Held, row, place-is, elem-out, elem-put}
+use Rattle.walks.proofs.Names.{opens-slice, closes-slice, owned, nothing, plain, onEntry, tripleOf, Contract, Triple, cited, says, needs, Stays}
+use Rattle.walks.proofs.Names.{stay-none, stay-none-slice, stay-slice, walkOf, goes-none, goes-none-slice, goes-slice, ends-at, yes}
 use native.Mathlib.Numerals.{add-one}
 use native.Mathlib.Omega.{arith}
 use mathlib.Core.WellFounded.{WellFounded, InvImage·wf}
@@ -48,30 +47,24 @@ use Rattle.read.proofs.fill.Statement as stated
 use Rattle.read.proofs.fill.Code as code
 use Rattle.read.proofs.fill.Code.Mir as M1
 
--- ---- the contracts that the proof cites
-module _ {M : Type 1} (𝓤 : URA M) (H : Heap 𝓤) (A : Atoms 𝓤) (mem : Memory → SProp 𝓤) (run : Routine → Fun 𝓤) where
-  abbrev StandsAt : Contract 𝓤
-  StandsAt = tripleOf 𝓤 H A stands-at.signature (stands-at.spec 𝓤 H A mem run)
-
-  abbrev Nth : Contract 𝓤
-  Nth = tripleOf 𝓤 H A nth.signature (nth.spec 𝓤 H A mem run)
-
 abbrev stayed : Stays (fill.ended .signature .params) (fill.ended .kept)
-stayed = (stay-none-slice (0 ∷ []) tt (plain (λ _. u8)) yes, (stay-none (λ _. R.the-row) yes, (stay-slice (1 ∷ []) tt (plain (λ _. U.the-row)), (stay-none (λ _. usize) yes, tt))))
+stayed = (
+  stay-none-slice (0 ∷ []) tt (plain (λ _. u8)) yes,
+  (stay-none (λ _. R.the-row) yes, (stay-slice (1 ∷ []) tt (plain (λ _. U.the-row)), (stay-none (λ _. usize) yes, tt))),
+)
 
-abbrev word : Ty
-word = tyInt w64
-
-abbrev bytes : Ty
-bytes = sliceTy (tyRef (named 0) imm (tyInt w8))
-
-abbrev list : Ty
-list = sliceTy (tyRef (named 1) mut (pointee (U.the-row .written)))
-
-module _ {M : Type 1} (𝓤 : URA M) (H : Heap 𝓤) (A : Atoms 𝓤) (W : Given 𝓤 H A) (at-mem : Memory → SProp 𝓤) (run : Routine → Fun 𝓤) (κ κ′ : Lft) (q q′ : Share)
+module _ {M : Type 1} (𝓤 : URA M) (H : Heap 𝓤) (A : Atoms 𝓤) (W : Given 𝓤 H A) (at-mem : Memory → SProp 𝓤) (run : Routine → Fun 𝓤)
+    (κ κ′ : Lft) (q q′ : Share)
     (s : RefT (List ℕ)) (r : Span) (b o : ℕ) (γ : GName) (ys : List UnitRecord) (start : ℕ)
     (s-fits : length (s .now) < 2 ^ 64) (is-r : Is R.the-row r (R′.lowered r ∷ [])) (room : Room U.the-row (length ys)) (start-fits : start < 2 ^ 64)
     (fits : Fits (s .now) r) (room-left : start + r .most ≤ length ys) where
+  -- the contracts that the proof cites
+  abbrev StandsAt : Contract 𝓤
+  StandsAt = tripleOf 𝓤 H A stands-at.signature (stands-at.spec 𝓤 H A at-mem run)
+
+  abbrev Nth : Contract 𝓤
+  Nth = tripleOf 𝓤 H A nth.signature (nth.spec 𝓤 H A at-mem run)
+
   abbrev xs : List ℕ
   xs = s .now
 
@@ -114,34 +107,40 @@ module _ {M : Type 1} (𝓤 : URA M) (H : Heap 𝓤) (A : Atoms 𝓤) (W : Given
   n-fits = let h : n ≤ 0 + r .most = count-most xs r (r .most) 0 in omega (arith, h, most-fits)
 
   exits : (l : List UnitRecord) → length l ≡ length ys → l ≡ last
-      → ent 𝓤 (⋆ 𝓤 H A (‵ (fobs γ (codedHoleys U.the-row .code (heres U.the-row l))) ∷ ‵ (fbor κ′ (Held U.the-row (length l) b o γ)) ∷ ‵ (flft κ′ q′) ∷ (‵ (flft κ q) ⊛ ‵ ftrue) ∷ ‵ Own ∷ [])) (Post (vint w64 n))
+      → Sq W (‵ (fobs γ (codedHoleys U.the-row .code (heres U.the-row l))) ∷ ‵ (fbor κ′ (Held U.the-row (length l) b o γ)) ∷
+      ‵ (flft κ′ q′) ∷ (‵ (flft κ q) ⊛ ‵ ftrue) ∷ ‵ Own ∷ []) (prop (Post (vint w64 n)))
   exits l same e =
-      qed W (‵ (fobs γ (codedHoleys U.the-row .code (heres U.the-row l))) ∷ ‵ (fbor κ′ (Held U.the-row (length l) b o γ)) ∷ ‵ (flft κ′ q′) ∷ (‵ (flft κ q) ⊛ ‵ ftrue) ∷ ‵ Own ∷ []) ∵
-      suffices ! _ (ends-at 𝓤 H A fill.ended stayed (fill.clauses 𝓤 H A at-mem run) W (((κ, (κ′, tt)), (q, (q′, tt)), tt, a, vals), tt) (vint w64 n) n (tt, (tt, (l, (tt, tt)))) (tt, (tt, (same, (tt, tt))))) $
+      suffices ! _ (ends-at 𝓤 H A fill.ended stayed (fill.clauses 𝓤 H A at-mem run) W (((κ, (κ′, tt)), (q, (q′, tt)), tt, a, vals), tt)
+      (vint w64 n) n (tt, (tt, (l, (tt, tt)))) (tt, (tt, (same, (tt, tt))))) $
       says ! (refl, e) $
       -- the tokens
-      move ! (3 ∷ []) $ split ! $ move ! (1 ∷ []) $ let-go ! $ move ! (3 ∷ []) $ nothing ! $ move ! (1 ∷ 0 ∷ []) $ join ! $ move ! (1 ∷ 0 ∷ []) $ join ! $ frame ! $
+      move ! (3 ∷ []) $ split ! $ move ! (1 ∷ []) $ let-go ! $ move ! (3 ∷ []) $ nothing ! $ move ! (1 ∷ 0 ∷ []) $ join ! $
+      move ! (1 ∷ 0 ∷ []) $ join ! $ frame ! $
       -- [obs; the borrow; what s owns]: what the list owns, and the span and the place beside it
-      fjoin ! $ pureI ! (at-slice U.the-row (x l) (vo ∷ [])) (tt, (tt, tt)) (ap (λ (m : ℕ). sliceVal (b, o) m ∷ []) (sym same), subst (Room U.the-row) (sym same) room) $ fjoin ! $
+      fjoin ! $ pureI ! (at-slice U.the-row (x l) (vo ∷ [])) (tt, (tt, tt)) (
+        ap (λ (m : ℕ). sliceVal (b, o) m ∷ []) (sym same),
+        subst (Room U.the-row)
+            (sym same) room,
+      ) $ fjoin ! $
       nothing ! $ beside ! usize (uint-makes 𝓤 H A W w64) start _ (refl, start-fits) $ move ! (1 ∷ 0 ∷ []) $ fjoin ! $
       beside ! R.the-row (LL.makes R.the-type R′.the-plain 𝓤 H A) r _ is-r $ move ! (1 ∷ 0 ∷ []) $ fjoin ! $
       frame ! $ owned ! usize (Is usize) (uint-makes 𝓤 H A W w64) n _ (refl, n-fits) $ done !
 
   -- ---- what the callees ask
-  abbrev to-stands : ℕ → StandsAt 𝓤 H A at-mem run .Ghost
+  abbrev to-stands : ℕ → StandsAt .Ghost
   to-stands j = (((κ, tt), (q, tt), tt, (s, (r, (j, tt))), (vs ∷ [], (R′.lowered r ∷ [], (vint w64 j ∷ [], tt)))), tt)
 
-  asks-stands : (j : ℕ) → j < r .most → ent 𝓤 (⋆ 𝓤 H A ((‵ (flft κ q) ⊛ ‵ ftrue) ∷ ‵ Own ∷ [])) (StandsAt 𝓤 H A at-mem run .pre (to-stands j))
+  asks-stands : (j : ℕ) → j < r .most → Sq W ((‵ (flft κ q) ⊛ ‵ ftrue) ∷ ‵ Own ∷ []) (prop (StandsAt .pre (to-stands j)))
   asks-stands j less =
-      qed W ((‵ (flft κ q) ⊛ ‵ ftrue) ∷ ‵ Own ∷ []) ∵ says ! (fits, less) $ frame ! $ nothing ! $ beside ! usize (uint-makes 𝓤 H A W w64) j _ (refl, omega (arith, less, most-fits)) $
+      says ! (fits, less) $ frame ! $ nothing ! $ beside ! usize (uint-makes 𝓤 H A W w64) j _ (refl, omega (arith, less, most-fits)) $
       beside ! R.the-row (LL.makes R.the-type R′.the-plain 𝓤 H A) r _ is-r $ move ! (1 ∷ 0 ∷ []) $ fjoin ! $ done !
 
-  abbrev to-nth : ℕ → Nth 𝓤 H A at-mem run .Ghost
+  abbrev to-nth : ℕ → Nth .Ghost
   to-nth j = (((κ, tt), (q, tt), tt, (s, (r, (j, tt))), (vs ∷ [], (R′.lowered r ∷ [], (vint w64 j ∷ [], tt)))), tt)
 
-  asks-nth : (j : ℕ) → j < r .most → ent 𝓤 (⋆ 𝓤 H A ((‵ (flft κ q) ⊛ ‵ ftrue) ∷ ‵ Own ∷ [])) (Nth 𝓤 H A at-mem run .pre (to-nth j))
+  asks-nth : (j : ℕ) → j < r .most → Sq W ((‵ (flft κ q) ⊛ ‵ ftrue) ∷ ‵ Own ∷ []) (prop (Nth .pre (to-nth j)))
   asks-nth j less =
-      qed W ((‵ (flft κ q) ⊛ ‵ ftrue) ∷ ‵ Own ∷ []) ∵ says ! (fits, less) $ frame ! $ nothing ! $ beside ! usize (uint-makes 𝓤 H A W w64) j _ (refl, omega (arith, less, most-fits)) $
+      says ! (fits, less) $ frame ! $ nothing ! $ beside ! usize (uint-makes 𝓤 H A W w64) j _ (refl, omega (arith, less, most-fits)) $
       beside ! R.the-row (LL.makes R.the-type R′.the-plain 𝓤 H A) r _ is-r $ move ! (1 ∷ 0 ∷ []) $ fjoin ! $ done !
 
   -- ---- the loop: its variant is how many units are passed, how many may follow, the list, and what is known of them
@@ -208,7 +207,8 @@ module _ {M : Type 1} (𝓤 : URA M) (H : Heap 𝓤) (A : Atoms 𝓤) (W : Given
   none-left : (g : Going) → r .most ≤ g .0 → g .1 .0 ≡ 0
   none-left g over = omega (arith, over, g .1 .1 .1 .left)
 
-  module _ (𝓣 : Tables 𝓤 H) (fm : FmC 𝓤 H (W .laws) (𝓣 .C)) (known-stands : Triple 𝓤 (𝓣 .C #stands-at) (StandsAt 𝓤 H A at-mem run)) (known-nth : Triple 𝓤 (𝓣 .C #nth) (Nth 𝓤 H A at-mem run))
+  module _ (𝓣 : Tables 𝓤 H) (fm : FmC 𝓤 H (W .laws) (𝓣 .C)) (known-stands : Triple 𝓤 (𝓣 .C #stands-at) StandsAt)
+      (known-nth : Triple 𝓤 (𝓣 .C #nth) Nth)
       (bs : Blocks (code.function .locals)) where
     abbrev C : Calls 𝓤 H
     C = 𝓣 .C
@@ -220,11 +220,15 @@ module _ {M : Type 1} (𝓤 : URA M) (H : Heap 𝓤) (A : Atoms 𝓤) (W : Given
     En = envOf (code.function .locals) bs
 
     abbrev At : Going → List (Item 𝓤)
-    At g = (‵ (flft κ q) ⊛ ‵ ftrue) ∷ ‵ Own ∷ ‵ (row U.the-row fullShare (got g) b o) ∷ ‵ (fobor κ′ q′ (Held U.the-row (length ys) b o γ)) ∷ ‵ (fobs γ (codedHoleys U.the-row .code (heres U.the-row ys))) ∷ ‵ (fauth γ (codedHoleys U.the-row .code (heres U.the-row ys))) ∷
-        laid En (empty ∷ full vs ∷ full (R′.lowered r) ∷ full vo ∷ full (vint w64 start) ∷ full (vint w64 (r .most)) ∷ full (vint w64 (g .0)) ∷ []) []
+    At g = (‵ (flft κ q) ⊛ ‵ ftrue) ∷ ‵ Own ∷ ‵ (row U.the-row fullShare (got g) b o) ∷
+        ‵ (fobor κ′ q′ (Held U.the-row (length ys) b o γ)) ∷ ‵ (fobs γ (codedHoleys U.the-row .code (heres U.the-row ys))) ∷
+        ‵ (fauth γ (codedHoleys U.the-row .code (heres U.the-row ys))) ∷
+        laid En (empty ∷ full vs ∷ full (R′.lowered r) ∷ full vo ∷ full (vint w64 start) ∷ full (vint w64 (r .most)) ∷ full (vint w64 (g .0))
+        ∷ []) []
 
     abbrev Turned : Going → Out → SProp 𝓤
-    Turned g = afterTurn 𝓤 H (Below 𝓤 H A Nearer At g) (afterBlock 𝓤 H (afterSeq 𝓤 H (Wp 𝓤 H C Λ En M1.t-4 (atReturn 𝓤 H En Post)) (atReturn 𝓤 H En Post)))
+    Turned g = afterTurn 𝓤 H (Below 𝓤 H A Nearer At g)
+        (afterBlock 𝓤 H (afterSeq 𝓤 H (Wp 𝓤 H C Λ En M1.t-4 (atReturn 𝓤 H En Post)) (atReturn 𝓤 H En Post)))
 
     turns : (g : Going) → Sq W (At g) (runs C Λ En M1.turn-1 (anyQ (Turned g)))
     unfolding afterTurn
@@ -235,16 +239,18 @@ module _ {M : Type 1} (𝓤 : URA M) (H : Heap 𝓤) (A : Atoms 𝓤) (W : Given
         let less : g .0 < r .most = ltb→lt (g .0) (r .most) test in
         -- whether a unit of the form stands there
         move ! (1 ∷ []) $ copies ! (named 0) κ u8 s (vs ∷ []) $ move ! (2 ∷ 0 ∷ []) $
-        use2 W (raw (StandsAt 𝓤 H A at-mem run .pre (to-stands (g .0)))) (asks-stands (g .0) less) $
-        calls-value ! fm stands-at.ended (stands-at.clauses 𝓤 H A at-mem run) known-stands (to-stands (g .0)) (stands xs r (g .0)) (λ r e. id⊢ 𝓤 _) bool-vals bool-tells
+        use2 W (raw (StandsAt .pre (to-stands (g .0)))) (asks-stands (g .0) less .prf) $
+        calls-value ! fm stands-at.ended (stands-at.clauses 𝓤 H A at-mem run) known-stands (to-stands (g .0)) (stands xs r (g .0)) (λ r e.
+        id⊢ 𝓤 _) bool-vals bool-tells
         (arg ! 28 refl (arg ! 26 refl (arg ! 18 refl (no-more !)))) (λ is-b.
         use1 W (‵ (flft κ q) ⊛ ‵ ftrue) (id⊢ 𝓤 _) $ lands-in ! 14 refl (tt, tt) $
         branches ! (var ! 14 refl)
         (λ yes-b.
         -- the unit
         move ! (1 ∷ []) $ copies ! (named 0) κ u8 s (vs ∷ []) $ move ! (2 ∷ 0 ∷ []) $
-        use2 W (raw (Nth 𝓤 H A at-mem run .pre (to-nth (g .0)))) (asks-nth (g .0) less) $
-        calls-value ! fm nth.ended (nth.clauses 𝓤 H A at-mem run) known-nth (to-nth (g .0)) (unit g) (λ r e. id⊢ 𝓤 _) (LL.vals U.the-type U′.the-laws) (LL.tells U.the-type U′.the-laws)
+        use2 W (raw (Nth .pre (to-nth (g .0)))) (asks-nth (g .0) less .prf) $
+        calls-value ! fm nth.ended (nth.clauses 𝓤 H A at-mem run) known-nth (to-nth (g .0)) (unit g) (λ r e.
+        id⊢ 𝓤 _) (LL.vals U.the-type U′.the-laws) (LL.tells U.the-type U′.the-laws)
         (arg ! 28 refl (arg ! 26 refl (arg ! 18 refl (no-more !)))) (λ is-u.
         use1 W (‵ (flft κ q) ⊛ ‵ ftrue) (id⊢ 𝓤 _) $ lands-in ! 12 refl (LL.lawful U.the-type U′.the-laws 𝓤 H A W .typed (unit g) _ is-u .0) $
         -- its place in the list
@@ -253,9 +259,12 @@ module _ {M : Type 1} (𝓤 : URA M) (H : Heap 𝓤) (A : Atoms 𝓤) (W : Given
         sets ! 6 (bin ! (part ! 24 0 refl refl refl) (var ! 8 refl) tt) refl (tt, tt) $
         recasts ! 6 (vptr b) (sym (place-is 12 o (start + g .0))) refl $
         -- the element is taken out, stored to, and put back
-        move ! (2 ∷ []) $ elem-out ! U.the-row (Is U.the-row) (shows 𝓤 H A U.the-row) (LL.vals U.the-type U′.the-laws) (LL.tells U.the-type U′.the-laws) fullShare (got g) (start + g .0) (unit g) b o (within g less) (λ _.
-        assigns ! (of-opd ! (var ! 14 refl)) (from ! (hop ! (look ! 8 refl) (stop !))) (store-raw ! 0 refl (LL.lawful U.the-type U′.the-laws 𝓤 H A W .typed (unit g) _ is-u .0)) $
-        move ! (1 ∷ []) $ let-go ! $ owned ! U.the-row (Is U.the-row) (LL.makes U.the-type U′.the-plain 𝓤 H A) (unit g) _ is-u $ move ! (1 ∷ 0 ∷ []) $
+        move ! (2 ∷ []) $ elem-out ! U.the-row (Is U.the-row) (shows 𝓤 H A U.the-row) (LL.vals U.the-type U′.the-laws)
+        (LL.tells U.the-type U′.the-laws) fullShare (got g) (start + g .0) (unit g) b o (within g less) (λ _.
+        assigns ! (of-opd ! (var ! 14 refl)) (from ! (hop ! (look ! 8 refl) (stop !)))
+        (store-raw ! 0 refl (LL.lawful U.the-type U′.the-laws 𝓤 H A W .typed (unit g) _ is-u .0)) $
+        move ! (1 ∷ []) $ let-go ! $ owned ! U.the-row (Is U.the-row) (LL.makes U.the-type U′.the-plain 𝓤 H A) (unit g) _ is-u $
+        move ! (1 ∷ 0 ∷ []) $
         elem-put ! U.the-row fullShare (got g) (start + g .0) (unit g) (U′.lowered (unit g) ∷ []) b o (within g less) $
         -- the number moves on
         resets-last ! 18 (bin ! (var ! 18 refl) (lit ! tt) (record { fits = next-fits g less })) refl (in64 (next-fits g less)) $
@@ -269,7 +278,7 @@ module _ {M : Type 1} (𝓤 : URA M) (H : Heap 𝓤) (A : Atoms 𝓤) (W : Given
         recasts ! 30 (vint w64) (sym (count-stops xs r (g .1 .0) (g .0) none) ∙ g .1 .1 .1 .count) refl $
         move ! (2 ∷ 3 ∷ 4 ∷ 5 ∷ []) $ closes-slice ! tt U.the-row ys (got g) (g .1 .1 .1 .same) b o $
         returns-within ! Post refl (look ! 29 refl) $ leaves ! 5 refl refl $
-        by ! (exits (got g) (g .1 .1 .1 .same) (sym (stored-stops xs r start (g .1 .0) (g .0) (got g) none) ∙ g .1 .1 .1 .stored)))))
+        (exits (got g) (g .1 .1 .1 .same) (sym (stored-stops xs r start (g .1 .0) (g .0) (got g) none) ∙ g .1 .1 .1 .stored)))))
         -- the loop is left: the borrow is closed at the list that is filled
         (λ over.
         let none : g .1 .0 ≡ 0 = none-left g (nltb→le (g .0) (r .most) over) in
@@ -278,7 +287,7 @@ module _ {M : Type 1} (𝓤 : URA M) (H : Heap 𝓤) (A : Atoms 𝓤) (W : Given
         recasts ! 30 (vint w64) (sym (count-over xs r (g .1 .0) (g .0) none) ∙ g .1 .1 .1 .count) refl $
         move ! (2 ∷ 3 ∷ 4 ∷ 5 ∷ []) $ closes-slice ! tt U.the-row ys (got g) (g .1 .1 .1 .same) b o $
         returns ! (look ! 29 refl) $ leaves ! 5 refl refl $
-        by ! (exits (got g) (g .1 .1 .1 .same) (sym (stored-over xs r start (g .1 .0) (g .0) (got g) none) ∙ g .1 .1 .1 .stored)))
+        (exits (got g) (g .1 .1 .1 .same) (sym (stored-over xs r start (g .1 .0) (g .0) (got g) none) ∙ g .1 .1 .1 .stored)))
 
     abbrev start-at : Going
     start-at = (0, (r .most, (ys, record { left = omega arith; count = refl; stored = refl; same = refl })))
@@ -287,12 +296,17 @@ module _ {M : Type 1} (𝓤 : URA M) (H : Heap 𝓤) (A : Atoms 𝓤) (W : Given
     looped = begins ! $ blocks ! $ loops ! 𝓣 Nearer Nearer-wf At turns start-at
 
   -- ---- the code up to the loop
-  module _ (𝓣 : Tables 𝓤 H) (fm : FmC 𝓤 H (W .laws) (𝓣 .C)) (known-stands : Triple 𝓤 (𝓣 .C #stands-at) (StandsAt 𝓤 H A at-mem run)) (known-nth : Triple 𝓤 (𝓣 .C #nth) (Nth 𝓤 H A at-mem run)) where
-    walk : ent 𝓤 (onEntry 𝓤 H A fill.signature (κ, (κ′, tt)) (q, (q′, tt)) a vals) (WpFn 𝓤 H (𝓣 .C) (𝓣 .Λ) code.function (vs ∷ R′.lowered r ∷ vo ∷ vint w64 start ∷ []) Post)
+  module _ (𝓣 : Tables 𝓤 H) (fm : FmC 𝓤 H (W .laws) (𝓣 .C)) (known-stands : Triple 𝓤 (𝓣 .C #stands-at) StandsAt)
+      (known-nth : Triple 𝓤 (𝓣 .C #nth) Nth) where
+    walk : ent 𝓤 (onEntry 𝓤 H A fill.signature (κ, (κ′, tt)) (q, (q′, tt)) a vals)
+        (WpFn 𝓤 H (𝓣 .C) (𝓣 .Λ) code.function (vs ∷ R′.lowered r ∷ vo ∷ vint w64 start ∷ []) Post)
     walk =
-        qed W ((‵ (flft κ q) ⊛ ‵ (flft κ′ q′) ⊛ ‵ ftrue) ∷ ‵ (owns (ShrSlice (named 0) κ u8 ∷ R.the-row ∷ MutSlice (named 1) κ′ U.the-row ∷ usize ∷ []) a vals) ∷ []) ∵
-        split ! $ move ! (1 ∷ []) $ split ! $ move ! (2 ∷ 1 ∷ []) $ join ! $ move ! (2 ∷ []) $ fsplit ! $ move ! (1 ∷ []) $ fsplit ! $ move ! (1 ∷ []) $ fsplit ! $ fsplit ! $ move ! (1 ∷ []) $ fsplit ! $ keep ! (6 ∷ 5 ∷ 0 ∷ 1 ∷ 7 ∷ []) $
-        enters ! (𝓣 .C) (𝓣 .Λ) code.function (vs ∷ R′.lowered r ∷ vo ∷ vint w64 start ∷ []) _ (λ bs. (sliced s-fits, (LL.lawful R.the-type R′.the-laws 𝓤 H A W .typed r _ is-r .0, (sliced (room .0), (in64 start-fits, tt))))) (λ bs.
+        qed W ((‵ (flft κ q) ⊛ ‵ (flft κ′ q′) ⊛ ‵ ftrue) ∷
+        ‵ (owns (ShrSlice (named 0) κ u8 ∷ R.the-row ∷ MutSlice (named 1) κ′ U.the-row ∷ usize ∷ []) a vals) ∷ []) ∵
+        split ! $ move ! (1 ∷ []) $ split ! $ move ! (2 ∷ 1 ∷ []) $ join ! $ move ! (2 ∷ []) $ fsplit ! $ move ! (1 ∷ []) $ fsplit ! $
+        move ! (1 ∷ []) $ fsplit ! $ fsplit ! $ move ! (1 ∷ []) $ fsplit ! $ keep ! (6 ∷ 5 ∷ 0 ∷ 1 ∷ 7 ∷ []) $
+        enters ! (𝓣 .C) (𝓣 .Λ) code.function (vs ∷ R′.lowered r ∷ vo ∷ vint w64 start ∷ []) _ (λ bs.
+        (sliced s-fits, (LL.lawful R.the-type R′.the-laws 𝓤 H A W .typed r _ is-r .0, (sliced (room .0), (in64 start-fits, tt))))) (λ bs.
         -- [the locals; the token of s; what s owns; obs; the borrow; the token of the list]
         sets ! 14 (of-opd ! (part ! 20 1 refl refl refl)) refl (in64 most-fits) $
         sets ! 12 (of-opd ! (lit ! tt)) refl (in64 (lit< tt)) $
@@ -303,18 +317,26 @@ module _ {M : Type 1} (𝓤 : URA M) (H : Heap 𝓤) (A : Atoms 𝓤) (W : Given
 pub fill-spec : {M : Type 1} → stated.statement M
 unfolding code.routine tablesOf
 fill-spec 𝓤 H 𝓜 𝓖 𝓡 =
-    proved-by 𝓤 H 𝓜 𝓖 𝓡 code.env #fill code.function (code.unfolded 𝓤 H 𝓜 𝓡) fill.ended stayed (fill.clauses 𝓤 H (𝓖 .A) (𝓜 .mem) (𝓡 .run)) (
+    proved-by 𝓤 H 𝓜 𝓖 𝓡 code.env #fill code.function (code.unfolded 𝓤 H 𝓜 𝓡) fill.ended stayed
+    (fill.clauses 𝓤 H (𝓖 .A) (𝓜 .mem) (𝓡 .run)) (
       goes-none-slice 𝓤 H (𝓖 .A) (givenOf 𝓤 H 𝓜 𝓖) 2 (0 ∷ []) tt (plain (λ _. u8)) yes,
       (
         goes-none 𝓤 H (𝓖 .A) (givenOf 𝓤 H 𝓜 𝓖) 2 (λ _. R.the-row) yes (λ κs x f. refl),
-        (goes-slice 𝓤 H (𝓖 .A) (givenOf 𝓤 H 𝓜 𝓖) 2 1 tt (plain (λ _. U.the-row)), (goes-none 𝓤 H (𝓖 .A) (givenOf 𝓤 H 𝓜 𝓖) 2 (λ _. usize) yes (λ κs x f. refl), tt)),
+        (
+          goes-slice 𝓤 H (𝓖 .A) (givenOf 𝓤 H 𝓜 𝓖) 2 1 tt (plain (λ _. U.the-row)),
+          (goes-none 𝓤 H (𝓖 .A) (givenOf 𝓤 H 𝓜 𝓖) 2 (λ _. usize) yes (λ κs x f. refl), tt),
+        ),
       ),
     )
     (λ κs. (slice-vals, (LL.vals R.the-type R′.the-laws, (slice-vals, (uint-vals w64, tt)))))
-    (λ κs. (shr-slice-tells (named 0) (κs .0) u8, (LL.tells R.the-type R′.the-laws, (mut-slice-tells (named 1) (κs .1 .0) U.the-row, (uint-tells w64, tt)))))
-    (λ κs qs bounds a g are. needs 𝓤 _ _ (λ pre. walk 𝓤 H (𝓖 .A) (givenOf 𝓤 H 𝓜 𝓖) (𝓜 .mem) (𝓡 .run) (κs .0) (κs .1 .0) (qs .0) (qs .1 .0)
+    (λ κs. (
+      shr-slice-tells (named 0) (κs .0) u8,
+      (LL.tells R.the-type R′.the-laws, (mut-slice-tells (named 1) (κs .1 .0) U.the-row, (uint-tells w64, tt))),
+    ))
+    (λ κs qs bounds a g are. needs 𝓤 _ _ (λ pre.
+    walk 𝓤 H (𝓖 .A) (givenOf 𝓤 H 𝓜 𝓖) (𝓜 .mem) (𝓡 .run) (κs .0) (κs .1 .0) (qs .0) (qs .1 .0)
     (a .0) (a .1 .0) (a .1 .1 .0 .ptr .0) (a .1 .1 .0 .ptr .1) (a .1 .1 .0 .name) (a .1 .1 .0 .now) (a .1 .1 .1 .0)
     (are .0 .0 .1 .0) (are .1 .0) (are .1 .1 .0 .0 .1) (are .1 .1 .1 .0 .1) (pre .0) (pre .1)
     (𝓣of 𝓤 H 𝓜 𝓖 𝓡 code.env) (fmOf 𝓤 H (givenOf 𝓤 H 𝓜 𝓖 .laws) (𝓣of 𝓤 H 𝓜 𝓖 𝓡 code.env))
-    (cited 𝓤 H (StandsAt 𝓤 H (𝓖 .A) (𝓜 .mem) (𝓡 .run)) 𝓜 𝓡 code.env #stands-at stands-at-def.routine code.calls-read·spans·stands-at (stands-at-thm.met 𝓤 H 𝓜 𝓖 𝓡))
-    (cited 𝓤 H (Nth 𝓤 H (𝓖 .A) (𝓜 .mem) (𝓡 .run)) 𝓜 𝓡 code.env #nth nth-def.routine code.calls-read·spans·nth (nth-thm.met 𝓤 H 𝓜 𝓖 𝓡))))
+    (cited 𝓤 H _ 𝓜 𝓡 code.env #stands-at stands-at-def.routine code.calls-read·spans·stands-at (stands-at-thm.met 𝓤 H 𝓜 𝓖 𝓡))
+    (cited 𝓤 H _ 𝓜 𝓡 code.env #nth nth-def.routine code.calls-read·spans·nth (nth-thm.met 𝓤 H 𝓜 𝓖 𝓡))))

@@ -2,15 +2,15 @@
 -- which stores the units of the span at the cursor; that they are those of as many single steps is shown of the definitions (`Spanned`). Of the
 -- functions that it calls the proof knows their contracts alone.
 -- Assumes nothing.
-use Rattle.walks.proofs.Names.{_≡_, refl, sym, _∙_, ap, subst, ℕ, _+_, _-_, _*_, _≤_, _<_, _^_, zero-le, [], _∷_, List, length, URA, fullShare, Ty}
-use Rattle.walks.proofs.Names.{named, erased, imm, mut, w8, w64, tyInt, tyRef, Val, vint, SProp, ent, emp, sep, via, fst∗, id⊢, Lft, Share, GName}
-use Rattle.walks.proofs.Names.{Fml, ftrue, flft, Memory, Routine, Heap, Out, Env, afterSeq, afterBlock, Calls, Loops, Wp, atReturn, WpFn, Tables}
-use Rattle.walks.proofs.Names.{Atoms, sem, Fun, givenOf, Given, Item, ‵, raw, _⊛_, ⋆, runs, anyQ, atRet, Sq, _$_, _∵_, !, qed, by, move, keep, let-go}
-use Rattle.walks.proofs.Names.{use0, use1, use2, split, join, rewrite, fsplit, fjoin, suffices, frame, done, look, store, forget, stop, from, lit}
-use Rattle.walks.proofs.Names.{of-opd, bin, no-more, assigns-last, first as begins, blocks, land, returns, exec, Below, again, loops, FmC, fmOf, owns}
-use Rattle.walks.proofs.Names.{pointee, Is, uint-makes, uint-vals, uint-tells, uint-lawful, u8, usize, RefT, sliceVal, sliceTy, ShrSlice, MutSlice}
-use Rattle.walks.proofs.Names.{Room, finally, slice-vals, shr-slice-tells, mut-slice-tells, owned, nothing, plain, onEntry, tripleOf, Contract}
-use Rattle.walks.proofs.Names.{Triple, cited, says, Stays, stay-none-slice, stay-slice, walkOf, goes-none-slice, goes-slice, ends-at, yes}
+use Rattle.walks.proofs.Names.{_≡_, refl, sym, _∙_, ap, subst, ℕ, _+_, _-_, _*_, _≤_, _<_, _^_, zero-le, [], _∷_, List, length, URA, fullShare, named}
+use Rattle.walks.proofs.Names.{w64, Val, vint, SProp, ent, emp, via, fst∗, id⊢, Lft, Share, GName, Fml, ftrue, flft, Memory, Routine, Heap, Out, Env}
+use Rattle.walks.proofs.Names.{afterSeq, afterBlock, Calls, Loops, Wp, atReturn, WpFn, Tables, Atoms, Fun, givenOf, Given, Item, ‵, raw, _⊛_, prop}
+use Rattle.walks.proofs.Names.{runs, anyQ, atRet, Sq, _$_, _∵_, !, qed, move, keep, let-go, use0, use1, use2, split, join, rewrite, fsplit, fjoin}
+use Rattle.walks.proofs.Names.{suffices, frame, done, look, store, forget, stop, from, lit, of-opd, bin, no-more, assigns-last, first as begins}
+use Rattle.walks.proofs.Names.{blocks, land, returns, exec, Below, again, loops, FmC, fmOf, owns, Is, uint-makes, uint-vals, uint-tells, uint-lawful}
+use Rattle.walks.proofs.Names.{u8, usize, RefT, sliceVal, ShrSlice, MutSlice, Room, finally, slice-vals, shr-slice-tells, mut-slice-tells, owned}
+use Rattle.walks.proofs.Names.{nothing, plain, onEntry, tripleOf, Contract, Triple, cited, says, Stays, stay-none-slice, stay-slice, walkOf}
+use Rattle.walks.proofs.Names.{goes-none-slice, goes-slice, ends-at, yes}
 use native.Mathlib.Nat.{le-antisymm}
 use native.Mathlib.Omega.{arith}
 use mathlib.Core.WellFounded.{WellFounded, InvImage·wf}
@@ -73,43 +73,31 @@ use Rattle.read.proofs.read.Statement as stated
 use Rattle.read.proofs.read.Code as code
 use Rattle.read.proofs.read.Code.Mir as M1
 
--- ---- the contracts that the proof cites
-module _ {M : Type 1} (𝓤 : URA M) (H : Heap 𝓤) (A : Atoms 𝓤) (mem : Memory → SProp 𝓤) (run : Routine → Fun 𝓤) where
-  abbrev SpanAt : Contract 𝓤
-  SpanAt = tripleOf 𝓤 H A span-at.signature (span-at.spec 𝓤 H A mem run)
-
-  abbrev Moved : Contract 𝓤
-  Moved = tripleOf 𝓤 H A moved.signature (moved.spec 𝓤 H A mem run)
-
-  abbrev Fill : Contract 𝓤
-  Fill = tripleOf 𝓤 H A fill.signature (fill.spec 𝓤 H A mem run)
-
-  abbrev Answers : Contract 𝓤
-  Answers = tripleOf 𝓤 H A answer.signature (answer.spec 𝓤 H A mem run)
-
-  abbrev Stored : Contract 𝓤
-  Stored = tripleOf 𝓤 H A stored.signature (stored.spec 𝓤 H A mem run)
-
-  abbrev First : Contract 𝓤
-  First = tripleOf 𝓤 H A first-fn.signature (first-fn.spec 𝓤 H A mem run)
-
 abbrev stayed : Stays (read.ended .signature .params) (read.ended .kept)
 stayed = (stay-none-slice (0 ∷ []) tt (plain (λ _. u8)) yes, (stay-slice (1 ∷ []) tt (plain (λ _. U.the-row)), tt))
 
-abbrev word : Ty
-word = tyInt w64
-
-abbrev bytes : Ty
-bytes = sliceTy (tyRef (named 0) imm (tyInt w8))
-
-abbrev list : Ty
-list = sliceTy (tyRef (named 1) mut (pointee (U.the-row .written)))
-
-abbrev lent : Ty
-lent = tyRef erased mut (pointee (U.the-row .written))
-
-module _ {M : Type 1} (𝓤 : URA M) (H : Heap 𝓤) (A : Atoms 𝓤) (W : Given 𝓤 H A) (at-mem : Memory → SProp 𝓤) (run : Routine → Fun 𝓤) (κ κ′ : Lft) (q q′ : Share) (s : RefT (List ℕ)) (b o : ℕ) (γ : GName) (ys : List UnitRecord)
+module _ {M : Type 1} (𝓤 : URA M) (H : Heap 𝓤) (A : Atoms 𝓤) (W : Given 𝓤 H A) (at-mem : Memory → SProp 𝓤) (run : Routine → Fun 𝓤)
+    (κ κ′ : Lft) (q q′ : Share) (s : RefT (List ℕ)) (b o : ℕ) (γ : GName) (ys : List UnitRecord)
     (s-fits : length (s .now) < 2 ^ 64) (room : Room U.the-row (length ys)) where
+  -- the contracts that the proof cites
+  abbrev SpanAt : Contract 𝓤
+  SpanAt = tripleOf 𝓤 H A span-at.signature (span-at.spec 𝓤 H A at-mem run)
+
+  abbrev Moved : Contract 𝓤
+  Moved = tripleOf 𝓤 H A moved.signature (moved.spec 𝓤 H A at-mem run)
+
+  abbrev Fill : Contract 𝓤
+  Fill = tripleOf 𝓤 H A fill.signature (fill.spec 𝓤 H A at-mem run)
+
+  abbrev Answers : Contract 𝓤
+  Answers = tripleOf 𝓤 H A answer.signature (answer.spec 𝓤 H A at-mem run)
+
+  abbrev Stored : Contract 𝓤
+  Stored = tripleOf 𝓤 H A stored.signature (stored.spec 𝓤 H A at-mem run)
+
+  abbrev First : Contract 𝓤
+  First = tripleOf 𝓤 H A first-fn.signature (first-fn.spec 𝓤 H A at-mem run)
+
   abbrev xs : List ℕ
   xs = s .now
 
@@ -154,10 +142,10 @@ module _ {M : Type 1} (𝓤 : URA M) (H : Heap 𝓤) (A : Atoms 𝓤) (W : Given
   abbrev IsN : Type 0
   IsN = Is N.the-row ans (N′.lowered ans ∷ [])
 
-  exits : IsN → ent 𝓤 (⋆ 𝓤 H A (‵ (flft κ q) ∷ ‵ Own ∷ ‵ (Units (got xs ys n)) ∷ ‵ (flft κ′ q′) ∷ [])) (Post (N′.lowered ans))
+  exits : IsN → Sq W (‵ (flft κ q) ∷ ‵ Own ∷ ‵ (Units (got xs ys n)) ∷ ‵ (flft κ′ q′) ∷ []) (prop (Post (N′.lowered ans)))
   exits is =
-      qed W (‵ (flft κ q) ∷ ‵ Own ∷ ‵ (Units (got xs ys n)) ∷ ‵ (flft κ′ q′) ∷ []) ∵
-      suffices ! _ (ends-at 𝓤 H A read.ended stayed (read.clauses 𝓤 H A at-mem run) W (((κ, (κ′, tt)), (q, (q′, tt)), tt, a, vals), tt) (N′.lowered ans) ans (tt, (got xs ys n, tt)) (tt, (same n, tt))) $
+      suffices ! _ (ends-at 𝓤 H A read.ended stayed (read.clauses 𝓤 H A at-mem run) W (((κ, (κ′, tt)), (q, (q′, tt)), tt, a, vals), tt)
+      (N′.lowered ans) ans (tt, (got xs ys n, tt)) (tt, (same n, tt))) $
       says ! (refl, filled xs ys) $
       -- the tokens
       nothing ! $ move ! (4 ∷ 0 ∷ []) $ join ! $ move ! (1 ∷ 0 ∷ []) $ join ! $ frame ! $
@@ -172,22 +160,24 @@ module _ {M : Type 1} (𝓤 : URA M) (H : Heap 𝓤) (A : Atoms 𝓤) (W : Given
   abbrev IsR : Span → Type 0
   IsR r = Is R.the-row r (R′.lowered r ∷ [])
 
-  abbrev to-answer : Answers 𝓤 H A at-mem run .Ghost
+  abbrev to-answer : Answers .Ghost
   to-answer = (((κ, tt), (q, tt), tt, (s, (length ys, tt)), (vs ∷ [], (vint w64 (length ys) ∷ [], tt))), tt)
 
-  asks-answer : ent 𝓤 (⋆ 𝓤 H A (‵ (flft κ q) ∷ ‵ Own ∷ [])) (Answers 𝓤 H A at-mem run .pre to-answer)
+  asks-answer : Sq W (‵ (flft κ q) ∷ ‵ Own ∷ []) (prop (Answers .pre to-answer))
   asks-answer =
-      qed W (‵ (flft κ q) ∷ ‵ Own ∷ []) ∵ nothing ! $ move ! (1 ∷ 0 ∷ []) $ join ! $ move ! (1 ∷ []) $ nothing ! $ beside ! usize (uint-makes 𝓤 H A W w64) (length ys) _ (refl, room .0) $
+      nothing ! $ move ! (1 ∷ 0 ∷ []) $ join ! $ move ! (1 ∷ []) $ nothing ! $ beside ! usize (uint-makes 𝓤 H A W w64) (length ys) _ (refl, room .0) $
       move ! (1 ∷ 0 ∷ []) $ fjoin ! $ move ! (1 ∷ 0 ∷ []) $ join ! $ frame ! $ done !
 
-  abbrev to-stored : Stored 𝓤 H A at-mem run .Ghost
+  abbrev to-stored : Stored .Ghost
   to-stored = ((tt, tt, tt, (ans, tt), (N′.lowered ans ∷ [], tt)), tt)
 
-  asks-stored : IsN → ent 𝓤 (emp 𝓤) (Stored 𝓤 H A at-mem run .pre to-stored)
-  asks-stored is = qed W [] ∵ nothing ! $ beside ! N.the-row (LL.makes N.the-type N′.the-plain 𝓤 H A) ans _ is $ nothing ! $ join ! $ frame ! $ done !
+  asks-stored : IsN → Sq W [] (prop (Stored .pre to-stored))
+  asks-stored is =
+      nothing ! $ beside ! N.the-row (LL.makes N.the-type N′.the-plain 𝓤 H A) ans _ is $ nothing ! $ join ! $ frame ! $ done !
 
-  asks-first : ent 𝓤 (emp 𝓤) (First 𝓤 H A at-mem run .pre ((tt, tt, tt, tt, tt), tt))
-  asks-first = qed W [] ∵ nothing ! $ nothing ! $ join ! $ frame ! $ done !
+  asks-first : Sq W [] (prop (First .pre ((tt, tt, tt, tt, tt), tt)))
+  asks-first =
+      nothing ! $ nothing ! $ join ! $ frame ! $ done !
 
   -- the span of turn i, and how many units are stored from it
   abbrev span : ℕ → Span
@@ -196,32 +186,41 @@ module _ {M : Type 1} (𝓤 : URA M) (H : Heap 𝓤) (A : Atoms 𝓤) (W : Given
   abbrev count : ℕ → ℕ
   count i = countFrom xs (span i) (span i .most) 0
 
-  abbrev to-span : ℕ → SpanAt 𝓤 H A at-mem run .Ghost
+  abbrev to-span : ℕ → SpanAt .Ghost
   to-span i = (((κ, tt), (q, tt), tt, (s, (cur xs ys i, (n - i, tt))), (vs ∷ [], (K′.lowered (cur xs ys i) ∷ [], (vint w64 (n - i) ∷ [], tt)))), tt)
 
-  asks-span : (i : ℕ) → IsK (cur xs ys i) → n - i < 2 ^ 64 → ent 𝓤 (⋆ 𝓤 H A (‵ (flft κ q) ∷ ‵ Own ∷ [])) (SpanAt 𝓤 H A at-mem run .pre (to-span i))
+  asks-span : (i : ℕ) → IsK (cur xs ys i) → n - i < 2 ^ 64 → Sq W (‵ (flft κ q) ∷ ‵ Own ∷ []) (prop (SpanAt .pre (to-span i)))
   asks-span i is fits =
-      qed W (‵ (flft κ q) ∷ ‵ Own ∷ []) ∵ nothing ! $ move ! (1 ∷ 0 ∷ []) $ join ! $ move ! (1 ∷ []) $ nothing ! $ beside ! usize (uint-makes 𝓤 H A W w64) (n - i) _ (refl, fits) $
-      beside ! K.the-row (LL.makes K.the-type K′.the-plain 𝓤 H A) (cur xs ys i) _ is $ move ! (1 ∷ 0 ∷ []) $ fjoin ! $ move ! (1 ∷ 0 ∷ []) $ join ! $ frame ! $ done !
+      nothing ! $ move ! (1 ∷ 0 ∷ []) $ join ! $ move ! (1 ∷ []) $ nothing ! $ beside ! usize (uint-makes 𝓤 H A W w64) (n - i) _ (refl, fits) $
+      beside ! K.the-row (LL.makes K.the-type K′.the-plain 𝓤 H A) (cur xs ys i) _ is $ move ! (1 ∷ 0 ∷ []) $ fjoin ! $ move ! (1 ∷ 0 ∷ []) $
+      join ! $ frame ! $ done !
 
   abbrev Left : ℕ → List UnitRecord → Type 0
   Left i l = l ≡ storedFrom xs (span i) i (span i .most) 0 (got xs ys i)
 
-  abbrev to-fill : ℕ → ℕ → GName → Fill 𝓤 H A at-mem run .Ghost
-  to-fill i ν δ =
-      (((κ, (ν ∷ [], tt)), (q, (fullShare, tt)), tt, (s, (span i, (x δ (got xs ys i), (i, tt)))), (vs ∷ [], (R′.lowered (span i) ∷ [], (vo ∷ [], (vint w64 i ∷ [], tt))))), tt)
+  abbrev to-fill : ℕ → ℕ → GName → Fill .Ghost
+  to-fill i ν δ = (
+    (
+      (κ, (ν ∷ [], tt)),
+      (q, (fullShare, tt)),
+      tt,
+      (s, (span i, (x δ (got xs ys i), (i, tt)))),
+      (vs ∷ [], (R′.lowered (span i) ∷ [], (vo ∷ [], (vint w64 i ∷ [], tt)))),
+    ),
+    tt,
+  )
 
   asks-fill : (i : ℕ) → IsR (span i) → i < 2 ^ 64 → i + span i .most ≤ length (got xs ys i) → (ν : ℕ) (δ : GName)
-      → ent 𝓤 (sep 𝓤 (sep 𝓤 (A .lft κ q) (sem 𝓤 H A Own)) (sep 𝓤 (A .lft (ν ∷ []) fullShare) (sem 𝓤 H A (MutSlice (named 0) (ν ∷ []) U.the-row .own (x δ (got xs ys i)) (vo ∷ []))))) (Fill 𝓤 H A at-mem run .pre (to-fill i ν δ))
+      → Sq W ((‵ (flft κ q) ⊛ ‵ Own) ∷ ‵ (flft (ν ∷ []) fullShare) ∷ ‵ (MutSlice (named 0) (ν ∷ []) U.the-row .own (x δ (got xs ys i))
+      (vo ∷ [])) ∷ []) (prop (Fill .pre (to-fill i ν δ)))
   asks-fill i is fits left ν δ =
-      qed W ((‵ (flft κ q) ⊛ ‵ Own) ∷ ‵ (flft (ν ∷ []) fullShare) ∷ ‵ (MutSlice (named 0) (ν ∷ []) U.the-row .own (x δ (got xs ys i)) (vo ∷ [])) ∷ []) ∵
       says ! (span-fits xs (cur xs ys i) (n - i), left) $
       split ! $ nothing ! $ move ! (3 ∷ 0 ∷ []) $ join ! $ move ! (1 ∷ 0 ∷ []) $ join ! $
       -- [the tokens; what s owns; the list]
       frame ! $ nothing ! $ beside ! usize (uint-makes 𝓤 H A W w64) i _ (refl, fits) $ move ! (2 ∷ 0 ∷ []) $ fjoin ! $
       beside ! R.the-row (LL.makes R.the-type R′.the-plain 𝓤 H A) (span i) _ is $ move ! (1 ∷ 0 ∷ []) $ fjoin ! $ done !
 
-  abbrev to-moved : ℕ → Moved 𝓤 H A at-mem run .Ghost
+  abbrev to-moved : ℕ → Moved .Ghost
   to-moved i = ((tt, tt, tt, (span i, (count i, tt)), (R′.lowered (span i) ∷ [], (vint w64 (count i) ∷ [], tt))), tt)
 
   -- the place after the units is in the string
@@ -231,9 +230,9 @@ module _ {M : Type 1} (𝓤 : URA M) (H : Heap 𝓤) (A : Atoms 𝓤) (W : Given
       let f = span-fits xs (cur xs ys i) (n - i) in
       (λ e. (let k = f .of-ones e in omega (arith, h, k, s-fits)), λ e. (let k = f .of-twos e in omega (arith, h, k, s-fits)))
 
-  asks-moved : (i : ℕ) → IsR (span i) → count i < 2 ^ 64 → ent 𝓤 (emp 𝓤) (Moved 𝓤 H A at-mem run .pre (to-moved i))
+  asks-moved : (i : ℕ) → IsR (span i) → count i < 2 ^ 64 → Sq W [] (prop (Moved .pre (to-moved i)))
   asks-moved i is fits =
-      qed W [] ∵ says ! (place-fits i) $ nothing ! $ beside ! usize (uint-makes 𝓤 H A W w64) (count i) _ (refl, fits) $
+      says ! (place-fits i) $ nothing ! $ beside ! usize (uint-makes 𝓤 H A W w64) (count i) _ (refl, fits) $
       beside ! R.the-row (LL.makes R.the-type R′.the-plain 𝓤 H A) (span i) _ is $ nothing ! $ frame ! $ done !
 
   -- ---- the loop: its variant is a turn's number with what is known there
@@ -268,7 +267,10 @@ module _ {M : Type 1} (𝓤 : URA M) (H : Heap 𝓤) (A : Atoms 𝓤) (W : Given
   short i less = short-stored xs ys (omega (arith, less))
 
   abbrev further : (i : Turn) → i .0 < n → IsK (movedOf (span (i .0)) (count (i .0))) → Turn
-  further i less is = (i .0 + count (i .0), (count-in (i .0) less, subst IsK (cursor-next xs ys (short (i .0) less) (i .0) (n - i .0) (omega (arith, less)) (left-most (i .0) less)) is))
+  further i less is = (
+    i .0 + count (i .0),
+    (count-in (i .0) less, subst IsK (cursor-next xs ys (short (i .0) less) (i .0) (n - i .0) (omega (arith, less)) (left-most (i .0) less)) is),
+  )
 
   nearer : (i : Turn) → i .0 < n → n - (i .0 + count (i .0)) < n - i .0
   nearer i less =
@@ -276,8 +278,9 @@ module _ {M : Type 1} (𝓤 : URA M) (H : Heap 𝓤) (A : Atoms 𝓤) (W : Given
       let k = count-in (i .0) less in
       omega (arith, h, k, less)
 
-  module _ (𝓣 : Tables 𝓤 H) (fm : FmC 𝓤 H (W .laws) (𝓣 .C)) (known-span : Triple 𝓤 (𝓣 .C #span-at) (SpanAt 𝓤 H A at-mem run)) (known-fill : Triple 𝓤 (𝓣 .C #fill) (Fill 𝓤 H A at-mem run))
-      (known-moved : Triple 𝓤 (𝓣 .C #moved) (Moved 𝓤 H A at-mem run)) (is-ans : IsN) (bs : Blocks (code.function .locals)) where
+  module _ (𝓣 : Tables 𝓤 H) (fm : FmC 𝓤 H (W .laws) (𝓣 .C)) (known-span : Triple 𝓤 (𝓣 .C #span-at) SpanAt)
+      (known-fill : Triple 𝓤 (𝓣 .C #fill) Fill)
+      (known-moved : Triple 𝓤 (𝓣 .C #moved) Moved) (is-ans : IsN) (bs : Blocks (code.function .locals)) where
     abbrev C : Calls 𝓤 H
     C = 𝓣 .C
 
@@ -289,10 +292,12 @@ module _ {M : Type 1} (𝓤 : URA M) (H : Heap 𝓤) (A : Atoms 𝓤) (W : Given
 
     abbrev At : Turn → List (Item 𝓤)
     At i = ‵ (flft κ q) ∷ ‵ Own ∷ ‵ (Units (got xs ys (i .0))) ∷ ‵ (flft κ′ q′) ∷
-        laid En (empty ∷ full vs ∷ full vo ∷ full (N′.lowered ans) ∷ full (vint w64 n) ∷ full (K′.lowered (cur xs ys (i .0))) ∷ full (vint w64 (i .0)) ∷ []) []
+        laid En (empty ∷ full vs ∷ full vo ∷ full (N′.lowered ans) ∷ full (vint w64 n) ∷ full (K′.lowered (cur xs ys (i .0))) ∷
+        full (vint w64 (i .0)) ∷ []) []
 
     abbrev Turned : Turn → Out → SProp 𝓤
-    Turned i = afterTurn 𝓤 H (Below 𝓤 H A Nearer At i) (afterBlock 𝓤 H (afterSeq 𝓤 H (Wp 𝓤 H C Λ En M1.t-7 (atReturn 𝓤 H En Post)) (atReturn 𝓤 H En Post)))
+    Turned i = afterTurn 𝓤 H (Below 𝓤 H A Nearer At i)
+        (afterBlock 𝓤 H (afterSeq 𝓤 H (Wp 𝓤 H C Λ En M1.t-7 (atReturn 𝓤 H En Post)) (atReturn 𝓤 H En Post)))
 
     turns : (i : Turn) → Sq W (At i) (runs C Λ En M1.turn-1 (anyQ (Turned i)))
     unfolding afterTurn
@@ -304,30 +309,37 @@ module _ {M : Type 1} (𝓤 : URA M) (H : Heap 𝓤) (A : Atoms 𝓤) (W : Given
         -- the span at the cursor
         sets ! 8 (bin ! (var ! 22 refl) (var ! 18 refl) (i .1 .0)) refl (in64 (omega (arith, n-fits))) $
         move ! (1 ∷ []) $ copies ! (named 0) κ u8 s (vs ∷ []) $ move ! (2 ∷ 0 ∷ []) $
-        use2 W (raw (SpanAt 𝓤 H A at-mem run .pre (to-span (i .0)))) (asks-span (i .0) (i .1 .1) (omega (arith, n-fits))) $
-        calls-value ! fm span-at.ended (span-at.clauses 𝓤 H A at-mem run) known-span (to-span (i .0)) (span (i .0)) (λ r e. id⊢ 𝓤 _) (LL.vals R.the-type R′.the-laws) (LL.tells R.the-type R′.the-laws)
+        use2 W (raw (SpanAt .pre (to-span (i .0)))) (asks-span (i .0) (i .1 .1) (omega (arith, n-fits)) .prf) $
+        calls-value ! fm span-at.ended (span-at.clauses 𝓤 H A at-mem run) known-span (to-span (i .0)) (span (i .0)) (λ r e.
+        id⊢ 𝓤 _) (LL.vals R.the-type R′.the-laws) (LL.tells R.the-type R′.the-laws)
         (arg ! 28 refl (arg ! 20 refl (arg ! 8 refl (no-more !)))) (λ is-r.
-        use1 W (‵ (flft κ q) ⊛ ‵ ftrue) (id⊢ 𝓤 _) $ split ! $ move ! (1 ∷ []) $ let-go ! $ lands-in ! 16 refl (LL.lawful R.the-type R′.the-laws 𝓤 H A W .typed (span (i .0)) _ is-r .0) $
+        use1 W (‵ (flft κ q) ⊛ ‵ ftrue) (id⊢ 𝓤 _) $ split ! $ move ! (1 ∷ []) $ let-go ! $
+        lands-in ! 16 refl (LL.lawful R.the-type R′.the-laws 𝓤 H A W .typed (span (i .0)) _ is-r .0) $
         -- the list is borrowed again, and `fill` stores the units
         sets ! 6 (behind ! 26 refl refl) refl (tt, tt) $
         sets ! 4 (resliced ! 6 26 refl refl refl) refl (sliced (room .0)) $
         move ! (1 ∷ []) $ copies ! (named 0) κ u8 s (vs ∷ []) $ move ! (2 ∷ 0 ∷ []) $ join ! $ move ! (0 ∷ 2 ∷ 3 ∷ []) $
-        calls-lent ! fm (Fill 𝓤 H A at-mem run) known-fill U.the-row κ′ q′ (named 1) γ b o (length ys) (got xs ys (i .0)) room (same (i .0))
+        calls-lent ! fm Fill known-fill U.the-row κ′ q′ (named 1) γ b o (length ys) (got xs ys (i .0)) room (same (i .0))
         (to-fill (i .0)) (‵ (flft κ q) ⊛ ‵ Own) (‵ (flft κ q)) (vint w64 (count (i .0))) (Left (i .0))
         (λ l e. ap length (e ∙ list-next xs ys (short (i .0) less) (i .0) (n - i .0) (left-most (i .0) less)) ∙ same (i .0 + count (i .0)))
-        (Beside W κ q) (back-beside W κ q) (asks-fill (i .0) is-r (omega (arith, less, n-fits)) (left-got (i .0) less)) (Is usize (count (i .0)) (vint w64 (count (i .0)) ∷ []))
-        (λ ν δ u. gave-one 𝓤 H A W fill.ended (fill.clauses 𝓤 H A at-mem run) (to-fill (i .0) ν δ) (count (i .0)) (Left (i .0)) (finally U.the-row δ) (λ ws. ws .1 .1 .0) (λ r ws. id⊢ 𝓤 _)
+        (Beside W κ q) (back-beside W κ q) (λ ν δ. asks-fill (i .0) is-r (omega (arith, less, n-fits)) (left-got (i .0) less) ν δ .prf)
+        (Is usize (count (i .0)) (vint w64 (count (i .0)) ∷ []))
+        (λ ν δ u. gave-one 𝓤 H A W fill.ended (fill.clauses 𝓤 H A at-mem run) (to-fill (i .0) ν δ) (count (i .0)) (Left (i .0))
+        (finally U.the-row δ) (λ ws. ws .1 .1 .0) (λ r ws. id⊢ 𝓤 _)
         (λ ws. past ! $ past ! $ front ! $ front ! $ done !) (uint-vals w64) (uint-tells w64) u)
         (λ ν δ. arg ! 27 refl (arg ! 15 refl (arg ! 3 refl (arg ! 17 refl (no-more !))))) (λ l is-k e.
         -- [the token of s; the list; its token; what s owns; the locals]
         rewrite ! 1 (λ (w : List UnitRecord). ‵ (Units w)) (e ∙ list-next xs ys (short (i .0) less) (i .0) (n - i .0) (left-most (i .0) less)) refl $
         lands-in ! 14 refl (uint-lawful 𝓤 H A W w64 .typed (count (i .0)) _ is-k .0) $
         -- the cursor and the number move on
-        use0 W (raw (Moved 𝓤 H A at-mem run .pre (to-moved (i .0)))) (asks-moved (i .0) is-r (is-k .1)) $
-        calls-value ! fm moved.ended (moved.clauses 𝓤 H A at-mem run) known-moved (to-moved (i .0)) (movedOf (span (i .0)) (count (i .0))) (λ r e. id⊢ 𝓤 _) (LL.vals K.the-type K′.the-laws) (LL.tells K.the-type K′.the-laws)
+        use0 W (raw (Moved .pre (to-moved (i .0)))) (asks-moved (i .0) is-r (is-k .1) .prf) $
+        calls-value ! fm moved.ended (moved.clauses 𝓤 H A at-mem run) known-moved (to-moved (i .0)) (movedOf (span (i .0)) (count (i .0))) (λ r e.
+        id⊢ 𝓤 _) (LL.vals K.the-type K′.the-laws) (LL.tells K.the-type K′.the-laws)
         (arg ! 17 refl (arg ! 15 refl (no-more !))) (λ is-c.
-        let-go ! $ land ! (from ! (stop !)) (store ! 20 refl (LL.lawful K.the-type K′.the-laws 𝓤 H A W .typed (movedOf (span (i .0)) (count (i .0))) _ is-c .0)) $
-        recasts ! 20 (λ (c : Cursor). (K′.lowered c)) (cursor-next xs ys (short (i .0) less) (i .0) (n - i .0) (omega (arith, less)) (left-most (i .0) less)) refl $
+        let-go ! $ land ! (from ! (stop !)) (store ! 20 refl (LL.lawful K.the-type K′.the-laws 𝓤 H A W .typed (movedOf (span (i .0)) (count (i .0)))
+        _ is-c .0)) $
+        recasts ! 20 (λ (c : Cursor). (K′.lowered c)) (cursor-next xs ys (short (i .0) less) (i .0) (n - i .0) (omega (arith, less))
+        (left-most (i .0) less)) refl $
         assigns-last ! (bin ! (var ! 18 refl) (var ! 14 refl) (record { fits = omega (arith, count-in (i .0) less, n-fits) })) (from ! (stop !))
         (store ! 18 refl (in64 (omega (arith, count-in (i .0) less, n-fits)))) $
         clears ! 4 13 refl $ move ! (0 ∷ 3 ∷ 1 ∷ 2 ∷ []) $ again ! Nearer At i (further i less is-c) (nearer i less)))))
@@ -335,31 +347,38 @@ module _ {M : Type 1} (𝓤 : URA M) (H : Heap 𝓤) (A : Atoms 𝓤) (W : Given
         (λ over. exec ! C Λ En M1.t-7 (atRet En Post) $
         sets ! 30 (of-opd ! (var ! 24 refl)) refl (LL.lawful N.the-type N′.the-laws 𝓤 H A W .typed ans _ is-ans .0) $
         rewrite ! 2 (λ (j : ℕ). ‵ (Units (got xs ys j))) (le-antisymm (i .1 .0) (nltb→le (i .0) n over)) refl $
-        returns ! (look ! 30 refl) $ leaves ! 4 refl refl $ by ! (exits is-ans))
+        returns ! (look ! 30 refl) $ leaves ! 4 refl refl $ (exits is-ans))
 
     looped : (is : IsK first) → Sq W (At (0, (zero-le, is))) (runs C Λ En M1.t-6 (atRet En Post))
     looped is = begins ! $ blocks ! $ loops ! 𝓣 Nearer Nearer-wf At turns (0, (zero-le, is))
 
   -- ---- the code up to the loop
-  module _ (𝓣 : Tables 𝓤 H) (fm : FmC 𝓤 H (W .laws) (𝓣 .C)) (known-span : Triple 𝓤 (𝓣 .C #span-at) (SpanAt 𝓤 H A at-mem run)) (known-fill : Triple 𝓤 (𝓣 .C #fill) (Fill 𝓤 H A at-mem run))
-      (known-moved : Triple 𝓤 (𝓣 .C #moved) (Moved 𝓤 H A at-mem run)) (known-answer : Triple 𝓤 (𝓣 .C #answer) (Answers 𝓤 H A at-mem run))
-      (known-stored : Triple 𝓤 (𝓣 .C #stored) (Stored 𝓤 H A at-mem run)) (known-first : Triple 𝓤 (𝓣 .C #first) (First 𝓤 H A at-mem run)) where
-    walk : ent 𝓤 (onEntry 𝓤 H A read.signature (κ, (κ′, tt)) (q, (q′, tt)) a vals) (WpFn 𝓤 H (𝓣 .C) (𝓣 .Λ) code.function (vs ∷ vo ∷ []) Post)
+  module _ (𝓣 : Tables 𝓤 H) (fm : FmC 𝓤 H (W .laws) (𝓣 .C)) (known-span : Triple 𝓤 (𝓣 .C #span-at) SpanAt)
+      (known-fill : Triple 𝓤 (𝓣 .C #fill) Fill)
+      (known-moved : Triple 𝓤 (𝓣 .C #moved) Moved) (known-answer : Triple 𝓤 (𝓣 .C #answer) Answers)
+      (known-stored : Triple 𝓤 (𝓣 .C #stored) Stored) (known-first : Triple 𝓤 (𝓣 .C #first) First) where
+    walk : ent 𝓤 (onEntry 𝓤 H A read.signature (κ, (κ′, tt)) (q, (q′, tt)) a vals)
+        (WpFn 𝓤 H (𝓣 .C) (𝓣 .Λ) code.function (vs ∷ vo ∷ []) Post)
     walk =
-        qed W ((‵ (flft κ q) ⊛ ‵ (flft κ′ q′) ⊛ ‵ ftrue) ∷ ‵ (owns (ShrSlice (named 0) κ u8 ∷ MutSlice (named 1) κ′ U.the-row ∷ []) a vals) ∷ []) ∵
+        qed W ((‵ (flft κ q) ⊛ ‵ (flft κ′ q′) ⊛ ‵ ftrue) ∷
+        ‵ (owns (ShrSlice (named 0) κ u8 ∷ MutSlice (named 1) κ′ U.the-row ∷ []) a vals) ∷ []) ∵
         split ! $ move ! (1 ∷ []) $ split ! $ move ! (3 ∷ []) $ fsplit ! $ move ! (1 ∷ []) $ fsplit ! $ keep ! (5 ∷ 2 ∷ 0 ∷ 3 ∷ []) $
         enters ! (𝓣 .C) (𝓣 .Λ) code.function (vs ∷ vo ∷ []) _ (λ bs. (sliced s-fits, (sliced (room .0), tt))) (λ bs.
         -- [the locals; the token of s; what s owns; the list; its token]
         sets ! 8 (of-opd ! (part ! 22 1 refl refl refl)) refl (in64 (room .0)) $
-        move ! (29 ∷ []) $ copies ! (named 0) κ u8 s (vs ∷ []) $ move ! (30 ∷ 0 ∷ []) $ use2 W (raw (Answers 𝓤 H A at-mem run .pre to-answer)) asks-answer $
-        calls-value ! fm answer.ended (answer.clauses 𝓤 H A at-mem run) known-answer to-answer ans (λ r e. id⊢ 𝓤 _) (LL.vals N.the-type N′.the-laws) (LL.tells N.the-type N′.the-laws)
+        move ! (29 ∷ []) $ copies ! (named 0) κ u8 s (vs ∷ []) $ move ! (30 ∷ 0 ∷ []) $ use2 W (raw (Answers .pre to-answer)) (asks-answer .prf) $
+        calls-value ! fm answer.ended (answer.clauses 𝓤 H A at-mem run) known-answer to-answer ans (λ r e.
+        id⊢ 𝓤 _) (LL.vals N.the-type N′.the-laws) (LL.tells N.the-type N′.the-laws)
         (arg ! 26 refl (arg ! 10 refl (no-more !))) (λ is-ans.
-        use1 W (‵ (flft κ q) ⊛ ‵ ftrue) (id⊢ 𝓤 _) $ split ! $ move ! (1 ∷ []) $ let-go ! $ lands-in ! 22 refl (LL.lawful N.the-type N′.the-laws 𝓤 H A W .typed ans _ is-ans .0) $
-        use0 W (raw (Stored 𝓤 H A at-mem run .pre to-stored)) (asks-stored is-ans) $
-        calls-value ! fm stored.ended (stored.clauses 𝓤 H A at-mem run) known-stored to-stored n (λ r e. id⊢ 𝓤 _) (uint-vals w64) (uint-tells w64) (arg ! 23 refl (no-more !)) (λ is-n.
+        use1 W (‵ (flft κ q) ⊛ ‵ ftrue) (id⊢ 𝓤 _) $ split ! $ move ! (1 ∷ []) $ let-go ! $
+        lands-in ! 22 refl (LL.lawful N.the-type N′.the-laws 𝓤 H A W .typed ans _ is-ans .0) $
+        use0 W (raw (Stored .pre to-stored)) (asks-stored is-ans .prf) $
+        calls-value ! fm stored.ended (stored.clauses 𝓤 H A at-mem run) known-stored to-stored n (λ r e. id⊢ 𝓤 _) (uint-vals w64) (uint-tells w64)
+        (arg ! 23 refl (no-more !)) (λ is-n.
         let-go ! $ lands-in ! 20 refl (uint-lawful 𝓤 H A W w64 .typed n _ is-n .0) $
-        use0 W (raw (First 𝓤 H A at-mem run .pre ((tt, tt, tt, tt, tt), tt))) asks-first $
-        calls-value ! fm first-fn.ended (first-fn.clauses 𝓤 H A at-mem run) known-first ((tt, tt, tt, tt, tt), tt) first (λ r e. id⊢ 𝓤 _) (LL.vals K.the-type K′.the-laws) (LL.tells K.the-type K′.the-laws) (no-more !) (λ is-first.
+        use0 W (raw (First .pre ((tt, tt, tt, tt, tt), tt))) (asks-first .prf) $
+        calls-value ! fm first-fn.ended (first-fn.clauses 𝓤 H A at-mem run) known-first ((tt, tt, tt, tt, tt), tt) first (λ r e.
+        id⊢ 𝓤 _) (LL.vals K.the-type K′.the-laws) (LL.tells K.the-type K′.the-laws) (no-more !) (λ is-first.
         let-go ! $ lands-in ! 18 refl (LL.lawful K.the-type K′.the-laws 𝓤 H A W .typed first _ is-first .0) $
         sets ! 16 (of-opd ! (lit ! tt)) refl (in64 (lit< tt)) $ forget ! 10 refl $ move ! (0 ∷ 1 ∷ 30 ∷ 31 ∷ []) $
         looped 𝓣 fm known-span known-fill known-moved is-ans bs is-first))))
@@ -367,14 +386,18 @@ module _ {M : Type 1} (𝓤 : URA M) (H : Heap 𝓤) (A : Atoms 𝓤) (W : Given
 pub read-spec : {M : Type 1} → stated.statement M
 unfolding code.routine tablesOf
 read-spec 𝓤 H 𝓜 𝓖 𝓡 =
-    proved-by 𝓤 H 𝓜 𝓖 𝓡 code.env #read code.function (code.unfolded 𝓤 H 𝓜 𝓡) read.ended stayed (read.clauses 𝓤 H (𝓖 .A) (𝓜 .mem) (𝓡 .run))
-    (goes-none-slice 𝓤 H (𝓖 .A) (givenOf 𝓤 H 𝓜 𝓖) 2 (0 ∷ []) tt (plain (λ _. u8)) yes, (goes-slice 𝓤 H (𝓖 .A) (givenOf 𝓤 H 𝓜 𝓖) 2 1 tt (plain (λ _. U.the-row)), tt))
+    proved-by 𝓤 H 𝓜 𝓖 𝓡 code.env #read code.function (code.unfolded 𝓤 H 𝓜 𝓡) read.ended stayed
+    (read.clauses 𝓤 H (𝓖 .A) (𝓜 .mem) (𝓡 .run)) (
+      goes-none-slice 𝓤 H (𝓖 .A) (givenOf 𝓤 H 𝓜 𝓖) 2 (0 ∷ []) tt (plain (λ _. u8)) yes,
+      (goes-slice 𝓤 H (𝓖 .A) (givenOf 𝓤 H 𝓜 𝓖) 2 1 tt (plain (λ _. U.the-row)), tt),
+    )
     (λ κs. (slice-vals, (slice-vals, tt))) (λ κs. (shr-slice-tells (named 0) (κs .0) u8, (mut-slice-tells (named 1) (κs .1 .0) U.the-row, tt)))
-    (λ κs qs bounds a g are. via 𝓤 _ (fst∗ 𝓤 _ (emp 𝓤)) (walk 𝓤 H (𝓖 .A) (givenOf 𝓤 H 𝓜 𝓖) (𝓜 .mem) (𝓡 .run) (κs .0) (κs .1 .0) (qs .0) (qs .1 .0) (a .0) (a .1 .0 .ptr .0) (a .1 .0 .ptr .1) (a .1 .0 .name) (a .1 .0 .now) (are .0 .0 .1 .0) (are .1 .0 .0 .1)
+    (λ κs qs bounds a g are. via 𝓤 _ (fst∗ 𝓤 _ (emp 𝓤)) (walk 𝓤 H (𝓖 .A) (givenOf 𝓤 H 𝓜 𝓖) (𝓜 .mem) (𝓡 .run) (κs .0)
+    (κs .1 .0) (qs .0) (qs .1 .0) (a .0) (a .1 .0 .ptr .0) (a .1 .0 .ptr .1) (a .1 .0 .name) (a .1 .0 .now) (are .0 .0 .1 .0) (are .1 .0 .0 .1)
     (𝓣of 𝓤 H 𝓜 𝓖 𝓡 code.env) (fmOf 𝓤 H (givenOf 𝓤 H 𝓜 𝓖 .laws) (𝓣of 𝓤 H 𝓜 𝓖 𝓡 code.env))
-    (cited 𝓤 H (SpanAt 𝓤 H (𝓖 .A) (𝓜 .mem) (𝓡 .run)) 𝓜 𝓡 code.env #span-at span-at-def.routine code.calls-read·spans·span-at (span-at-thm.met 𝓤 H 𝓜 𝓖 𝓡))
-    (cited 𝓤 H (Fill 𝓤 H (𝓖 .A) (𝓜 .mem) (𝓡 .run)) 𝓜 𝓡 code.env #fill fill-def.routine code.calls-read·fill (fill-thm.met 𝓤 H 𝓜 𝓖 𝓡))
-    (cited 𝓤 H (Moved 𝓤 H (𝓖 .A) (𝓜 .mem) (𝓡 .run)) 𝓜 𝓡 code.env #moved moved-def.routine code.calls-read·spans·moved (moved-thm.met 𝓤 H 𝓜 𝓖 𝓡))
-    (cited 𝓤 H (Answers 𝓤 H (𝓖 .A) (𝓜 .mem) (𝓡 .run)) 𝓜 𝓡 code.env #answer answer-def.routine code.calls-read·answer (answer-thm.met 𝓤 H 𝓜 𝓖 𝓡))
-    (cited 𝓤 H (Stored 𝓤 H (𝓖 .A) (𝓜 .mem) (𝓡 .run)) 𝓜 𝓡 code.env #stored stored-def.routine code.calls-read·stored (stored-thm.met 𝓤 H 𝓜 𝓖 𝓡))
-    (cited 𝓤 H (First 𝓤 H (𝓖 .A) (𝓜 .mem) (𝓡 .run)) 𝓜 𝓡 code.env #first first-def.routine code.calls-cursor·Cursor·first (first-thm.met 𝓤 H 𝓜 𝓖 𝓡))))
+    (cited 𝓤 H _ 𝓜 𝓡 code.env #span-at span-at-def.routine code.calls-read·spans·span-at (span-at-thm.met 𝓤 H 𝓜 𝓖 𝓡))
+    (cited 𝓤 H _ 𝓜 𝓡 code.env #fill fill-def.routine code.calls-read·fill (fill-thm.met 𝓤 H 𝓜 𝓖 𝓡))
+    (cited 𝓤 H _ 𝓜 𝓡 code.env #moved moved-def.routine code.calls-read·spans·moved (moved-thm.met 𝓤 H 𝓜 𝓖 𝓡))
+    (cited 𝓤 H _ 𝓜 𝓡 code.env #answer answer-def.routine code.calls-read·answer (answer-thm.met 𝓤 H 𝓜 𝓖 𝓡))
+    (cited 𝓤 H _ 𝓜 𝓡 code.env #stored stored-def.routine code.calls-read·stored (stored-thm.met 𝓤 H 𝓜 𝓖 𝓡))
+    (cited 𝓤 H _ 𝓜 𝓡 code.env #first first-def.routine code.calls-cursor·Cursor·first (first-thm.met 𝓤 H 𝓜 𝓖 𝓡))))

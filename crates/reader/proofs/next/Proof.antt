@@ -2,9 +2,9 @@
 -- opened, its fields are read, `step` is called on them, the place, the count and the state are stored, and the borrow is closed.
 -- Assumes nothing.
 use Rattle.walks.proofs.Names.{_≡_, refl, ℕ, _<_, _^_, [], _∷_, List, length, URA, fullShare, named, erased, w64, Val, vint, vptr, SProp, ent, emp}
-use Rattle.walks.proofs.Names.{via, fst∗, id⊢, Lft, Share, GName, Fml, ftrue, flft, fobs, fbor, fat, Memory, Routine, Heap, Calls, Loops, WpFn, Atoms}
-use Rattle.walks.proofs.Names.{Fun, givenOf, Given, ‵, raw, given, _⊛_, ⋆, _$_, _∵_, !, qed, by, move, keep, let-go, use1, use2, split, join, learn}
-use Rattle.walks.proofs.Names.{fsplit, fsplit3, fjoin, fjoin3, feqI, suffices, frame, done, look, stop, hop, fld, from, load, of-opd, no-more}
+use Rattle.walks.proofs.Names.{Sq, prop, via, fst∗, id⊢, Lft, Share, GName, Fml, ftrue, flft, fobs, fbor, fat, Memory, Routine, Heap, Calls, Loops}
+use Rattle.walks.proofs.Names.{WpFn, Atoms, Fun, givenOf, Given, ‵, raw, given, _⊛_, _$_, _∵_, !, qed, move, keep, let-go, use1, use2, split, join}
+use Rattle.walks.proofs.Names.{learn, fsplit, fsplit3, fjoin, fjoin3, feqI, suffices, frame, done, look, stop, hop, fld, from, load, of-opd, no-more}
 use Rattle.walks.proofs.Names.{assigns, returns, whole, sub, look-in, store-in, Body, FmC, fmOf, RattleType, owns, mem, cellAt, Is, shows, uint-makes}
 use Rattle.walks.proofs.Names.{u8, usize, RefT, NamedLft, MutRef, ptr-vals, mut-tells, sliceVal, ShrSlice, shr-slice-copy, opens, closes, owned}
 use Rattle.walks.proofs.Names.{peeks, nothing, spelt, Declared, all-own, ownAt, rest, own-open, own-out, own-shut, Values, onEntry, tripleOf}
@@ -48,107 +48,144 @@ stayed = (stay-ref (0 ∷ []) tt behind, tt)
 abbrev Steps : {M : Type 1} (𝓤 : URA M) (H : Heap 𝓤) (A : Atoms 𝓤) (mem : Memory → SProp 𝓤) (run : Routine → Fun 𝓤) → Contract 𝓤
 Steps 𝓤 H A mem run = tripleOf 𝓤 H A step.signature (step.spec 𝓤 H A mem run)
 
-module _ {M : Type 1} (𝓤 : URA M) (H : Heap 𝓤) (A : Atoms 𝓤) (W : Given 𝓤 H A) (at-mem : Memory → SProp 𝓤) (run : Routine → Fun 𝓤) (κ κ′ : Lft) (bounds : AllOutlive 2 (next.signature .outlives) (κ, (κ′, tt))) (q q′ : Share) (b o : ℕ) (γ : GName) (h : Reader) where
-  abbrev α : NamedLft
-  α = record { mir = named 1; lft = κ′ }
+module _ {M : Type 1} (𝓤 : URA M) (H : Heap 𝓤) (A : Atoms 𝓤) (W : Given 𝓤 H A) (at-mem : Memory → SProp 𝓤) (run : Routine → Fun 𝓤)
+    (κ κ′ : Lft) (bounds : AllOutlive 2 (next.signature .outlives) (κ, (κ′, tt))) (q q′ : Share) (b o : ℕ) (γ : GName) (h : Reader)
+  where
+    abbrev α : NamedLft
+    α = record { mir = named 1; lft = κ′ }
 
-  abbrev D : Declared
-  D = T.the-type α
+    abbrev D : Declared
+    D = T.the-type α
 
-  abbrev L : LL.Laws D
-  L = T′.the-laws α
+    abbrev L : LL.Laws D
+    L = T′.the-laws α
 
-  abbrev R : RattleType
-  R = T.the-row α
+    abbrev R : RattleType
+    R = T.the-row α
 
-  abbrev g : Stepped
-  g = stepOf h
+    abbrev g : Stepped
+    g = stepOf h
 
-  abbrev h′ : Reader
-  h′ = moved h
+    abbrev h′ : Reader
+    h′ = moved h
 
-  -- the machine value of the item
-  abbrev item : Val
-  item = EL.val I.the-type I′.the-laws (g .item)
+    -- the machine value of the item
+    abbrev item : Val
+    item = EL.val I.the-type I′.the-laws (g .item)
 
-  abbrev a : RefT Reader × Unit {0}
-  a = (record { ptr = (b, o); name = γ; now = h }, tt)
+    abbrev a : RefT Reader × Unit {0}
+    a = (record { ptr = (b, o); name = γ; now = h }, tt)
 
-  abbrev vals : List Val × Unit {0}
-  vals = (vptr b o ∷ [], tt)
+    abbrev vals : List Val × Unit {0}
+    vals = (vptr b o ∷ [], tt)
 
-  abbrev v : Val
-  v = sliceVal (h .octets .ptr) (length (h .octets .now))
+    abbrev v : Val
+    v = sliceVal (h .octets .ptr) (length (h .octets .now))
 
-  -- the fields' values
-  abbrev fields : Values (D .parts)
-  fields = (h .octets, (h .place, (h .count, (h .state, tt))))
+    -- the fields' values
+    abbrev fields : Values (D .parts)
+    fields = (h .octets, (h .place, (h .count, (h .state, tt))))
 
-  abbrev Octets : Fml
-  Octets = ShrSlice (named 1) κ′ u8 .own (h .octets) (v ∷ [])
+    abbrev Octets : Fml
+    Octets = ShrSlice (named 1) κ′ u8 .own (h .octets) (v ∷ [])
 
-  abbrev Post : Val → SProp 𝓤
-  Post = walkOf 𝓤 H A next.ended stayed (next.clauses 𝓤 H A at-mem run) .post (((κ, (κ′, tt)), (q, (q′, tt)), bounds, a, vals), tt)
+    abbrev Post : Val → SProp 𝓤
+    Post = walkOf 𝓤 H A next.ended stayed (next.clauses 𝓤 H A at-mem run) .post (((κ, (κ′, tt)), (q, (q′, tt)), bounds, a, vals), tt)
 
-  abbrev to : Steps 𝓤 H A at-mem run .Ghost
-  to = (((κ′, tt), (q′, tt), tt, (h .octets, (h .place, (h .count, (h .state, tt)))), (v ∷ [], (vint w64 (h .place) ∷ [], (vint w64 (h .count) ∷ [], (S′.lowered (h .state) ∷ [], tt))))), tt)
+    abbrev to : Steps 𝓤 H A at-mem run .Ghost
+    to = (
+      (
+        (κ′, tt),
+        (q′, tt),
+        tt,
+        (h .octets, (h .place, (h .count, (h .state, tt)))),
+        (v ∷ [], (vint w64 (h .place) ∷ [], (vint w64 (h .count) ∷ [], (S′.lowered (h .state) ∷ [], tt)))),
+      ),
+      tt,
+    )
 
-  asks : h .place < 2 ^ 64 → h .count < 2 ^ 64 → Is S.the-row (h .state) (S′.lowered (h .state) ∷ []) → ent 𝓤 (⋆ 𝓤 H A (‵ (flft κ′ q′) ∷ ‵ Octets ∷ [])) (Steps 𝓤 H A at-mem run .pre to)
-  asks place-fits count-fits is =
-      qed W (‵ (flft κ′ q′) ∷ ‵ Octets ∷ []) ∵ nothing ! $ move ! (1 ∷ 0 ∷ []) $ join ! $ move ! (1 ∷ []) $
-      nothing ! $ beside ! S.the-row (LL.makes S.the-type S′.the-plain 𝓤 H A) (h .state) _ is $ beside ! usize (uint-makes 𝓤 H A W w64) (h .count) _ (refl, count-fits) $
-      beside ! usize (uint-makes 𝓤 H A W w64) (h .place) _ (refl, place-fits) $ move ! (1 ∷ 0 ∷ []) $ fjoin ! $ move ! (1 ∷ 0 ∷ []) $ join ! $ frame ! $ done !
+    asks : h .place < 2 ^ 64 → h .count < 2 ^ 64 → Is S.the-row (h .state) (S′.lowered (h .state) ∷ [])
+        → Sq W (‵ (flft κ′ q′) ∷ ‵ Octets ∷ []) (prop (Steps 𝓤 H A at-mem run .pre to))
+    asks place-fits count-fits is =
+        nothing ! $ move ! (1 ∷ 0 ∷ []) $ join ! $ move ! (1 ∷ []) $
+        nothing ! $ beside ! S.the-row (LL.makes S.the-type S′.the-plain 𝓤 H A) (h .state) _ is $
+        beside ! usize (uint-makes 𝓤 H A W w64) (h .count) _ (refl, count-fits) $
+        beside ! usize (uint-makes 𝓤 H A W w64) (h .place) _ (refl, place-fits) $ move ! (1 ∷ 0 ∷ []) $ fjoin ! $ move ! (1 ∷ 0 ∷ []) $ join ! $
+        frame ! $ done !
 
-  exits : Is I.the-row (g .item) (item ∷ []) → ent 𝓤 (⋆ 𝓤 H A (‵ (fobs γ (R .coded .code h′)) ∷ ‵ (fbor κ (Body (mem R) b o γ)) ∷ ‵ (flft κ q) ∷ (‵ (flft κ′ q′) ⊛ ‵ ftrue) ∷ [])) (Post item)
-  exits is =
-      qed W (‵ (fobs γ (R .coded .code h′)) ∷ ‵ (fbor κ (Body (mem R) b o γ)) ∷ ‵ (flft κ q) ∷ (‵ (flft κ′ q′) ⊛ ‵ ftrue) ∷ []) ∵
-      suffices ! _ (ends-at 𝓤 H A next.ended stayed (next.clauses 𝓤 H A at-mem run) W (((κ, (κ′, tt)), (q, (q′, tt)), bounds, a, vals), tt) item (g .item) (h′, tt) (tt, tt)) $ says ! (refl, refl) $
-      move ! (2 ∷ 3 ∷ []) $ join ! $ frame ! $ feqI ! (List Val) (vptr b o ∷ []) (vptr b o ∷ []) refl $ fjoin3 ! $ nothing ! $ move ! (1 ∷ 0 ∷ []) $ fjoin ! $ frame ! $
-      owned ! I.the-row (Is I.the-row) (EL.makes I.the-type I′.the-plain 𝓤 H A) (g .item) _ is $ done !
+    exits : Is I.the-row (g .item) (item ∷ [])
+        → Sq W (‵ (fobs γ (R .coded .code h′)) ∷ ‵ (fbor κ (Body (mem R) b o γ)) ∷ ‵ (flft κ q) ∷ (‵ (flft κ′ q′) ⊛ ‵ ftrue) ∷
+        []) (prop (Post item))
+    exits is =
+        suffices ! _ (ends-at 𝓤 H A next.ended stayed (next.clauses 𝓤 H A at-mem run) W (((κ, (κ′, tt)), (q, (q′, tt)), bounds, a, vals), tt) item
+        (g .item) (h′, tt) (tt, tt)) $ says ! (refl, refl) $
+        move ! (2 ∷ 3 ∷ []) $ join ! $ frame ! $ feqI ! (List Val) (vptr b o ∷ []) (vptr b o ∷ []) refl $ fjoin3 ! $ nothing ! $
+        move ! (1 ∷ 0 ∷ []) $ fjoin ! $ frame ! $
+        owned ! I.the-row (Is I.the-row) (EL.makes I.the-type I′.the-plain 𝓤 H A) (g .item) _ is $ done !
 
-  module _ (C : Calls 𝓤 H) (Λ : Loops 𝓤 H) (fm : FmC 𝓤 H (W .laws) C) (known : Triple 𝓤 (C #step) (Steps 𝓤 H A at-mem run)) where
-    walk : ent 𝓤 (onEntry 𝓤 H A next.signature (κ, (κ′, tt)) (q, (q′, tt)) a vals) (WpFn 𝓤 H C Λ code.function (vptr b o ∷ []) Post)
-    walk =
-        qed W ((‵ (flft κ q) ⊛ ‵ (flft κ′ q′) ⊛ ‵ ftrue) ∷ ‵ (owns (MutRef (named 0) κ R ∷ []) a vals) ∷ []) ∵
-        split ! $ move ! (1 ∷ []) $ split ! $ move ! (3 ∷ []) $ fsplit ! $ fsplit3 ! $ keep ! (1 ∷ 2 ∷ 6 ∷ 4 ∷ []) $
-        enters ! C Λ code.function (vptr b o ∷ []) _ (λ bs. ((tt, tt), tt)) (λ bs.
-        -- the borrow is opened
-        move ! (14 ∷ 15 ∷ 16 ∷ []) $ opens ! tt R {h = h} b o (λ vs. spelt ! R (Is R) (shows 𝓤 H A R) (LL.vals D L) (LL.tells D L) fullShare h vs b o $
-        use1 W (‵ (fat fullShare (T′.mir erased) b o (T′.lowered h))) (W .laws .raw-at fullShare (T′.mir erased) b o (T′.lowered h)) $
-        move ! (1 ∷ []) $ peeks ! R (Is R) (shows 𝓤 H A R) h (T′.lowered h ∷ []) (λ is-h. move ! (1 ∷ 0 ∷ []) $
-        -- [the reader's cell; what it owns; the open borrow; obs; auth; the locals, _6 first; the token of the string]: the fields are read
-        sets ! 11 (of-opd ! (load ! (from ! (hop ! (look ! 15 refl) (fld ! refl (stop !)))) (look-in ! 0 (sub ! 0 refl (whole !))))) refl (tt, LL.lawful D L 𝓤 H A W .typed h _ is-h .0 .1 .0) $
-        sets ! 9 (of-opd ! (load ! (from ! (hop ! (look ! 15 refl) (fld ! refl (stop !)))) (look-in ! 0 (sub ! 1 refl (whole !))))) refl (tt, LL.lawful D L 𝓤 H A W .typed h _ is-h .0 .1 .1 .0) $
-        sets ! 7 (of-opd ! (load ! (from ! (hop ! (look ! 15 refl) (fld ! refl (stop !)))) (look-in ! 0 (sub ! 2 refl (whole !))))) refl (tt, LL.lawful D L 𝓤 H A W .typed h _ is-h .0 .1 .1 .1 .0) $
-        sets ! 5 (of-opd ! (load ! (from ! (hop ! (look ! 15 refl) (fld ! refl (stop !)))) (look-in ! 0 (sub ! 3 refl (whole !))))) refl (tt, LL.lawful D L 𝓤 H A W .typed h _ is-h .0 .1 .1 .1 .1 .0) $
-        -- what the string owns is had twice: one goes to the call, and one back into the reader
-        move ! (1 ∷ []) $ use1 W (given (T′.lowered h ∷ [] ≡ T′.lowered h ∷ []) (‵ (all-own (D .parts) L fields))) (own-open 𝓤 H A W D L fields (T′.lowered h)) $ learn ! (λ _.
-        use1 W (‵ (ownAt (D .parts) L 0 (h .octets)) ⊛ ‵ (rest (D .parts) L 0 fields)) (own-out 𝓤 H A W (D .parts) L 0 fields) $ split ! $
-        move ! (1 ∷ []) $ let-go ! $ use1 W (‵ Octets ⊛ ‵ Octets) (shr-slice-copy 𝓤 H A W (named 1) κ′ u8 .twice (h .octets) (v ∷ [])) $ split ! $
-        move ! (20 ∷ 0 ∷ []) $ use2 W (raw (Steps 𝓤 H A at-mem run .pre to)) (asks (LL.owed D L h _ is-h .1 .0 .1) (LL.owed D L h _ is-h .1 .1 .0 .1) (LL.owed D L h _ is-h .1 .1 .1 .0)) $
-        calls-value ! fm step.ended (step.clauses 𝓤 H A at-mem run) known to g (λ r e. id⊢ 𝓤 _) (LL.vals G.the-type G′.the-laws) (LL.tells G.the-type G′.the-laws)
-        (arg ! 12 refl (arg ! 10 refl (arg ! 8 refl (arg ! 6 refl (no-more !))))) (λ is.
-        use1 W (‵ (flft κ′ q′) ⊛ ‵ ftrue) (id⊢ 𝓤 _) $ lands-in ! 14 refl (LL.lawful G.the-type G′.the-laws 𝓤 H A W .typed g _ is .0) $
-        -- [the string's token; what it owns; the reader's cell; the open borrow; obs; auth; the locals]: place, count and state are stored
-        assigns ! (of-opd ! (part ! 14 0 refl refl refl)) (from ! (hop ! (look ! 16 refl) (fld ! refl (stop !)))) (store-in ! 2 (sub ! 1 refl (whole !)) (tt, LL.lawful G.the-type G′.the-laws 𝓤 H A W .typed g _ is .0 .1 .0)) $
-        assigns ! (of-opd ! (part ! 14 1 refl refl refl)) (from ! (hop ! (look ! 16 refl) (fld ! refl (stop !)))) (store-in ! 2 (sub ! 2 refl (whole !)) (tt, LL.lawful G.the-type G′.the-laws 𝓤 H A W .typed g _ is .0 .1 .1 .0)) $
-        assigns ! (of-opd ! (part ! 14 2 refl refl refl)) (from ! (hop ! (look ! 16 refl) (fld ! refl (stop !)))) (store-in ! 2 (sub ! 3 refl (whole !)) (tt, LL.lawful G.the-type G′.the-laws 𝓤 H A W .typed g _ is .0 .1 .1 .1 .0)) $
-        sets ! 18 (of-opd ! (part ! 14 3 refl refl refl)) refl (EL.lawful I.the-type I′.the-laws 𝓤 H A W tt .typed (g .item) _ (LL.owed G.the-type G′.the-laws g _ is .1 .1 .1 .0) .0) $
-        -- the reader is put together again, and the borrow is closed
-        move ! (1 ∷ []) $ nothing ! $ owned ! S.the-row (Is S.the-row) (LL.makes S.the-type S′.the-plain 𝓤 H A) (g .state) _ (LL.owed G.the-type G′.the-laws g _ is .1 .1 .0) $ fjoin ! $
-        beside ! usize (uint-makes 𝓤 H A W w64) (g .count) _ (LL.owed G.the-type G′.the-laws g _ is .1 .0) $
-        beside ! usize (uint-makes 𝓤 H A W w64) (g .place) _ (LL.owed G.the-type G′.the-laws g _ is .0) $ move ! (1 ∷ 0 ∷ []) $ fjoin ! $
-        use1 W (‵ (R .own h′ (T′.lowered h′ ∷ []))) (own-shut 𝓤 H A W D L (h .octets, (g .place, (g .count, (g .state, tt))))) $
-        move ! (2 ∷ []) $ use1 W (‵ (cellAt fullShare (R .mir) (T′.lowered h′ ∷ []) b o)) (W .laws .at-raw fullShare (T′.mir erased) b o (T′.lowered h′)) $
-        move ! (0 ∷ 1 ∷ 3 ∷ 4 ∷ 5 ∷ []) $ closes ! tt R h′ (T′.lowered h′ ∷ []) b o $
-        returns ! (look ! 16 refl) $ leaves ! 4 refl refl $ by ! (exits (LL.owed G.the-type G′.the-laws g _ is .1 .1 .1 .0)))))))
+    module _ (C : Calls 𝓤 H) (Λ : Loops 𝓤 H) (fm : FmC 𝓤 H (W .laws) C) (known : Triple 𝓤 (C #step) (Steps 𝓤 H A at-mem run)) where
+      walk : ent 𝓤 (onEntry 𝓤 H A next.signature (κ, (κ′, tt)) (q, (q′, tt)) a vals) (WpFn 𝓤 H C Λ code.function (vptr b o ∷ []) Post)
+      walk =
+          qed W ((‵ (flft κ q) ⊛ ‵ (flft κ′ q′) ⊛ ‵ ftrue) ∷ ‵ (owns (MutRef (named 0) κ R ∷ []) a vals) ∷ []) ∵
+          split ! $ move ! (1 ∷ []) $ split ! $ move ! (3 ∷ []) $ fsplit ! $ fsplit3 ! $ keep ! (1 ∷ 2 ∷ 6 ∷ 4 ∷ []) $
+          enters ! C Λ code.function (vptr b o ∷ []) _ (λ bs. ((tt, tt), tt)) (λ bs.
+          -- the borrow is opened
+          move ! (14 ∷ 15 ∷ 16 ∷ []) $
+          opens ! tt R {h = h} b o (λ vs. spelt ! R (Is R) (shows 𝓤 H A R) (LL.vals D L) (LL.tells D L) fullShare h vs b o $
+          use1 W (‵ (fat fullShare (T′.mir erased) b o (T′.lowered h))) (W .laws .raw-at fullShare (T′.mir erased) b o (T′.lowered h)) $
+          move ! (1 ∷ []) $ peeks ! R (Is R) (shows 𝓤 H A R) h (T′.lowered h ∷ []) (λ is-h. move ! (1 ∷ 0 ∷ []) $
+          -- [the reader's cell; what it owns; the open borrow; obs; auth; the locals, _6 first; the token of the string]: the fields are read
+          sets ! 11 (of-opd ! (load ! (from ! (hop ! (look ! 15 refl) (fld ! refl (stop !)))) (look-in ! 0 (sub ! 0 refl (whole !))))) refl
+          (tt, LL.lawful D L 𝓤 H A W .typed h _ is-h .0 .1 .0) $
+          sets ! 9 (of-opd ! (load ! (from ! (hop ! (look ! 15 refl) (fld ! refl (stop !)))) (look-in ! 0 (sub ! 1 refl (whole !))))) refl
+          (tt, LL.lawful D L 𝓤 H A W .typed h _ is-h .0 .1 .1 .0) $
+          sets ! 7 (of-opd ! (load ! (from ! (hop ! (look ! 15 refl) (fld ! refl (stop !)))) (look-in ! 0 (sub ! 2 refl (whole !))))) refl
+          (tt, LL.lawful D L 𝓤 H A W .typed h _ is-h .0 .1 .1 .1 .0) $
+          sets ! 5 (of-opd ! (load ! (from ! (hop ! (look ! 15 refl) (fld ! refl (stop !)))) (look-in ! 0 (sub ! 3 refl (whole !))))) refl
+          (tt, LL.lawful D L 𝓤 H A W .typed h _ is-h .0 .1 .1 .1 .1 .0) $
+          -- what the string owns is had twice: one goes to the call, and one back into the reader
+          move ! (1 ∷ []) $ use1 W (given (T′.lowered h ∷ [] ≡ T′.lowered h ∷ []) (‵ (all-own (D .parts) L fields)))
+          (own-open 𝓤 H A W D L fields (T′.lowered h)) $ learn ! (λ _.
+          use1 W (‵ (ownAt (D .parts) L 0 (h .octets)) ⊛ ‵ (rest (D .parts) L 0 fields)) (own-out 𝓤 H A W (D .parts) L 0 fields) $ split ! $
+          move ! (1 ∷ []) $ let-go ! $ use1 W (‵ Octets ⊛ ‵ Octets) (shr-slice-copy 𝓤 H A W (named 1) κ′ u8 .twice (h .octets) (v ∷ [])) $
+          split ! $
+          move ! (20 ∷ 0 ∷ []) $ use2 W (raw (Steps 𝓤 H A at-mem run .pre to)) (asks (LL.owed D L h _ is-h .1 .0 .1) (LL.owed D L h _ is-h .1 .1 .0 .1)
+          (LL.owed D L h _ is-h .1 .1 .1 .0) .prf) $
+          calls-value ! fm step.ended (step.clauses 𝓤 H A at-mem run) known to g (λ r e. id⊢ 𝓤 _) (LL.vals G.the-type G′.the-laws)
+          (LL.tells G.the-type G′.the-laws)
+          (arg ! 12 refl (arg ! 10 refl (arg ! 8 refl (arg ! 6 refl (no-more !))))) (λ is.
+          use1 W (‵ (flft κ′ q′) ⊛ ‵ ftrue) (id⊢ 𝓤 _) $ lands-in ! 14 refl (LL.lawful G.the-type G′.the-laws 𝓤 H A W .typed g _ is .0) $
+          -- [the string's token; what it owns; the reader's cell; the open borrow; obs; auth; the locals]: place, count and state are stored
+          assigns ! (of-opd ! (part ! 14 0 refl refl refl)) (from ! (hop ! (look ! 16 refl) (fld ! refl (stop !))))
+          (store-in ! 2 (sub ! 1 refl (whole !)) (tt, LL.lawful G.the-type G′.the-laws 𝓤 H A W .typed g _ is .0 .1 .0)) $
+          assigns ! (of-opd ! (part ! 14 1 refl refl refl)) (from ! (hop ! (look ! 16 refl) (fld ! refl (stop !))))
+          (store-in ! 2 (sub ! 2 refl (whole !)) (tt, LL.lawful G.the-type G′.the-laws 𝓤 H A W .typed g _ is .0 .1 .1 .0)) $
+          assigns ! (of-opd ! (part ! 14 2 refl refl refl)) (from ! (hop ! (look ! 16 refl) (fld ! refl (stop !))))
+          (store-in ! 2 (sub ! 3 refl (whole !)) (tt, LL.lawful G.the-type G′.the-laws 𝓤 H A W .typed g _ is .0 .1 .1 .1 .0)) $
+          sets ! 18 (of-opd ! (part ! 14 3 refl refl refl)) refl (EL.lawful I.the-type I′.the-laws 𝓤 H A W tt .typed (g .item) _
+          (LL.owed G.the-type G′.the-laws g _ is .1 .1 .1 .0) .0) $
+          -- the reader is put together again, and the borrow is closed
+          move ! (1 ∷ []) $ nothing ! $
+          owned ! S.the-row (Is S.the-row) (LL.makes S.the-type S′.the-plain 𝓤 H A) (g .state) _ (LL.owed G.the-type G′.the-laws g _ is .1 .1 .0) $
+          fjoin ! $
+          beside ! usize (uint-makes 𝓤 H A W w64) (g .count) _ (LL.owed G.the-type G′.the-laws g _ is .1 .0) $
+          beside ! usize (uint-makes 𝓤 H A W w64) (g .place) _ (LL.owed G.the-type G′.the-laws g _ is .0) $ move ! (1 ∷ 0 ∷ []) $ fjoin ! $
+          use1 W (‵ (R .own h′ (T′.lowered h′ ∷ []))) (own-shut 𝓤 H A W D L (h .octets, (g .place, (g .count, (g .state, tt))))) $
+          move ! (2 ∷ []) $ use1 W (‵ (cellAt fullShare (R .mir) (T′.lowered h′ ∷ []) b o)) (W .laws .at-raw fullShare (T′.mir erased) b o
+          (T′.lowered h′)) $
+          move ! (0 ∷ 1 ∷ 3 ∷ 4 ∷ 5 ∷ []) $ closes ! tt R h′ (T′.lowered h′ ∷ []) b o $
+          returns ! (look ! 16 refl) $ leaves ! 4 refl refl $ (exits (LL.owed G.the-type G′.the-laws g _ is .1 .1 .1 .0)))))))
 
 pub next-spec : {M : Type 1} → stated.statement M
 unfolding code.routine tablesOf
 next-spec 𝓤 H 𝓜 𝓖 𝓡 =
-    proved-by 𝓤 H 𝓜 𝓖 𝓡 code.env #next code.function (code.unfolded 𝓤 H 𝓜 𝓡) next.ended stayed (next.clauses 𝓤 H (𝓖 .A) (𝓜 .mem) (𝓡 .run))
+    proved-by 𝓤 H 𝓜 𝓖 𝓡 code.env #next code.function (code.unfolded 𝓤 H 𝓜 𝓡) next.ended stayed
+    (next.clauses 𝓤 H (𝓖 .A) (𝓜 .mem) (𝓡 .run))
     (goes-ref 𝓤 H (𝓖 .A) (givenOf 𝓤 H 𝓜 𝓖) 2 0 tt behind, tt)
     (λ κs. (ptr-vals, tt)) (λ κs. (mut-tells (named 0) (κs .0) (T.the-row (namedLft 2 1 tt κs)), tt))
-    (λ κs qs bounds a g are. via 𝓤 _ (fst∗ 𝓤 _ (emp 𝓤)) (walk 𝓤 H (𝓖 .A) (givenOf 𝓤 H 𝓜 𝓖) (𝓜 .mem) (𝓡 .run) (κs .0) (κs .1 .0) bounds (qs .0) (qs .1 .0) (a .0 .ptr .0) (a .0 .ptr .1) (a .0 .name) (a .0 .now)
-    (𝓣of 𝓤 H 𝓜 𝓖 𝓡 code.env .C) (𝓣of 𝓤 H 𝓜 𝓖 𝓡 code.env .Λ) (fmOf 𝓤 H (givenOf 𝓤 H 𝓜 𝓖 .laws) (𝓣of 𝓤 H 𝓜 𝓖 𝓡 code.env))
-    (cited 𝓤 H (Steps 𝓤 H (𝓖 .A) (𝓜 .mem) (𝓡 .run)) 𝓜 𝓡 code.env #step step-def.routine code.calls-reader·step (step-thm.met 𝓤 H 𝓜 𝓖 𝓡))))
+    (λ κs qs bounds a g are. via 𝓤 _ (fst∗ 𝓤 _ (emp 𝓤)) (walk 𝓤 H (𝓖 .A) (givenOf 𝓤 H 𝓜 𝓖) (𝓜 .mem) (𝓡 .run) (κs .0)
+    (κs .1 .0) bounds (qs .0) (qs .1 .0) (a .0 .ptr .0) (a .0 .ptr .1) (a .0 .name) (a .0 .now)
+    (𝓣of 𝓤 H 𝓜 𝓖 𝓡 code.env .C) (𝓣of 𝓤 H 𝓜 𝓖 𝓡 code.env .Λ)
+    (fmOf 𝓤 H (givenOf 𝓤 H 𝓜 𝓖 .laws) (𝓣of 𝓤 H 𝓜 𝓖 𝓡 code.env))
+    (cited 𝓤 H (Steps 𝓤 H (𝓖 .A) (𝓜 .mem) (𝓡 .run)) 𝓜 𝓡 code.env #step step-def.routine code.calls-reader·step
+    (step-thm.met 𝓤 H 𝓜 𝓖 𝓡))))

@@ -1,9 +1,9 @@
 -- `reader::open` meets its contract: its code is followed by hand, for it makes a struct that holds a reference. The string can be had
 -- twice, once for the parameter at exit and once inside the reader.
 -- Assumes nothing.
-use Rattle.walks.proofs.Names.{refl, ℕ, List, [], _∷_, length, URA, named, w64, Val, SProp, ent, emp, via, fst∗, Lft, Share, Fml, ftrue, flft, Memory}
-use Rattle.walks.proofs.Names.{Routine, Heap, Calls, Loops, WpFn, Atoms, Fun, givenOf, Given, ‵, raw, _⊛_, _$_, _∵_, !, qed, by, move, fsplit, fjoin}
-use Rattle.walks.proofs.Names.{suffices, frame, agg, look, init, stop, from, lit, false-lit, and-then, no-more, assigns, returns, owns, Is}
+use Rattle.walks.proofs.Names.{refl, ℕ, List, [], _∷_, length, URA, named, w64, Val, SProp, ent, emp, via, fst∗, Lft, Share, ftrue, flft, Memory, Sq}
+use Rattle.walks.proofs.Names.{prop, Routine, Heap, Calls, Loops, WpFn, Atoms, Fun, givenOf, Given, ‵, raw, _⊛_, _$_, _∵_, !, qed, by, move, fsplit}
+use Rattle.walks.proofs.Names.{fjoin, suffices, frame, agg, look, init, stop, from, lit, false-lit, and-then, no-more, assigns, returns, owns, Is}
 use Rattle.walks.proofs.Names.{uint-makes, u8, usize, RefT, NamedLft, plain, namedLft, sliceVal, ShrSlice, slice-vals, shr-slice-tells}
 use Rattle.walks.proofs.Names.{shr-slice-lawful, nothing, own-shut, onEntry, says, Stays, stay-none-slice, walkOf, goes-none-slice, ends-at, yes}
 use lib.Dec.{lit<}
@@ -42,7 +42,8 @@ sets-is = LL.owes P.the-type P′.the-laws (sets 0 3) ((refl, lit< tt), ((refl, 
 fresh-is : Is S.the-row fresh (S′.lowered fresh ∷ [])
 fresh-is = LL.owes S.the-type S′.the-laws fresh (directions-is, (sets-is, tt))
 
-module _ {M : Type 1} (𝓤 : URA M) (H : Heap 𝓤) (A : Atoms 𝓤) (W : Given 𝓤 H A) (mem : Memory → SProp 𝓤) (run : Routine → Fun 𝓤) (κ : Lft) (q : Share) (s : RefT (List ℕ)) where
+module _ {M : Type 1} (𝓤 : URA M) (H : Heap 𝓤) (A : Atoms 𝓤) (W : Given 𝓤 H A) (mem : Memory → SProp 𝓤) (run : Routine → Fun 𝓤)
+    (κ : Lft) (q : Share) (s : RefT (List ℕ)) where
   abbrev α : NamedLft
   α = namedLft 1 0 tt (κ, tt)
 
@@ -59,13 +60,10 @@ module _ {M : Type 1} (𝓤 : URA M) (H : Heap 𝓤) (A : Atoms 𝓤) (W : Given
   abbrev Post : Val → SProp 𝓤
   Post = walkOf 𝓤 H A opn.ended stayed (opn.clauses 𝓤 H A mem run) .post (((κ, tt), (q, tt), tt, (s, tt), at), tt)
 
-  abbrev Own : Fml
-  Own = ShrSlice (named 0) κ u8 .own s (v ∷ [])
-
-  exits : ent 𝓤 (onEntry 𝓤 H A opn.signature (κ, tt) (q, tt) (s, tt) at) (Post (T′.lowered made))
+  exits : Sq W ((‵ (flft κ q) ⊛ ‵ ftrue) ∷ ‵ (owns (ShrSlice (named 0) κ u8 ∷ []) (s, tt) at) ∷ []) (prop (Post (T′.lowered made)))
   exits =
-      qed W ((‵ (flft κ q) ⊛ ‵ ftrue) ∷ ‵ (owns (ShrSlice (named 0) κ u8 ∷ []) (s, tt) at) ∷ []) ∵
-      suffices ! _ (ends-at 𝓤 H A opn.ended stayed (opn.clauses 𝓤 H A mem run) W (((κ, tt), (q, tt), tt, (s, tt), at), tt) (T′.lowered made) made (tt, tt) (tt, tt)) $ says ! refl $
+      suffices ! _ (ends-at 𝓤 H A opn.ended stayed (opn.clauses 𝓤 H A mem run) W (((κ, tt), (q, tt), tt, (s, tt), at), tt) (T′.lowered made) made
+      (tt, tt) (tt, tt)) $ says ! refl $
       frame ! $ fsplit ! $ copies ! (named 0) κ u8 s (v ∷ []) $ move ! (0 ∷ 2 ∷ []) $ fjoin ! $ frame ! $
       -- [what the string owns]: with what the other fields own it is what the reader owns
       nothing ! $ beside ! S.the-row (LL.makes S.the-type S′.the-plain 𝓤 H A) fresh _ fresh-is $
@@ -73,20 +71,32 @@ module _ {M : Type 1} (𝓤 : URA M) (H : Heap 𝓤) (A : Atoms 𝓤) (W : Given
       move ! (1 ∷ 0 ∷ []) $ fjoin ! $ by ! (own-shut 𝓤 H A W (T.the-type α) (T′.the-laws α) (s, (0, (0, (fresh, tt)))))
 
   module _ (C : Calls 𝓤 H) (Λ : Loops 𝓤 H) where
-    walk : Is (ShrSlice (named 0) κ u8) s (v ∷ []) → ent 𝓤 (onEntry 𝓤 H A opn.signature (κ, tt) (q, tt) (s, tt) at) (WpFn 𝓤 H C Λ code.function (v ∷ []) Post)
+    walk : Is (ShrSlice (named 0) κ u8) s (v ∷ [])
+        → ent 𝓤 (onEntry 𝓤 H A opn.signature (κ, tt) (q, tt) (s, tt) at) (WpFn 𝓤 H C Λ code.function (v ∷ []) Post)
     walk p =
-        qed W (raw (onEntry 𝓤 H A opn.signature (κ, tt) (q, tt) (s, tt) at) ∷ []) ∵ enters ! C Λ code.function (v ∷ []) _ (λ bs. (shr-slice-lawful 𝓤 H A W (named 0) κ u8 .typed s (v ∷ []) p .0, tt)) (λ bs.
-        puts ! 4 (agg ! (and-then ! (lit ! tt) (and-then ! (lit ! tt) (and-then ! (false-lit !) (and-then ! (false-lit !) (no-more !)))))) refl (LL.lawful Q.the-type Q′.the-laws 𝓤 H A W .typed undirected _ directions-is .0) $
-        puts ! 2 (agg ! (and-then ! (lit ! tt) (and-then ! (lit ! tt) (no-more !)))) refl (LL.lawful P.the-type P′.the-laws 𝓤 H A W .typed (sets 0 3) _ sets-is .0) $
+        qed W (raw (onEntry 𝓤 H A opn.signature (κ, tt) (q, tt) (s, tt) at) ∷ []) ∵
+        enters ! C Λ code.function (v ∷ []) _ (λ bs. (shr-slice-lawful 𝓤 H A W (named 0) κ u8 .typed s (v ∷ []) p .0, tt)) (λ bs.
+        puts ! 4 (agg ! (and-then ! (lit ! tt) (and-then ! (lit ! tt) (and-then ! (false-lit !) (and-then ! (false-lit !) (no-more !)))))) refl
+        (LL.lawful Q.the-type Q′.the-laws 𝓤 H A W .typed undirected _ directions-is .0) $
+        puts ! 2 (agg ! (and-then ! (lit ! tt) (and-then ! (lit ! tt) (no-more !)))) refl (LL.lawful P.the-type P′.the-laws 𝓤 H A W .typed (sets 0 3)
+        _ sets-is .0) $
         puts ! 0 (agg ! (arg ! 4 refl (arg ! 2 refl (no-more !)))) refl (LL.lawful S.the-type S′.the-laws 𝓤 H A W .typed fresh _ fresh-is .0) $
         assigns ! (agg ! (arg ! 6 refl (and-then ! (lit ! tt) (and-then ! (lit ! tt) (arg ! 0 refl (no-more !)))))) (from ! (stop !))
-        (init ! 8 refl (tt, (shr-slice-lawful 𝓤 H A W (named 0) κ u8 .typed s (v ∷ []) p .0 .1, (record { fits = lit< tt }, (record { fits = lit< tt }, (LL.lawful S.the-type S′.the-laws 𝓤 H A W .typed fresh _ fresh-is .0 .1, tt)))))) $
-        returns ! (look ! 8 refl) $ move ! (10 ∷ []) $ leaves ! 1 refl refl $ by ! exits)
+        (init ! 8 refl (
+          tt,
+          (
+            shr-slice-lawful 𝓤 H A W (named 0) κ u8 .typed s (v ∷ []) p .0 .1,
+            (record { fits = lit< tt }, (record { fits = lit< tt }, (LL.lawful S.the-type S′.the-laws 𝓤 H A W .typed fresh _ fresh-is .0 .1, tt))),
+          ),
+        )) $
+        returns ! (look ! 8 refl) $ move ! (10 ∷ []) $ leaves ! 1 refl refl $ by ! (exits .prf))
 
 pub open-spec : {M : Type 1} → stated.statement M
 unfolding code.routine tablesOf
 open-spec 𝓤 H 𝓜 𝓖 𝓡 =
-    proved-by 𝓤 H 𝓜 𝓖 𝓡 code.env #open code.function (code.unfolded 𝓤 H 𝓜 𝓡) opn.ended stayed (opn.clauses 𝓤 H (𝓖 .A) (𝓜 .mem) (𝓡 .run))
+    proved-by 𝓤 H 𝓜 𝓖 𝓡 code.env #open code.function (code.unfolded 𝓤 H 𝓜 𝓡) opn.ended stayed
+    (opn.clauses 𝓤 H (𝓖 .A) (𝓜 .mem) (𝓡 .run))
     (goes-none-slice 𝓤 H (𝓖 .A) (givenOf 𝓤 H 𝓜 𝓖) 1 (0 ∷ []) tt (plain (λ _. u8)) yes, tt)
     (λ κs. (slice-vals, tt)) (λ κs. (shr-slice-tells (named 0) (κs .0) u8, tt))
-    (λ κs qs bounds a g are. via 𝓤 _ (fst∗ 𝓤 _ (emp 𝓤)) (walk 𝓤 H (𝓖 .A) (givenOf 𝓤 H 𝓜 𝓖) (𝓜 .mem) (𝓡 .run) (κs .0) (qs .0) (a .0) (𝓣of 𝓤 H 𝓜 𝓖 𝓡 code.env .C) (𝓣of 𝓤 H 𝓜 𝓖 𝓡 code.env .Λ) (are .0)))
+    (λ κs qs bounds a g are. via 𝓤 _ (fst∗ 𝓤 _ (emp 𝓤)) (walk 𝓤 H (𝓖 .A) (givenOf 𝓤 H 𝓜 𝓖) (𝓜 .mem) (𝓡 .run) (κs .0)
+    (qs .0) (a .0) (𝓣of 𝓤 H 𝓜 𝓖 𝓡 code.env .C) (𝓣of 𝓤 H 𝓜 𝓖 𝓡 code.env .Λ) (are .0)))

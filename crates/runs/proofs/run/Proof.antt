@@ -1,12 +1,12 @@
 -- `runs::run` meets its contract: a walk of its code by hand. `run_at` gives the bounds and the numbers, `part` the part of the string,
 -- and the struct is made of them.
 use Rattle.walks.proofs.Names.{_≡_, refl, ℕ, _-_, _<_, _^_, [], _∷_, List, length, take, drop, URA, named, w64, w8, Val, vint, SProp, ent, emp, via}
-use Rattle.walks.proofs.Names.{fst∗, id⊢, Lft, Share, Fml, ftrue, flft, Memory, Routine, Heap, Calls, Loops, WpFn, Atoms, Fun, givenOf, Given, ‵, raw}
-use Rattle.walks.proofs.Names.{_⊛_, ⋆, _$_, _∵_, !, qed, by, move, keep, use1, use2, split, join, fsplit, fjoin, suffices, frame, done, look, init}
-use Rattle.walks.proofs.Names.{stop, from, and-then, no-more, assigns, returns, agg, FmC, fmOf, owns, Is, uint-makes, uint-vals, uint-tells, u8}
-use Rattle.walks.proofs.Names.{usize, RefT, NamedLft, sliceVal, ShrSlice, slice-vals, shr-slice-tells, shr-slice-lawful, shr-slice-copy, owned}
-use Rattle.walks.proofs.Names.{nothing, Declared, own-shut, onEntry, tripleOf, Contract, Triple, cited, says, Stays, stay-none, stay-none-slice}
-use Rattle.walks.proofs.Names.{walkOf, goes-none, goes-none-slice, Walks, ends-at, walked, yes, plain, namedLft}
+use Rattle.walks.proofs.Names.{Sq, prop, fst∗, id⊢, Lft, Share, Fml, ftrue, flft, Memory, Routine, Heap, Calls, Loops, WpFn, Atoms, Fun, givenOf}
+use Rattle.walks.proofs.Names.{Given, ‵, raw, _⊛_, ⋆, _$_, _∵_, !, qed, by, move, keep, use1, use2, split, join, fsplit, fjoin, suffices, frame, done}
+use Rattle.walks.proofs.Names.{look, init, stop, from, and-then, no-more, assigns, returns, agg, FmC, fmOf, owns, Is, uint-makes, uint-vals}
+use Rattle.walks.proofs.Names.{uint-tells, u8, usize, RefT, NamedLft, sliceVal, ShrSlice, slice-vals, shr-slice-tells, shr-slice-lawful}
+use Rattle.walks.proofs.Names.{shr-slice-copy, owned, nothing, Declared, own-shut, onEntry, tripleOf, Contract, Triple, cited, says, Stays, stay-none}
+use Rattle.walks.proofs.Names.{stay-none-slice, walkOf, goes-none, goes-none-slice, Walks, ends-at, walked, yes, plain, namedLft}
 use contract.Running.{tablesOf}
 use denote.Ref.{now}
 use denote.Struct.Laws as LL
@@ -48,7 +48,8 @@ module _ {M : Type 1} (𝓤 : URA M) (H : Heap 𝓤) (A : Atoms 𝓤) (mem : Mem
 abbrev stayed : Stays (this.ended .signature .params) (this.ended .kept)
 stayed = (stay-none-slice (0 ∷ []) tt (plain (λ _. u8)) yes, (stay-none (λ _. usize) yes, tt))
 
-module _ {M : Type 1} (𝓤 : URA M) (H : Heap 𝓤) (A : Atoms 𝓤) (W : Given 𝓤 H A) (mem : Memory → SProp 𝓤) (run : Routine → Fun 𝓤) (κ : Lft) (q : Share) (s : RefT (List ℕ)) (k : ℕ) (s-fits : length (s .now) < 2 ^ 64) (k-fits : k < 2 ^ 64) where
+module _ {M : Type 1} (𝓤 : URA M) (H : Heap 𝓤) (A : Atoms 𝓤) (W : Given 𝓤 H A) (mem : Memory → SProp 𝓤) (run : Routine → Fun 𝓤)
+    (κ : Lft) (q : Share) (s : RefT (List ℕ)) (k : ℕ) (s-fits : length (s .now) < 2 ^ 64) (k-fits : k < 2 ^ 64) where
   abbrev α : NamedLft
   α = namedLft 1 0 tt (κ, tt)
 
@@ -89,60 +90,87 @@ module _ {M : Type 1} (𝓤 : URA M) (H : Heap 𝓤) (A : Atoms 𝓤) (W : Given
   abbrev to-run-at : RunAt 𝓤 H A mem run .Ghost
   to-run-at = (((κ, tt), (q, tt), tt, (s, (k, tt)), (v ∷ [], (vint w64 k ∷ [], tt))), tt)
 
-  asks-run-at : ent 𝓤 (⋆ 𝓤 H A ((‵ (flft κ q) ⊛ ‵ ftrue) ∷ ‵ (Own s) ∷ [])) (RunAt 𝓤 H A mem run .pre to-run-at)
-  asks-run-at = qed W ((‵ (flft κ q) ⊛ ‵ ftrue) ∷ ‵ (Own s) ∷ []) ∵ move ! (1 ∷ []) $ nothing ! $ beside ! usize (uint-makes 𝓤 H A W w64) k _ (refl, k-fits) $ move ! (1 ∷ 0 ∷ []) $ fjoin ! $ move ! (1 ∷ 0 ∷ []) $ join ! $ frame ! $ done !
+  asks-run-at : Sq W ((‵ (flft κ q) ⊛ ‵ ftrue) ∷ ‵ (Own s) ∷ []) (prop (RunAt 𝓤 H A mem run .pre to-run-at))
+  asks-run-at =
+      move ! (1 ∷ []) $ nothing ! $ beside ! usize (uint-makes 𝓤 H A W w64) k _ (refl, k-fits) $ move ! (1 ∷ 0 ∷ []) $ fjoin ! $
+      move ! (1 ∷ 0 ∷ []) $ join ! $ frame ! $ done !
 
   abbrev to-part : Part 𝓤 H A mem run .Ghost
   to-part = (((κ, tt), (q, tt), tt, (s, (g .start, (g .end, tt))), (v ∷ [], (vint w64 (g .start) ∷ [], (vint w64 (g .end) ∷ [], tt)))), tt)
 
-  asks-part : IsG → ent 𝓤 (⋆ 𝓤 H A ((‵ (flft κ q) ⊛ ‵ ftrue) ∷ ‵ (Own s) ∷ [])) (Part 𝓤 H A mem run .pre to-part)
+  asks-part : IsG → Sq W ((‵ (flft κ q) ⊛ ‵ ftrue) ∷ ‵ (Own s) ∷ []) (prop (Part 𝓤 H A mem run .pre to-part))
   asks-part is =
-      qed W ((‵ (flft κ q) ⊛ ‵ ftrue) ∷ ‵ (Own s) ∷ []) ∵ says ! (run-lies (s .now) k) $ frame ! $ nothing ! $ beside ! usize (uint-makes 𝓤 H A W w64) (g .end) _ (LL.owed B.the-type B′.the-laws g _ is .1 .0) $
+      says ! (run-lies (s .now) k) $ frame ! $ nothing ! $
+      beside ! usize (uint-makes 𝓤 H A W w64) (g .end) _ (LL.owed B.the-type B′.the-laws g _ is .1 .0) $
       beside ! usize (uint-makes 𝓤 H A W w64) (g .start) _ (LL.owed B.the-type B′.the-laws g _ is .0) $ move ! (1 ∷ 0 ∷ []) $ fjoin ! $ done !
 
-  exits : IsG → (r : RefT (List ℕ)) → Is-part r → ent 𝓤 (⋆ 𝓤 H A ((‵ (flft κ q) ⊛ ‵ ftrue) ∷ ‵ (Own r) ∷ ‵ (Own s) ∷ [])) (Post (T′.lowered (made r)))
+  exits : IsG → (r : RefT (List ℕ)) → Is-part r
+      → ent 𝓤 (⋆ 𝓤 H A ((‵ (flft κ q) ⊛ ‵ ftrue) ∷ ‵ (Own r) ∷ ‵ (Own s) ∷ [])) (Post (T′.lowered (made r)))
   exits is r e =
       let is-g = LL.owed B.the-type B′.the-laws g _ is in
       qed W ((‵ (flft κ q) ⊛ ‵ ftrue) ∷ ‵ (Own r) ∷ ‵ (Own s) ∷ []) ∵
-      suffices ! _ (ends-at 𝓤 H A this.ended stayed (this.clauses 𝓤 H A mem run) W (((κ, tt), (q, tt), tt, a, vals), tt) (T′.lowered (made r)) (made r) (tt, (tt, tt)) (tt, (tt, tt))) $
+      suffices ! _ (ends-at 𝓤 H A this.ended stayed (this.clauses 𝓤 H A mem run) W (((κ, tt), (q, tt), tt, a, vals), tt) (T′.lowered (made r))
+      (made r) (tt, (tt, tt)) (tt, (tt, tt))) $
       says ! (record { part = e .0; place = e .1; answer = refl; set = refl; width = refl; direction = refl }) $ frame ! $
       nothing ! $ beside ! usize (uint-makes 𝓤 H A W w64) k _ (refl, k-fits) $ move ! (2 ∷ 0 ∷ []) $ fjoin ! $ frame ! $
       -- [what the part owns]: with the numbers' facts it is what the struct owns
-      nothing ! $ owned ! u8 (Is u8) (uint-makes 𝓤 H A W w8) (g .direction) _ (is-g .1 .1 .1 .1 .1 .0) $ fjoin ! $ owned ! u8 (Is u8) (uint-makes 𝓤 H A W w8) (g .width) _ (is-g .1 .1 .1 .1 .0) $ fjoin ! $
-      owned ! u8 (Is u8) (uint-makes 𝓤 H A W w8) (g .set) _ (is-g .1 .1 .1 .0) $ fjoin ! $ owned ! N.the-row (Is N.the-row) (LL.makes N.the-type N′.the-plain 𝓤 H A) (g .answer) _ (is-g .1 .1 .0) $ fjoin ! $ move ! (1 ∷ 0 ∷ []) $ fjoin ! $
+      nothing ! $ owned ! u8 (Is u8) (uint-makes 𝓤 H A W w8) (g .direction) _ (is-g .1 .1 .1 .1 .1 .0) $ fjoin ! $
+      owned ! u8 (Is u8) (uint-makes 𝓤 H A W w8) (g .width) _ (is-g .1 .1 .1 .1 .0) $ fjoin ! $
+      owned ! u8 (Is u8) (uint-makes 𝓤 H A W w8) (g .set) _ (is-g .1 .1 .1 .0) $ fjoin ! $
+      owned ! N.the-row (Is N.the-row) (LL.makes N.the-type N′.the-plain 𝓤 H A) (g .answer) _ (is-g .1 .1 .0) $ fjoin ! $ move ! (1 ∷ 0 ∷ []) $
+      fjoin ! $
       by ! (own-shut 𝓤 H A W D (T′.the-laws α) (r, (g .answer, (g .set, (g .width, (g .direction, tt))))))
 
-  module _ (C : Calls 𝓤 H) (Λ : Loops 𝓤 H) (fm : FmC 𝓤 H (W .laws) C) (known-run-at : Triple 𝓤 (C #run-at) (RunAt 𝓤 H A mem run)) (known-part : Triple 𝓤 (C #part) (Part 𝓤 H A mem run)) where
+  module _ (C : Calls 𝓤 H) (Λ : Loops 𝓤 H) (fm : FmC 𝓤 H (W .laws) C) (known-run-at : Triple 𝓤 (C #run-at) (RunAt 𝓤 H A mem run))
+      (known-part : Triple 𝓤 (C #part) (Part 𝓤 H A mem run)) where
     walk : ent 𝓤 (onEntry 𝓤 H A this.signature (κ, tt) (q, tt) a vals) (WpFn 𝓤 H C Λ code.function (v ∷ vint w64 k ∷ []) Post)
     walk =
-        qed W ((‵ (flft κ q) ⊛ ‵ ftrue) ∷ ‵ (owns (ShrSlice (named 0) κ u8 ∷ usize ∷ []) a vals) ∷ []) ∵ move ! (1 ∷ []) $ fsplit ! $ keep ! (2 ∷ 0 ∷ []) $
+        qed W ((‵ (flft κ q) ⊛ ‵ ftrue) ∷ ‵ (owns (ShrSlice (named 0) κ u8 ∷ usize ∷ []) a vals) ∷ []) ∵ move ! (1 ∷ []) $ fsplit ! $
+        keep ! (2 ∷ 0 ∷ []) $
         enters ! C Λ code.function (v ∷ vint w64 k ∷ []) _ (λ bs. (sliced s-fits, (in64 k-fits, tt))) (λ bs.
         -- [_4; …; _3; …; _2; …; _1; …; room for _0; …; the token; what s owns]
-        move ! (11 ∷ []) $ use1 W (‵ (Own s) ⊛ ‵ (Own s)) (shr-slice-copy 𝓤 H A W (named 0) κ u8 .twice s (v ∷ [])) $ split ! $ move ! (12 ∷ 0 ∷ []) $ use2 W (raw (RunAt 𝓤 H A mem run .pre to-run-at)) asks-run-at $
-        calls-value ! fm run-at.ended (run-at.clauses 𝓤 H A mem run) known-run-at to-run-at g (λ r e. id⊢ 𝓤 _) (LL.vals B.the-type B′.the-laws) (LL.tells B.the-type B′.the-laws)
+        move ! (11 ∷ []) $ use1 W (‵ (Own s) ⊛ ‵ (Own s)) (shr-slice-copy 𝓤 H A W (named 0) κ u8 .twice s (v ∷ [])) $ split ! $
+        move ! (12 ∷ 0 ∷ []) $ use2 W (raw (RunAt 𝓤 H A mem run .pre to-run-at)) (asks-run-at .prf) $
+        calls-value ! fm run-at.ended (run-at.clauses 𝓤 H A mem run) known-run-at to-run-at g (λ r e. id⊢ 𝓤 _) (LL.vals B.the-type B′.the-laws)
+        (LL.tells B.the-type B′.the-laws)
         (arg ! 8 refl (arg ! 6 refl (no-more !))) (λ is.
         use1 W (‵ (flft κ q) ⊛ ‵ ftrue) (id⊢ 𝓤 _) $ lands-in ! 4 refl (LL.lawful B.the-type B′.the-laws 𝓤 H A W .typed g _ is .0) $
-        move ! (1 ∷ []) $ use1 W (‵ (Own s) ⊛ ‵ (Own s)) (shr-slice-copy 𝓤 H A W (named 0) κ u8 .twice s (v ∷ [])) $ split ! $ move ! (2 ∷ 0 ∷ []) $ use2 W (raw (Part 𝓤 H A mem run .pre to-part)) (asks-part is) $
-        calls-some ! fm part.ended (part.clauses 𝓤 H A mem run) known-part to-part Is-part (λ r e. id⊢ 𝓤 _) slice-vals (shr-slice-tells (named 0) κ u8)
+        move ! (1 ∷ []) $ use1 W (‵ (Own s) ⊛ ‵ (Own s)) (shr-slice-copy 𝓤 H A W (named 0) κ u8 .twice s (v ∷ [])) $ split ! $
+        move ! (2 ∷ 0 ∷ []) $ use2 W (raw (Part 𝓤 H A mem run .pre to-part)) (asks-part is .prf) $
+        calls-some ! fm part.ended (part.clauses 𝓤 H A mem run) known-part to-part Is-part (λ r e.
+        id⊢ 𝓤 _) slice-vals (shr-slice-tells (named 0) κ u8)
         (arg ! 8 refl (and-then ! (part ! 4 0 refl refl refl) (and-then ! (part ! 4 1 refl refl refl) (no-more !)))) (λ r e is-r.
         use1 W (‵ (flft κ q) ⊛ ‵ ftrue) (id⊢ 𝓤 _) $ lands-in ! 3 refl (tt, shr-slice-lawful 𝓤 H A W (named 0) κ u8 .typed r _ is-r .0 .1) $
         -- [the token; what the part owns; what s owns; the locals]
         assigns ! (agg ! (arg ! 3 refl (and-then ! (part ! 5 2 refl refl refl) (and-then ! (part ! 5 3 refl refl refl)
         (and-then ! (part ! 5 4 refl refl refl) (and-then ! (part ! 5 5 refl refl refl) (no-more !))))))) (from ! (stop !))
-        (init ! 11 refl (tt, (shr-slice-lawful 𝓤 H A W (named 0) κ u8 .typed r _ is-r .0 .1, LL.lawful B.the-type B′.the-laws 𝓤 H A W .typed g _ is .0 .1 .1 .1))) $
+        (init ! 11 refl (
+          tt,
+          (
+            shr-slice-lawful 𝓤 H A W (named 0) κ u8 .typed r _ is-r .0 .1,
+            LL.lawful B.the-type B′.the-laws 𝓤 H A W .typed g _ is .0 .1 .1 .1,
+          ),
+        )) $
         returns ! (look ! 11 refl) $ leaves ! 3 refl refl $ by ! (exits is r e))))
 
 module _ {M : Type 1} (𝓤 : URA M) (H : Heap 𝓤) (A : Atoms 𝓤) (W : Given 𝓤 H A) (mem : Memory → SProp 𝓤) (run : Routine → Fun 𝓤) where
-  run-walks : (C : Calls 𝓤 H) (Λ : Loops 𝓤 H) → FmC 𝓤 H (W .laws) C → Triple 𝓤 (C #run-at) (RunAt 𝓤 H A mem run) → Triple 𝓤 (C #part) (Part 𝓤 H A mem run) → Walks 𝓤 H A this.ended stayed (WpFn 𝓤 H C Λ code.function) (this.clauses 𝓤 H A mem run)
-  run-walks C Λ fm kr kp = walked 𝓤 H A this.ended stayed (this.clauses 𝓤 H A mem run) (WpFn 𝓤 H C Λ code.function) (λ κs. (slice-vals, (uint-vals w64, tt))) (λ κs. (shr-slice-tells (named 0) (κs .0) u8, (uint-tells w64, tt)))
-      (λ κs qs bounds a g are. via 𝓤 _ (fst∗ 𝓤 _ (emp 𝓤)) (walk 𝓤 H A W mem run (κs .0) (qs .0) (a .0) (a .1 .0) (are .0 .0 .1 .0) (are .1 .0 .1) C Λ fm kr kp))
+  run-walks : (C : Calls 𝓤 H) (Λ : Loops 𝓤 H) → FmC 𝓤 H (W .laws) C → Triple 𝓤 (C #run-at) (RunAt 𝓤 H A mem run)
+      → Triple 𝓤 (C #part) (Part 𝓤 H A mem run) → Walks 𝓤 H A this.ended stayed (WpFn 𝓤 H C Λ code.function) (this.clauses 𝓤 H A mem run)
+  run-walks C Λ fm kr kp = walked 𝓤 H A this.ended stayed (this.clauses 𝓤 H A mem run) (WpFn 𝓤 H C Λ code.function) (λ κs.
+      (slice-vals, (uint-vals w64, tt))) (λ κs. (shr-slice-tells (named 0) (κs .0) u8, (uint-tells w64, tt)))
+      (λ κs qs bounds a g are. via 𝓤 _ (fst∗ 𝓤 _ (emp 𝓤)) (walk 𝓤 H A W mem run (κs .0) (qs .0) (a .0) (a .1 .0) (are .0 .0 .1 .0)
+      (are .1 .0 .1) C Λ fm kr kp))
 
 pub run-spec : {M : Type 1} → stated.statement M
 unfolding code.routine tablesOf
 run-spec 𝓤 H 𝓜 𝓖 𝓡 =
     let W = givenOf 𝓤 H 𝓜 𝓖 in
-    proved 𝓤 H 𝓜 𝓖 𝓡 code.env #run code.function (code.unfolded 𝓤 H 𝓜 𝓡) this.ended stayed (this.clauses 𝓤 H (𝓖 .A) (𝓜 .mem) (𝓡 .run))
+    proved 𝓤 H 𝓜 𝓖 𝓡 code.env #run code.function (code.unfolded 𝓤 H 𝓜 𝓡) this.ended stayed
+    (this.clauses 𝓤 H (𝓖 .A) (𝓜 .mem) (𝓡 .run))
     (goes-none-slice 𝓤 H (𝓖 .A) W 1 (0 ∷ []) tt (plain (λ _. u8)) yes, (goes-none 𝓤 H (𝓖 .A) W 1 (λ _. usize) yes (λ κs x f. refl), tt))
-    (run-walks 𝓤 H (𝓖 .A) W (𝓜 .mem) (𝓡 .run) (𝓣of 𝓤 H 𝓜 𝓖 𝓡 code.env .C) (𝓣of 𝓤 H 𝓜 𝓖 𝓡 code.env .Λ) (fmOf 𝓤 H (W .laws) (𝓣of 𝓤 H 𝓜 𝓖 𝓡 code.env))
-    (cited 𝓤 H (RunAt 𝓤 H (𝓖 .A) (𝓜 .mem) (𝓡 .run)) 𝓜 𝓡 code.env #run-at run-at-def.routine code.calls-runs·run-at (run-at-thm.met 𝓤 H 𝓜 𝓖 𝓡))
-    (cited 𝓤 H (Part 𝓤 H (𝓖 .A) (𝓜 .mem) (𝓡 .run)) 𝓜 𝓡 code.env #part part-def.routine code.calls-runs·part (part-thm.met 𝓤 H 𝓜 𝓖 𝓡)))
+    (run-walks 𝓤 H (𝓖 .A) W (𝓜 .mem) (𝓡 .run) (𝓣of 𝓤 H 𝓜 𝓖 𝓡 code.env .C) (𝓣of 𝓤 H 𝓜 𝓖 𝓡 code.env .Λ)
+    (fmOf 𝓤 H (W .laws) (𝓣of 𝓤 H 𝓜 𝓖 𝓡 code.env))
+    (cited 𝓤 H (RunAt 𝓤 H (𝓖 .A) (𝓜 .mem) (𝓡 .run)) 𝓜 𝓡 code.env #run-at run-at-def.routine code.calls-runs·run-at
+    (run-at-thm.met 𝓤 H 𝓜 𝓖 𝓡))
+    (cited 𝓤 H (Part 𝓤 H (𝓖 .A) (𝓜 .mem) (𝓡 .run)) 𝓜 𝓡 code.env #part part-def.routine code.calls-runs·part
+    (part-thm.met 𝓤 H 𝓜 𝓖 𝓡)))

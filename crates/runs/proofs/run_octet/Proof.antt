@@ -1,11 +1,11 @@
 -- `runs::run_octet` meets its contract: a walk of its code by hand. A local holds the run, and its part is lent to `octet`.
 use Rattle.walks.proofs.Names.{_≡_, refl, ap, ℕ, _<_, _^_, [], _∷_, List, length, getD, URA, named, erased, w64, w8, Val, vint, SProp, ent, emp, via}
-use Rattle.walks.proofs.Names.{fst∗, id⊢, Lft, Share, Fml, ftrue, flft, Memory, Routine, Heap, Calls, Loops, WpFn, Atoms, Fun, givenOf, Given, ‵, raw}
-use Rattle.walks.proofs.Names.{given, _⊛_, ⋆, _$_, _∵_, !, qed, by, move, keep, let-go, use1, use2, split, join, learn, fsplit, fjoin, suffices}
-use Rattle.walks.proofs.Names.{frame, done, look, of-opd, no-more, returns, FmC, fmOf, owns, Is, uint-makes, uint-vals, uint-tells, u8, usize, RefT}
-use Rattle.walks.proofs.Names.{NamedLft, sliceVal, ShrSlice, slice-vals, shr-slice-tells, shr-slice-copy, owned, nothing, Declared, all-own, ownAt}
-use Rattle.walks.proofs.Names.{rest, own-open, own-out, Values, onEntry, tripleOf, Contract, Triple, cited, says, Stays, stay-none, stay-none-slice}
-use Rattle.walks.proofs.Names.{walkOf, goes-none, goes-none-slice, Walks, ends-at, walked, yes, plain, namedLft}
+use Rattle.walks.proofs.Names.{Sq, prop, fst∗, id⊢, Lft, Share, Fml, ftrue, flft, Memory, Routine, Heap, Calls, Loops, WpFn, Atoms, Fun, givenOf}
+use Rattle.walks.proofs.Names.{Given, ‵, raw, given, _⊛_, _$_, _∵_, !, qed, move, keep, let-go, use1, use2, split, join, learn, fsplit, fjoin}
+use Rattle.walks.proofs.Names.{suffices, frame, done, look, of-opd, no-more, returns, FmC, fmOf, owns, Is, uint-makes, uint-vals, uint-tells, u8}
+use Rattle.walks.proofs.Names.{usize, RefT, NamedLft, sliceVal, ShrSlice, slice-vals, shr-slice-tells, shr-slice-copy, owned, nothing, Declared}
+use Rattle.walks.proofs.Names.{all-own, ownAt, rest, own-open, own-out, Values, onEntry, tripleOf, Contract, Triple, cited, says, Stays, stay-none}
+use Rattle.walks.proofs.Names.{stay-none-slice, walkOf, goes-none, goes-none-slice, Walks, ends-at, walked, yes, plain, namedLft}
 use contract.Running.{tablesOf}
 use denote.Struct.Laws as LL
 use Rattle.walks.proofs.Body.{𝓣of, proved}
@@ -40,7 +40,8 @@ module _ {M : Type 1} (𝓤 : URA M) (H : Heap 𝓤) (A : Atoms 𝓤) (mem : Mem
 abbrev stayed : Stays (this.ended .signature .params) (this.ended .kept)
 stayed = (stay-none-slice (0 ∷ []) tt (plain (λ _. u8)) yes, (stay-none (λ _. usize) yes, (stay-none (λ _. usize) yes, tt)))
 
-module _ {M : Type 1} (𝓤 : URA M) (H : Heap 𝓤) (A : Atoms 𝓤) (W : Given 𝓤 H A) (mem : Memory → SProp 𝓤) (run : Routine → Fun 𝓤) (κ : Lft) (q : Share) (s : RefT (List ℕ)) (k i : ℕ) (s-fits : length (s .now) < 2 ^ 64) (k-fits : k < 2 ^ 64) (i-fits : i < 2 ^ 64) where
+module _ {M : Type 1} (𝓤 : URA M) (H : Heap 𝓤) (A : Atoms 𝓤) (W : Given 𝓤 H A) (mem : Memory → SProp 𝓤) (run : Routine → Fun 𝓤)
+    (κ : Lft) (q : Share) (s : RefT (List ℕ)) (k i : ℕ) (s-fits : length (s .now) < 2 ^ 64) (k-fits : k < 2 ^ 64) (i-fits : i < 2 ^ 64) where
   -- the lifetime of the string, by its name in the signature, and in a local
   abbrev α : NamedLft
   α = namedLft 1 0 tt (κ, tt)
@@ -72,8 +73,10 @@ module _ {M : Type 1} (𝓤 : URA M) (H : Heap 𝓤) (A : Atoms 𝓤) (W : Given
   abbrev to-run : Asked 𝓤 H A mem run .Ghost
   to-run = (((κ, tt), (q, tt), tt, (s, (k, tt)), (v ∷ [], (vint w64 k ∷ [], tt))), tt)
 
-  asks-run : ent 𝓤 (⋆ 𝓤 H A ((‵ (flft κ q) ⊛ ‵ ftrue) ∷ ‵ (Own s) ∷ [])) (Asked 𝓤 H A mem run .pre to-run)
-  asks-run = qed W ((‵ (flft κ q) ⊛ ‵ ftrue) ∷ ‵ (Own s) ∷ []) ∵ move ! (1 ∷ []) $ nothing ! $ beside ! usize (uint-makes 𝓤 H A W w64) k _ (refl, k-fits) $ move ! (1 ∷ 0 ∷ []) $ fjoin ! $ move ! (1 ∷ 0 ∷ []) $ join ! $ frame ! $ done !
+  asks-run : Sq W ((‵ (flft κ q) ⊛ ‵ ftrue) ∷ ‵ (Own s) ∷ []) (prop (Asked 𝓤 H A mem run .pre to-run))
+  asks-run =
+      move ! (1 ∷ []) $ nothing ! $ beside ! usize (uint-makes 𝓤 H A W w64) k _ (refl, k-fits) $ move ! (1 ∷ 0 ∷ []) $ fjoin ! $
+      move ! (1 ∷ 0 ∷ []) $ join ! $ frame ! $ done !
 
   module _ (r : Run) where
     -- the fields' values, and the octet
@@ -89,50 +92,73 @@ module _ {M : Type 1} (𝓤 : URA M) (H : Heap 𝓤) (A : Atoms 𝓤) (W : Given
     abbrev to-octet : Octet 𝓤 H A mem run .Ghost
     to-octet = (((κ, tt), (q, tt), tt, (r .part, (i, tt)), (p ∷ [], (vint w64 i ∷ [], tt))), tt)
 
-    asks-octet : ent 𝓤 (⋆ 𝓤 H A ((‵ (flft κ q) ⊛ ‵ ftrue) ∷ ‵ (Own (r .part)) ∷ [])) (Octet 𝓤 H A mem run .pre to-octet)
-    asks-octet = qed W ((‵ (flft κ q) ⊛ ‵ ftrue) ∷ ‵ (Own (r .part)) ∷ []) ∵ move ! (1 ∷ []) $ nothing ! $ beside ! usize (uint-makes 𝓤 H A W w64) i _ (refl, i-fits) $ move ! (1 ∷ 0 ∷ []) $ fjoin ! $ move ! (1 ∷ 0 ∷ []) $ join ! $ frame ! $ done !
+    asks-octet : Sq W ((‵ (flft κ q) ⊛ ‵ ftrue) ∷ ‵ (Own (r .part)) ∷ []) (prop (Octet 𝓤 H A mem run .pre to-octet))
+    asks-octet =
+        move ! (1 ∷ []) $ nothing ! $ beside ! usize (uint-makes 𝓤 H A W w64) i _ (refl, i-fits) $ move ! (1 ∷ 0 ∷ []) $ fjoin ! $
+        move ! (1 ∷ 0 ∷ []) $ join ! $ frame ! $ done !
 
-    exits : Shown s k r → Is u8 x (vint w8 x ∷ []) → ent 𝓤 (⋆ 𝓤 H A ((‵ (flft κ q) ⊛ ‵ ftrue) ∷ ‵ (Own s) ∷ [])) (Post (vint w8 x))
+    exits : Shown s k r → Is u8 x (vint w8 x ∷ []) → Sq W ((‵ (flft κ q) ⊛ ‵ ftrue) ∷ ‵ (Own s) ∷ []) (prop (Post (vint w8 x)))
     exits e is =
-        qed W ((‵ (flft κ q) ⊛ ‵ ftrue) ∷ ‵ (Own s) ∷ []) ∵
-        suffices ! _ (ends-at 𝓤 H A this.ended stayed (this.clauses 𝓤 H A mem run) W (((κ, tt), (q, tt), tt, a, vals), tt) (vint w8 x) x (tt, (tt, (tt, tt))) (tt, (tt, (tt, tt)))) $
+        suffices ! _ (ends-at 𝓤 H A this.ended stayed (this.clauses 𝓤 H A mem run) W (((κ, tt), (q, tt), tt, a, vals), tt) (vint w8 x) x
+        (tt, (tt, (tt, tt))) (tt, (tt, (tt, tt)))) $
         says ! (ap (λ (l : List ℕ). getD l i 0) (e .part)) $ frame ! $
-        nothing ! $ beside ! usize (uint-makes 𝓤 H A W w64) i _ (refl, i-fits) $ beside ! usize (uint-makes 𝓤 H A W w64) k _ (refl, k-fits) $ move ! (1 ∷ 0 ∷ []) $ fjoin ! $ frame ! $
+        nothing ! $ beside ! usize (uint-makes 𝓤 H A W w64) i _ (refl, i-fits) $ beside ! usize (uint-makes 𝓤 H A W w64) k _ (refl, k-fits) $
+        move ! (1 ∷ 0 ∷ []) $ fjoin ! $ frame ! $
         owned ! u8 (Is u8) (uint-makes 𝓤 H A W w8) x _ is $ done !
 
-  module _ (C : Calls 𝓤 H) (Λ : Loops 𝓤 H) (fm : FmC 𝓤 H (W .laws) C) (known-run : Triple 𝓤 (C #run) (Asked 𝓤 H A mem run)) (known-octet : Triple 𝓤 (C #octet) (Octet 𝓤 H A mem run)) where
+  module _ (C : Calls 𝓤 H) (Λ : Loops 𝓤 H) (fm : FmC 𝓤 H (W .laws) C) (known-run : Triple 𝓤 (C #run) (Asked 𝓤 H A mem run))
+      (known-octet : Triple 𝓤 (C #octet) (Octet 𝓤 H A mem run)) where
     walk : ent 𝓤 (onEntry 𝓤 H A this.signature (κ, tt) (q, tt) a vals) (WpFn 𝓤 H C Λ code.function (v ∷ vint w64 k ∷ vint w64 i ∷ []) Post)
     walk =
-        qed W ((‵ (flft κ q) ⊛ ‵ ftrue) ∷ ‵ (owns (ShrSlice (named 0) κ u8 ∷ usize ∷ usize ∷ []) a vals) ∷ []) ∵ move ! (1 ∷ []) $ fsplit ! $ keep ! (2 ∷ 0 ∷ []) $
+        qed W ((‵ (flft κ q) ⊛ ‵ ftrue) ∷ ‵ (owns (ShrSlice (named 0) κ u8 ∷ usize ∷ usize ∷ []) a vals) ∷ []) ∵ move ! (1 ∷ []) $
+        fsplit ! $ keep ! (2 ∷ 0 ∷ []) $
         enters ! C Λ code.function (v ∷ vint w64 k ∷ vint w64 i ∷ []) _ (λ bs. (sliced s-fits, (in64 k-fits, (in64 i-fits, tt)))) (λ bs.
         -- [_5; …; _4; …; _3; …; _2; …; _1; …; room for _0; …; the token; what s owns]
-        move ! (13 ∷ []) $ use1 W (‵ (Own s) ⊛ ‵ (Own s)) (shr-slice-copy 𝓤 H A W (named 0) κ u8 .twice s (v ∷ [])) $ split ! $ move ! (14 ∷ 0 ∷ []) $ use2 W (raw (Asked 𝓤 H A mem run .pre to-run)) asks-run $
-        calls-some ! fm asked.ended (asked.clauses 𝓤 H A mem run) known-run to-run (λ r. Shown s k r) (λ r e. id⊢ 𝓤 _) (LL.vals D (T′.the-laws α)) (LL.tells D (T′.the-laws α))
+        move ! (13 ∷ []) $ use1 W (‵ (Own s) ⊛ ‵ (Own s)) (shr-slice-copy 𝓤 H A W (named 0) κ u8 .twice s (v ∷ [])) $ split ! $
+        move ! (14 ∷ 0 ∷ []) $ use2 W (raw (Asked 𝓤 H A mem run .pre to-run)) (asks-run .prf) $
+        calls-some ! fm asked.ended (asked.clauses 𝓤 H A mem run) known-run to-run (λ r. Shown s k r) (λ r e.
+        id⊢ 𝓤 _) (LL.vals D (T′.the-laws α)) (LL.tells D (T′.the-laws α))
         (arg ! 10 refl (arg ! 8 refl (no-more !))) (λ r e is.
-        use1 W (‵ (flft κ q) ⊛ ‵ ftrue) (id⊢ 𝓤 _) $ lands-in ! 5 refl (LL.lawful (T.the-type αᵉ) (T′.the-laws αᵉ) 𝓤 H A W .typed r _ is .0) $
+        use1 W (‵ (flft κ q) ⊛ ‵ ftrue) (id⊢ 𝓤 _) $
+        lands-in ! 5 refl (LL.lawful (T.the-type αᵉ) (T′.the-laws αᵉ) 𝓤 H A W .typed r _ is .0) $
         -- [the token; what the run owns; what s owns; _5; …; _4; …; the other locals]
         sets ! 3 (of-opd ! (part ! 5 0 refl refl refl)) refl (tt, LL.lawful (T.the-type αᵉ) (T′.the-laws αᵉ) 𝓤 H A W .typed r _ is .0 .1 .0) $
-        move ! (1 ∷ []) $ use1 W (given (T′.lowered r ∷ [] ≡ T′.lowered r ∷ []) (‵ (all-own (D .parts) (T′.the-laws α) (vd r)))) (own-open 𝓤 H A W D (T′.the-laws α) (vd r) (T′.lowered r)) $ learn ! (λ _.
-        use1 W (‵ (ownAt (D .parts) (T′.the-laws α) 0 (r .part)) ⊛ ‵ (rest (D .parts) (T′.the-laws α) 0 (vd r))) (own-out 𝓤 H A W (D .parts) (T′.the-laws α) 0 (vd r)) $ split ! $
+        move ! (1 ∷ []) $ use1 W (given (T′.lowered r ∷ [] ≡ T′.lowered r ∷ []) (‵ (all-own (D .parts) (T′.the-laws α) (vd r))))
+        (own-open 𝓤 H A W D (T′.the-laws α) (vd r) (T′.lowered r)) $ learn ! (λ _.
+        use1 W (‵ (ownAt (D .parts) (T′.the-laws α) 0 (r .part)) ⊛ ‵ (rest (D .parts) (T′.the-laws α) 0 (vd r)))
+        (own-out 𝓤 H A W (D .parts) (T′.the-laws α) 0 (vd r)) $ split ! $
         -- [what the part owns; what the other fields own; the token; what s owns; the locals]
-        move ! (2 ∷ 0 ∷ []) $ use2 W (raw (Octet 𝓤 H A mem run .pre (to-octet r))) (asks-octet r) $
+        move ! (2 ∷ 0 ∷ []) $ use2 W (raw (Octet 𝓤 H A mem run .pre (to-octet r))) (asks-octet r .prf) $
         calls-value ! fm octet.ended (octet.clauses 𝓤 H A mem run) known-octet (to-octet r) (x r) (λ y f. id⊢ 𝓤 _) (uint-vals w8) (uint-tells w8)
         (arg ! 3 refl (arg ! 7 refl (no-more !))) (λ is-x.
         use1 W (‵ (flft κ q) ⊛ ‵ ftrue) (id⊢ 𝓤 _) $ lands-in ! 13 refl (tt, record { fits = is-x .1 }) $
         -- [the token; what the other fields own; what s owns; the locals]
-        move ! (1 ∷ []) $ let-go ! $ returns ! (look ! 12 refl) $ leaves ! 2 refl refl $ by ! (exits r e is-x)))))
+        move ! (1 ∷ []) $ let-go ! $ returns ! (look ! 12 refl) $ leaves ! 2 refl refl $ (exits r e is-x)))))
 
 module _ {M : Type 1} (𝓤 : URA M) (H : Heap 𝓤) (A : Atoms 𝓤) (W : Given 𝓤 H A) (mem : Memory → SProp 𝓤) (run : Routine → Fun 𝓤) where
-  walks : (C : Calls 𝓤 H) (Λ : Loops 𝓤 H) → FmC 𝓤 H (W .laws) C → Triple 𝓤 (C #run) (Asked 𝓤 H A mem run) → Triple 𝓤 (C #octet) (Octet 𝓤 H A mem run) → Walks 𝓤 H A this.ended stayed (WpFn 𝓤 H C Λ code.function) (this.clauses 𝓤 H A mem run)
-  walks C Λ fm kr ko = walked 𝓤 H A this.ended stayed (this.clauses 𝓤 H A mem run) (WpFn 𝓤 H C Λ code.function) (λ κs. (slice-vals, (uint-vals w64, (uint-vals w64, tt)))) (λ κs. (shr-slice-tells (named 0) (κs .0) u8, (uint-tells w64, (uint-tells w64, tt))))
-      (λ κs qs bounds a g are. via 𝓤 _ (fst∗ 𝓤 _ (emp 𝓤)) (walk 𝓤 H A W mem run (κs .0) (qs .0) (a .0) (a .1 .0) (a .1 .1 .0) (are .0 .0 .1 .0) (are .1 .0 .1) (are .1 .1 .0 .1) C Λ fm kr ko))
+  walks : (C : Calls 𝓤 H) (Λ : Loops 𝓤 H) → FmC 𝓤 H (W .laws) C → Triple 𝓤 (C #run) (Asked 𝓤 H A mem run)
+      → Triple 𝓤 (C #octet) (Octet 𝓤 H A mem run) → Walks 𝓤 H A this.ended stayed (WpFn 𝓤 H C Λ code.function) (this.clauses 𝓤 H A mem run)
+  walks C Λ fm kr ko = walked 𝓤 H A this.ended stayed (this.clauses 𝓤 H A mem run) (WpFn 𝓤 H C Λ code.function) (λ κs.
+      (slice-vals, (uint-vals w64, (uint-vals w64, tt)))) (λ κs. (shr-slice-tells (named 0) (κs .0) u8, (uint-tells w64, (uint-tells w64, tt))))
+      (λ κs qs bounds a g are. via 𝓤 _ (fst∗ 𝓤 _ (emp 𝓤)) (walk 𝓤 H A W mem run (κs .0) (qs .0) (a .0) (a .1 .0) (a .1 .1 .0)
+      (are .0 .0 .1 .0) (are .1 .0 .1) (are .1 .1 .0 .1) C Λ fm kr ko))
 
 pub run-octet-spec : {M : Type 1} → stated.statement M
 unfolding code.routine tablesOf
 run-octet-spec 𝓤 H 𝓜 𝓖 𝓡 =
     let W = givenOf 𝓤 H 𝓜 𝓖 in
-    proved 𝓤 H 𝓜 𝓖 𝓡 code.env #run-octet code.function (code.unfolded 𝓤 H 𝓜 𝓡) this.ended stayed (this.clauses 𝓤 H (𝓖 .A) (𝓜 .mem) (𝓡 .run))
-    (goes-none-slice 𝓤 H (𝓖 .A) W 1 (0 ∷ []) tt (plain (λ _. u8)) yes, (goes-none 𝓤 H (𝓖 .A) W 1 (λ _. usize) yes (λ κs x f. refl), (goes-none 𝓤 H (𝓖 .A) W 1 (λ _. usize) yes (λ κs x f. refl), tt)))
-    (walks 𝓤 H (𝓖 .A) W (𝓜 .mem) (𝓡 .run) (𝓣of 𝓤 H 𝓜 𝓖 𝓡 code.env .C) (𝓣of 𝓤 H 𝓜 𝓖 𝓡 code.env .Λ) (fmOf 𝓤 H (W .laws) (𝓣of 𝓤 H 𝓜 𝓖 𝓡 code.env))
-    (cited 𝓤 H (Asked 𝓤 H (𝓖 .A) (𝓜 .mem) (𝓡 .run)) 𝓜 𝓡 code.env #run run-def.routine code.calls-runs·run (run-thm.met 𝓤 H 𝓜 𝓖 𝓡))
-    (cited 𝓤 H (Octet 𝓤 H (𝓖 .A) (𝓜 .mem) (𝓡 .run)) 𝓜 𝓡 code.env #octet octet-def.routine code.calls-runs·octet (octet-thm.met 𝓤 H 𝓜 𝓖 𝓡)))
+    proved 𝓤 H 𝓜 𝓖 𝓡 code.env #run-octet code.function (code.unfolded 𝓤 H 𝓜 𝓡) this.ended stayed
+    (this.clauses 𝓤 H (𝓖 .A) (𝓜 .mem) (𝓡 .run)) (
+      goes-none-slice 𝓤 H (𝓖 .A) W 1 (0 ∷ []) tt (plain (λ _. u8)) yes,
+      (
+        goes-none 𝓤 H (𝓖 .A) W 1 (λ _. usize) yes (λ κs x f.
+            refl),
+        (goes-none 𝓤 H (𝓖 .A) W 1 (λ _. usize) yes (λ κs x f. refl), tt),
+      ),
+    )
+    (walks 𝓤 H (𝓖 .A) W (𝓜 .mem) (𝓡 .run) (𝓣of 𝓤 H 𝓜 𝓖 𝓡 code.env .C) (𝓣of 𝓤 H 𝓜 𝓖 𝓡 code.env .Λ)
+    (fmOf 𝓤 H (W .laws) (𝓣of 𝓤 H 𝓜 𝓖 𝓡 code.env))
+    (cited 𝓤 H (Asked 𝓤 H (𝓖 .A) (𝓜 .mem) (𝓡 .run)) 𝓜 𝓡 code.env #run run-def.routine code.calls-runs·run
+    (run-thm.met 𝓤 H 𝓜 𝓖 𝓡))
+    (cited 𝓤 H (Octet 𝓤 H (𝓖 .A) (𝓜 .mem) (𝓡 .run)) 𝓜 𝓡 code.env #octet octet-def.routine code.calls-runs·octet
+    (octet-thm.met 𝓤 H 𝓜 𝓖 𝓡)))

@@ -3,15 +3,15 @@
 -- does so for records that the quick check lets through and answers where the next turn begins. Of the functions that it calls the proof
 -- knows their contracts alone. Assumes nothing.
 use Rattle.walks.proofs.Names.{_≡_, refl, sym, _∙_, ap, subst, ℕ, suc, _+_, _-_, _*_, _≤_, _<_, _^_, zero-le, [], _∷_, List, length, getD, URA}
-use Rattle.walks.proofs.Names.{fullShare, Ty, named, erased, imm, mut, w8, w64, tyInt, tyRef, Val, vint, vptr, SProp, ent, emp, sep, via, fst∗, id⊢}
-use Rattle.walks.proofs.Names.{Lft, Share, GName, Fml, ftrue, flft, Memory, Routine, Heap, Out, Env, afterSeq, afterBlock, Calls, Loops, Wp, atReturn}
-use Rattle.walks.proofs.Names.{WpFn, Tables, Atoms, sem, Fun, givenOf, let-go, Given, Item, ‵, raw, _⊛_, ⋆, runs, anyQ, atRet, Sq, _$_, _∵_, !, qed}
-use Rattle.walks.proofs.Names.{by, move, keep, use0, split, join, rewrite, fsplit, fjoin, suffices, frame, done, look, look-raw, store, forget, stop}
-use Rattle.walks.proofs.Names.{hop, from, load, lit, of-opd, bin, no-more, first, blocks, land, returns, exec, Below, again, loops, FmC, fmOf, owns}
-use Rattle.walks.proofs.Names.{pointee, Is, shows, uint-makes, uint-vals, uint-tells, uint-lawful, u8, usize, RefT, sliceVal, sliceTy, ShrSlice}
-use Rattle.walks.proofs.Names.{MutSlice, Room, finally, slice-vals, shr-slice-tells, mut-slice-tells, place-is, elem-out, elem-back, looks-slice}
-use Rattle.walks.proofs.Names.{shuts-slice, owned, nothing, plain, yes, onEntry, tripleOf, Contract, Triple, cited, says, Stays, stay-none-slice}
-use Rattle.walks.proofs.Names.{stay-slice, walkOf, goes-none-slice, goes-slice, ends-at}
+use Rattle.walks.proofs.Names.{fullShare, named, w64, Val, vint, vptr, SProp, ent, emp, via, fst∗, id⊢, Lft, Share, GName, Fml, ftrue, flft, Memory}
+use Rattle.walks.proofs.Names.{Routine, Heap, Out, Env, afterSeq, afterBlock, Calls, Loops, Wp, atReturn, WpFn, Tables, Atoms, Fun, givenOf, let-go}
+use Rattle.walks.proofs.Names.{Given, Item, ‵, raw, _⊛_, prop, runs, anyQ, atRet, Sq, _$_, _∵_, !, qed, move, keep, use0, split, join, rewrite}
+use Rattle.walks.proofs.Names.{fsplit, fjoin, suffices, frame, done, look, look-raw, store, forget, stop, hop, from, load, lit, of-opd, bin, no-more}
+use Rattle.walks.proofs.Names.{first, blocks, land, returns, exec, Below, again, loops, FmC, fmOf, owns, Is, shows, uint-makes, uint-vals, uint-tells}
+use Rattle.walks.proofs.Names.{uint-lawful, u8, usize, RefT, sliceVal, ShrSlice, MutSlice, Room, finally, slice-vals, shr-slice-tells}
+use Rattle.walks.proofs.Names.{mut-slice-tells, place-is, elem-out, elem-back, looks-slice, shuts-slice, owned, nothing, plain, yes, onEntry}
+use Rattle.walks.proofs.Names.{tripleOf, Contract, Triple, cited, says, Stays, stay-none-slice, stay-slice, walkOf, goes-none-slice, goes-slice}
+use Rattle.walks.proofs.Names.{ends-at}
 use native.Mathlib.Nat.{le-antisymm}
 use native.Mathlib.Numerals.{add-one}
 use native.Mathlib.Omega.{arith}
@@ -61,38 +61,14 @@ use Rattle.write.proofs.stow.Statement as stated
 use Rattle.write.proofs.stow.Code as code
 use Rattle.write.proofs.stow.Code.Mir as M1
 
--- ---- the contracts that the proof cites
-module _ {M : Type 1} (𝓤 : URA M) (H : Heap 𝓤) (A : Atoms 𝓤) (mem : Memory → SProp 𝓤) (run : Routine → Fun 𝓤) where
-  abbrev LookedAt : Contract 𝓤
-  LookedAt = tripleOf 𝓤 H A looked-at.signature (looked-at.spec 𝓤 H A mem run)
-
-  abbrev Begin : Contract 𝓤
-  Begin = tripleOf 𝓤 H A begin.signature (begin.spec 𝓤 H A mem run)
-
-  abbrev Turn : Contract 𝓤
-  Turn = tripleOf 𝓤 H A turn.signature (turn.spec 𝓤 H A mem run)
-
-  abbrev Quickly : Contract 𝓤
-  Quickly = tripleOf 𝓤 H A quickly.signature (quickly.spec 𝓤 H A mem run)
-
 abbrev stayed : Stays (stow.ended .signature .params) (stow.ended .kept)
-stayed = (stay-none-slice (0 ∷ []) tt (plain (λ _. U.the-row)) yes, (stay-none-slice (1 ∷ []) tt (plain (λ _. u8)) yes, (stay-slice (2 ∷ []) tt (plain (λ _. u8)), tt)))
-
--- ---- the types of the locals
-abbrev word : Ty
-word = tyInt w64
-
-abbrev list : Ty
-list = sliceTy (tyRef (named 0) imm (pointee (U.the-row .written)))
-
-abbrev octets : Ty
-octets = sliceTy (tyRef (named 1) imm (tyInt w8))
-
-abbrev room-ty : Ty
-room-ty = sliceTy (tyRef (named 2) mut (tyInt w8))
-
-abbrev lent : Ty
-lent = tyRef erased mut (tyInt w8)
+stayed = (
+  stay-none-slice (0 ∷ []) tt (plain (λ _. U.the-row)) yes,
+  (
+    stay-none-slice (1 ∷ []) tt (plain (λ _. u8)) yes,
+    (stay-slice (2 ∷ []) tt (plain (λ _. u8)), tt),
+  ),
+)
 
 -- the machine value of a progress
 abbrev mach : Progress → Val
@@ -101,8 +77,23 @@ mach p = EL.val P.the-type P′.the-laws p
 abbrev IsP : Progress → Type 0
 IsP p = Is P.the-row p (mach p ∷ [])
 
-module _ {M : Type 1} (𝓤 : URA M) (H : Heap 𝓤) (A : Atoms 𝓤) (W : Given 𝓤 H A) (at-mem : Memory → SProp 𝓤) (run : Routine → Fun 𝓤) (κ₀ κ₁ κ₂ : Lft) (q₀ q₁ q₂ : Share)
-    (s : RefT (List UnitRecord)) (t : RefT (List ℕ)) (b o : ℕ) (γ : GName) (ys : List ℕ) (s-room : Room U.the-row (length (s .now))) (t-room : Room u8 (length (t .now))) (room : Room u8 (length ys)) where
+module _ {M : Type 1} (𝓤 : URA M) (H : Heap 𝓤) (A : Atoms 𝓤) (W : Given 𝓤 H A) (at-mem : Memory → SProp 𝓤) (run : Routine → Fun 𝓤)
+    (κ₀ κ₁ κ₂ : Lft) (q₀ q₁ q₂ : Share)
+    (s : RefT (List UnitRecord)) (t : RefT (List ℕ)) (b o : ℕ) (γ : GName) (ys : List ℕ) (s-room : Room U.the-row (length (s .now)))
+    (t-room : Room u8 (length (t .now))) (room : Room u8 (length ys)) where
+  -- the contracts that the proof cites
+  abbrev LookedAt : Contract 𝓤
+  LookedAt = tripleOf 𝓤 H A looked-at.signature (looked-at.spec 𝓤 H A at-mem run)
+
+  abbrev Begin : Contract 𝓤
+  Begin = tripleOf 𝓤 H A begin.signature (begin.spec 𝓤 H A at-mem run)
+
+  abbrev Turn : Contract 𝓤
+  Turn = tripleOf 𝓤 H A turn.signature (turn.spec 𝓤 H A at-mem run)
+
+  abbrev Quickly : Contract 𝓤
+  Quickly = tripleOf 𝓤 H A quickly.signature (quickly.spec 𝓤 H A at-mem run)
+
   abbrev us : List UnitRecord
   us = s .now
 
@@ -145,7 +136,10 @@ module _ {M : Type 1} (𝓤 : URA M) (H : Heap 𝓤) (A : Atoms 𝓤) (W : Given
   unit i = getD us i noRecord
 
   abbrev Post : Val → SProp 𝓤
-  Post = walkOf 𝓤 H A stow.ended stayed (stow.clauses 𝓤 H A at-mem run) .post (((κ₀, (κ₁, (κ₂, tt))), (q₀, (q₁, (q₂, tt))), tt, a, vals), tt)
+  Post = walkOf 𝓤 H A stow.ended stayed (stow.clauses 𝓤 H A at-mem run) .post (
+    ((κ₀, (κ₁, (κ₂, tt))), (q₀, (q₁, (q₂, tt))), tt, a, vals),
+    tt,
+  )
 
   abbrev Units : Fml
   Units = ShrSlice (named 0) κ₀ U.the-row .own s (vs ∷ [])
@@ -157,10 +151,11 @@ module _ {M : Type 1} (𝓤 : URA M) (H : Heap 𝓤) (A : Atoms 𝓤) (W : Given
   Work w = MutSlice (named 2) κ₂ u8 .own (x γ w) (vw ∷ [])
 
   exits : (w : List ℕ) → Stowed os us n ys w → IsP (at n)
-      → ent 𝓤 (⋆ 𝓤 H A (‵ (flft κ₀ q₀) ∷ ‵ Units ∷ ‵ (flft κ₁ q₁) ∷ ‵ Segments ∷ ‵ (Work w) ∷ ‵ (flft κ₂ q₂) ∷ [])) (Post (mach (at n)))
+      → Sq W (‵ (flft κ₀ q₀) ∷ ‵ Units ∷ ‵ (flft κ₁ q₁) ∷ ‵ Segments ∷ ‵ (Work w) ∷ ‵ (flft κ₂ q₂) ∷ [])
+      (prop (Post (mach (at n))))
   exits w st is =
-      qed W (‵ (flft κ₀ q₀) ∷ ‵ Units ∷ ‵ (flft κ₁ q₁) ∷ ‵ Segments ∷ ‵ (Work w) ∷ ‵ (flft κ₂ q₂) ∷ []) ∵
-      suffices ! _ (ends-at 𝓤 H A stow.ended stayed (stow.clauses 𝓤 H A at-mem run) W (((κ₀, (κ₁, (κ₂, tt))), (q₀, (q₁, (q₂, tt))), tt, a, vals), tt) (mach (at n)) (at n) (tt, (tt, (w, tt))) (tt, (tt, (st .same, tt)))) $
+      suffices ! _ (ends-at 𝓤 H A stow.ended stayed (stow.clauses 𝓤 H A at-mem run) W
+      (((κ₀, (κ₁, (κ₂, tt))), (q₀, (q₁, (q₂, tt))), tt, a, vals), tt) (mach (at n)) (at n) (tt, (tt, (w, tt))) (tt, (tt, (st .same, tt)))) $
       says ! (refl, st) $
       -- the tokens
       nothing ! $ move ! (6 ∷ 0 ∷ []) $ join ! $ move ! (3 ∷ 0 ∷ []) $ join ! $ move ! (1 ∷ 0 ∷ []) $ join ! $ frame ! $
@@ -169,14 +164,16 @@ module _ {M : Type 1} (𝓤 : URA M) (H : Heap 𝓤) (A : Atoms 𝓤) (W : Given
       owned ! P.the-row (Is P.the-row) (EL.makes P.the-type P′.the-plain 𝓤 H A) (at n) _ is $ done !
 
   -- ---- what the callees ask and give
-  abbrev to-looked : LookedAt 𝓤 H A at-mem run .Ghost
+  abbrev to-looked : LookedAt .Ghost
   to-looked = ((tt, tt, tt, (length us, tt), (vint w64 (length us) ∷ [], tt)), tt)
 
-  asks-looked : ent 𝓤 (emp 𝓤) (LookedAt 𝓤 H A at-mem run .pre to-looked)
-  asks-looked = qed W [] ∵ nothing ! $ beside ! usize (uint-makes 𝓤 H A W w64) (length us) _ (refl, s-room .0) $ nothing ! $ join ! $ frame ! $ done !
+  asks-looked : Sq W [] (prop (LookedAt .pre to-looked))
+  asks-looked =
+      nothing ! $ beside ! usize (uint-makes 𝓤 H A W w64) (length us) _ (refl, s-room .0) $ nothing ! $ join ! $ frame ! $ done !
 
-  asks-begin : ent 𝓤 (emp 𝓤) (Begin 𝓤 H A at-mem run .pre ((tt, tt, tt, tt, tt), tt))
-  asks-begin = qed W [] ∵ nothing ! $ nothing ! $ join ! $ frame ! $ done !
+  asks-begin : Sq W [] (prop (Begin .pre ((tt, tt, tt, tt, tt), tt)))
+  asks-begin =
+      nothing ! $ nothing ! $ join ! $ frame ! $ done !
 
   abbrev IsU : ℕ → Type 0
   IsU i = Is U.the-row (unit i) (U′.lowered (unit i) ∷ [])
@@ -188,14 +185,22 @@ module _ {M : Type 1} (𝓤 : URA M) (H : Heap 𝓤) (A : Atoms 𝓤) (W : Given
   abbrev Left : ℕ → List ℕ → List ℕ → Type 0
   Left i w l = l ≡ roomAfter (next i) (unit i) i w
 
-  abbrev to-turn : ℕ → List ℕ → ℕ → GName → Turn 𝓤 H A at-mem run .Ghost
-  to-turn i w ν δ =
-      (((κ₁, (ν ∷ [], tt)), (q₁, (fullShare, tt)), tt, (at i, (unit i, (i, (t, (x δ w, tt))))), (mach (at i) ∷ [], (U′.lowered (unit i) ∷ [], (vint w64 i ∷ [], (vt ∷ [], (vw ∷ [], tt)))))), tt)
+  abbrev to-turn : ℕ → List ℕ → ℕ → GName → Turn .Ghost
+  to-turn i w ν δ = (
+    (
+      (κ₁, (ν ∷ [], tt)),
+      (q₁, (fullShare, tt)),
+      tt,
+      (at i, (unit i, (i, (t, (x δ w, tt))))),
+      (mach (at i) ∷ [], (U′.lowered (unit i) ∷ [], (vint w64 i ∷ [], (vt ∷ [], (vw ∷ [], tt))))),
+    ),
+    tt,
+  )
 
   asks-turn : (i : ℕ) (w : List ℕ) → i < 2 ^ 64 → IsP (at i) → IsU i → (ν : ℕ) (δ : GName)
-      → ent 𝓤 (sep 𝓤 (sep 𝓤 (A .lft κ₁ q₁) (sem 𝓤 H A Segments)) (sep 𝓤 (A .lft (ν ∷ []) fullShare) (sem 𝓤 H A (MutSlice (named 0) (ν ∷ []) u8 .own (x δ w) (vw ∷ []))))) (Turn 𝓤 H A at-mem run .pre (to-turn i w ν δ))
+      → Sq W ((‵ (flft κ₁ q₁) ⊛ ‵ Segments) ∷ ‵ (flft (ν ∷ []) fullShare) ∷
+      ‵ (MutSlice (named 0) (ν ∷ []) u8 .own (x δ w) (vw ∷ [])) ∷ []) (prop (Turn .pre (to-turn i w ν δ)))
   asks-turn i w fits is-p is-u ν δ =
-      qed W ((‵ (flft κ₁ q₁) ⊛ ‵ Segments) ∷ ‵ (flft (ν ∷ []) fullShare) ∷ ‵ (MutSlice (named 0) (ν ∷ []) u8 .own (x δ w) (vw ∷ [])) ∷ []) ∵
       split ! $ nothing ! $ move ! (3 ∷ 0 ∷ []) $ join ! $ move ! (1 ∷ 0 ∷ []) $ join ! $
       -- [the tokens; what the segments own; the room]
       nothing ! $ move ! (3 ∷ 0 ∷ []) $ fjoin ! $ move ! (2 ∷ 0 ∷ []) $ fjoin ! $ beside ! usize (uint-makes 𝓤 H A W w64) i _ (refl, fits) $
@@ -209,17 +214,26 @@ module _ {M : Type 1} (𝓤 : URA M) (H : Heap 𝓤) (A : Atoms 𝓤) (W : Given
   abbrev Kept : ℕ → List ℕ → List ℕ → Type 0
   Kept i w l = Passed (at (suc i)) us (suc i) (fin i) w l
 
-  abbrev to-quickly : ℕ → List ℕ → ℕ → GName → Quickly 𝓤 H A at-mem run .Ghost
-  to-quickly i w ν δ =
-      (((κ₀, (ν ∷ [], tt)), (q₀, (fullShare, tt)), tt, (at (suc i), (s, (suc i, (n, (x δ w, tt))))), (mach (at (suc i)) ∷ [], (vs ∷ [], (vint w64 (suc i) ∷ [], (vint w64 n ∷ [], (vw ∷ [], tt)))))), tt)
+  abbrev to-quickly : ℕ → List ℕ → ℕ → GName → Quickly .Ghost
+  to-quickly i w ν δ = (
+    (
+      (κ₀, (ν ∷ [], tt)),
+      (q₀, (fullShare, tt)),
+      tt,
+      (at (suc i), (s, (suc i, (n, (x δ w, tt))))),
+      (mach (at (suc i)) ∷ [], (vs ∷ [], (vint w64 (suc i) ∷ [], (vint w64 n ∷ [], (vw ∷ [], tt))))),
+    ),
+    tt,
+  )
 
   asks-quickly : (i : ℕ) (w : List ℕ) → i < n → IsP (at (suc i)) → (ν : ℕ) (δ : GName)
-      → ent 𝓤 (sep 𝓤 (sep 𝓤 (A .lft κ₀ q₀) (sem 𝓤 H A Units)) (sep 𝓤 (A .lft (ν ∷ []) fullShare) (sem 𝓤 H A (MutSlice (named 0) (ν ∷ []) u8 .own (x δ w) (vw ∷ []))))) (Quickly 𝓤 H A at-mem run .pre (to-quickly i w ν δ))
+      → Sq W ((‵ (flft κ₀ q₀) ⊛ ‵ Units) ∷ ‵ (flft (ν ∷ []) fullShare) ∷
+      ‵ (MutSlice (named 0) (ν ∷ []) u8 .own (x δ w) (vw ∷ [])) ∷ []) (prop (Quickly .pre (to-quickly i w ν δ)))
   asks-quickly i w less is-p ν δ =
-      qed W ((‵ (flft κ₀ q₀) ⊛ ‵ Units) ∷ ‵ (flft (ν ∷ []) fullShare) ∷ ‵ (MutSlice (named 0) (ν ∷ []) u8 .own (x δ w) (vw ∷ [])) ∷ []) ∵
       says ! (less, looked-most (length us)) $ split ! $ nothing ! $ move ! (3 ∷ 0 ∷ []) $ join ! $ move ! (1 ∷ 0 ∷ []) $ join ! $ frame ! $
       -- [what the units own; the room]
-      nothing ! $ move ! (2 ∷ 0 ∷ []) $ fjoin ! $ beside ! usize (uint-makes 𝓤 H A W w64) n _ (refl, n-fits) $ beside ! usize (uint-makes 𝓤 H A W w64) (suc i) _ (refl, omega (arith, less, n-fits)) $
+      nothing ! $ move ! (2 ∷ 0 ∷ []) $ fjoin ! $ beside ! usize (uint-makes 𝓤 H A W w64) n _ (refl, n-fits) $
+      beside ! usize (uint-makes 𝓤 H A W w64) (suc i) _ (refl, omega (arith, less, n-fits)) $
       move ! (1 ∷ 0 ∷ []) $ fjoin ! $ owned ! P.the-row (Is P.the-row) (EL.makes P.the-type P′.the-plain 𝓤 H A) (at (suc i)) _ is-p $ fjoin ! $ done !
 
   -- ---- the loop: its variant is a turn's number, the room, and what is known of them
@@ -266,7 +280,8 @@ module _ {M : Type 1} (𝓤 : URA M) (H : Heap 𝓤) (A : Atoms 𝓤) (W : Given
   nearer : (g : Going) → Holds (ltb (g .0) n) → (l : List ℕ) → Kept (g .0) (turned g) l → n - fin (g .0) < n - g .0
   nearer g less l k = let h : g .0 < n = ltb→lt (g .0) n less in omega (arith, h, k .onwards)
 
-  module _ (𝓣 : Tables 𝓤 H) (fm : FmC 𝓤 H (W .laws) (𝓣 .C)) (known-turn : Triple 𝓤 (𝓣 .C #turn) (Turn 𝓤 H A at-mem run)) (known-quickly : Triple 𝓤 (𝓣 .C #quickly) (Quickly 𝓤 H A at-mem run))
+  module _ (𝓣 : Tables 𝓤 H) (fm : FmC 𝓤 H (W .laws) (𝓣 .C)) (known-turn : Triple 𝓤 (𝓣 .C #turn) Turn)
+      (known-quickly : Triple 𝓤 (𝓣 .C #quickly) Quickly)
       (bs : Blocks (code.function .locals)) where
     abbrev C : Calls 𝓤 H
     C = 𝓣 .C
@@ -282,7 +297,8 @@ module _ {M : Type 1} (𝓤 : URA M) (H : Heap 𝓤) (A : Atoms 𝓤) (W : Given
         laid En (empty ∷ full vs ∷ full vt ∷ full vw ∷ full (vint w64 n) ∷ full (mach (at (g .0))) ∷ full (vint w64 (g .0)) ∷ []) []
 
     abbrev Turned : Going → Out → SProp 𝓤
-    Turned g = afterTurn 𝓤 H (Below 𝓤 H A Nearer At g) (afterBlock 𝓤 H (afterSeq 𝓤 H (Wp 𝓤 H C Λ En M1.t-6 (atReturn 𝓤 H En Post)) (atReturn 𝓤 H En Post)))
+    Turned g = afterTurn 𝓤 H (Below 𝓤 H A Nearer At g)
+        (afterBlock 𝓤 H (afterSeq 𝓤 H (Wp 𝓤 H C Λ En M1.t-6 (atReturn 𝓤 H En Post)) (atReturn 𝓤 H En Post)))
 
     turns : (g : Going) → Sq W (At g) (runs C Λ En M1.turn-1 (anyQ (Turned g)))
     unfolding afterTurn
@@ -295,23 +311,31 @@ module _ {M : Type 1} (𝓤 : URA M) (H : Heap 𝓤) (A : Atoms 𝓤) (W : Given
         sets ! 16 (bin ! (part ! 36 0 refl refl refl) (var ! 18 refl) tt) refl (tt, tt) $
         recasts ! 16 (vptr (s .ptr .0)) (sym (place-is 12 (s .ptr .1) (g .0))) refl $
         move ! (1 ∷ []) $ copies ! (named 0) κ₀ U.the-row s (vs ∷ []) $ fsplit ! $ let-go ! $ fsplit ! $ let-go ! $ move ! (0 ∷ 2 ∷ []) $
-        looks-slice ! tt U.the-row (Is U.the-row) (shows 𝓤 H A U.the-row) (LL.vals U.the-type U′.the-laws) (LL.tells U.the-type U′.the-laws) (LL.copy U.the-type U′.the-copy 𝓤 H A W) us (s .ptr .0) (s .ptr .1) (λ p.
-        elem-out ! U.the-row (Is U.the-row) (shows 𝓤 H A U.the-row) (LL.vals U.the-type U′.the-laws) (LL.tells U.the-type U′.the-laws) p us (g .0) noRecord (s .ptr .0) (s .ptr .1) (inside (g .0) less) (λ is-u.
-        sets ! 18 (of-opd ! (load ! (from ! (hop ! (look ! 20 refl) (stop !))) (look-raw ! 0 refl))) refl (LL.lawful U.the-type U′.the-laws 𝓤 H A W .typed (unit (g .0)) _ is-u .0) $
-        elem-back ! U.the-row p us (g .0) noRecord (U′.lowered (unit (g .0)) ∷ []) (s .ptr .0) (s .ptr .1) (inside (g .0) less) $ shuts-slice ! tt U.the-row p us (s .ptr .0) (s .ptr .1) $ move ! (1 ∷ []) $ let-go ! $
+        looks-slice ! tt U.the-row (Is U.the-row) (shows 𝓤 H A U.the-row) (LL.vals U.the-type U′.the-laws) (LL.tells U.the-type U′.the-laws)
+        (LL.copy U.the-type U′.the-copy 𝓤 H A W) us (s .ptr .0) (s .ptr .1) (λ p.
+        elem-out ! U.the-row (Is U.the-row) (shows 𝓤 H A U.the-row) (LL.vals U.the-type U′.the-laws) (LL.tells U.the-type U′.the-laws) p us (g .0)
+        noRecord (s .ptr .0) (s .ptr .1) (inside (g .0) less) (λ is-u.
+        sets ! 18 (of-opd ! (load ! (from ! (hop ! (look ! 20 refl) (stop !))) (look-raw ! 0 refl))) refl
+        (LL.lawful U.the-type U′.the-laws 𝓤 H A W .typed (unit (g .0)) _ is-u .0) $
+        elem-back ! U.the-row p us (g .0) noRecord (U′.lowered (unit (g .0)) ∷ []) (s .ptr .0) (s .ptr .1) (inside (g .0) less) $
+        shuts-slice ! tt U.the-row p us (s .ptr .0) (s .ptr .1) $ move ! (1 ∷ []) $ let-go ! $
         -- [the token of the units; what they own; that of the segments; what they own; the room; its token; the locals]: the room is borrowed again
         sets ! 12 (behind ! 32 refl refl) refl (tt, tt) $
         sets ! 10 (resliced ! 12 32 refl refl refl) refl (sliced (room .0)) $
         -- the call of `turn`
         move ! (3 ∷ []) $ copies ! (named 1) κ₁ u8 t (vt ∷ []) $ move ! (4 ∷ 0 ∷ []) $ join ! $ move ! (0 ∷ 4 ∷ 5 ∷ []) $
-        calls-lent ! fm (Turn 𝓤 H A at-mem run) known-turn u8 κ₂ q₂ (named 2) γ b o (length ys) (g .1 .0) room (g .1 .1 .1 .0 .same)
-        (to-turn (g .0) (g .1 .0)) (‵ (flft κ₁ q₁) ⊛ ‵ Segments) (‵ (flft κ₁ q₁)) (mach (next (g .0))) (Left (g .0) (g .1 .0)) (λ l e. ap length e ∙ length-room (next (g .0)) (unit (g .0)) (g .0) (g .1 .0) ∙ g .1 .1 .1 .0 .same)
-        (Beside W κ₁ q₁) (back-beside W κ₁ q₁) (asks-turn (g .0) (g .1 .0) (omega (arith, next-fits (g .0) less)) (g .1 .1 .1 .1) is-u) (IsP (next (g .0)))
-        (λ ν δ u. gave-one 𝓤 H A W turn.ended (turn.clauses 𝓤 H A at-mem run) (to-turn (g .0) (g .1 .0) ν δ) (next (g .0)) (Left (g .0) (g .1 .0)) (finally u8 δ) (λ ws. ws .1 .1 .1 .1 .0) (λ r ws. id⊢ 𝓤 _)
+        calls-lent ! fm Turn known-turn u8 κ₂ q₂ (named 2) γ b o (length ys) (g .1 .0) room (g .1 .1 .1 .0 .same)
+        (to-turn (g .0) (g .1 .0)) (‵ (flft κ₁ q₁) ⊛ ‵ Segments) (‵ (flft κ₁ q₁)) (mach (next (g .0))) (Left (g .0) (g .1 .0)) (λ l e.
+        ap length e ∙ length-room (next (g .0)) (unit (g .0)) (g .0) (g .1 .0) ∙ g .1 .1 .1 .0 .same)
+        (Beside W κ₁ q₁) (back-beside W κ₁ q₁) (λ ν δ. asks-turn (g .0) (g .1 .0) (omega (arith, next-fits (g .0) less)) (g .1 .1 .1 .1)
+        is-u ν δ .prf) (IsP (next (g .0)))
+        (λ ν δ u. gave-one 𝓤 H A W turn.ended (turn.clauses 𝓤 H A at-mem run) (to-turn (g .0) (g .1 .0) ν δ) (next (g .0)) (Left (g .0) (g .1 .0))
+        (finally u8 δ) (λ ws. ws .1 .1 .1 .1 .0) (λ r ws. id⊢ 𝓤 _)
         (λ ws. past ! $ past ! $ past ! $ past ! $ front ! $ front ! $ done !) (EL.vals P.the-type P′.the-laws) (EL.tells P.the-type P′.the-laws) u)
         (λ ν δ. arg ! 27 refl (arg ! 13 refl (arg ! 25 refl (arg ! 33 refl (arg ! 9 refl (no-more !)))))) (λ l is e.
         -- [the token of the segments; the room; its token; what the segments own; the token of the units; what they own; the locals]
-        rewrite ! 1 (λ (w : List ℕ). ‵ (Work w)) e refl $ land ! (from ! (stop !)) (store ! 28 refl (EL.lawful P.the-type P′.the-laws 𝓤 H A W tt .typed (next (g .0)) _ is .0)) $
+        rewrite ! 1 (λ (w : List ℕ). ‵ (Work w)) e refl $
+        land ! (from ! (stop !)) (store ! 28 refl (EL.lawful P.the-type P′.the-laws 𝓤 H A W tt .typed (next (g .0)) _ is .0)) $
         recasts ! 28 mach (reached-next os us (g .0)) refl $
         -- from the next record on; the room is borrowed again
         resets ! 18 (bin ! (var ! 26 refl) (lit ! tt) (record { fits = next-fits (g .0) less })) refl (in64 (next-fits (g .0) less)) $
@@ -320,10 +344,14 @@ module _ {M : Type 1} (𝓤 : URA M) (H : Heap 𝓤) (A : Atoms 𝓤) (W : Given
         sets ! 6 (resliced ! 8 32 refl refl refl) refl (sliced (room .0)) $
         -- the call of `stow_quickly`
         move ! (5 ∷ []) $ copies ! (named 0) κ₀ U.the-row s (vs ∷ []) $ move ! (6 ∷ 0 ∷ []) $ join ! $ move ! (0 ∷ 3 ∷ 4 ∷ []) $
-        calls-lent ! fm (Quickly 𝓤 H A at-mem run) known-quickly u8 κ₂ q₂ (named 2) γ b o (length ys) (turned g) room (length-room (next (g .0)) (unit (g .0)) (g .0) (g .1 .0) ∙ g .1 .1 .1 .0 .same)
-        (to-quickly (g .0) (turned g)) (‵ (flft κ₀ q₀) ⊛ ‵ Units) (‵ (flft κ₀ q₀)) (vint w64 (fin (g .0))) (Kept (g .0) (turned g)) (λ l k. k .same ∙ length-room (next (g .0)) (unit (g .0)) (g .0) (g .1 .0) ∙ g .1 .1 .1 .0 .same)
-        (Beside W κ₀ q₀) (back-beside W κ₀ q₀) (asks-quickly (g .0) (turned g) (ltb→lt (g .0) n less) (subst IsP (reached-next os us (g .0)) is)) _
-        (λ ν δ u. gave-one 𝓤 H A W quickly.ended (quickly.clauses 𝓤 H A at-mem run) (to-quickly (g .0) (turned g) ν δ) (fin (g .0)) (Kept (g .0) (turned g)) (finally u8 δ) (λ ws. ws .1 .1 .1 .1 .0) (λ r ws. id⊢ 𝓤 _)
+        calls-lent ! fm Quickly known-quickly u8 κ₂ q₂ (named 2) γ b o (length ys) (turned g) room (length-room (next (g .0)) (unit (g .0)) (g .0)
+        (g .1 .0) ∙ g .1 .1 .1 .0 .same)
+        (to-quickly (g .0) (turned g)) (‵ (flft κ₀ q₀) ⊛ ‵ Units) (‵ (flft κ₀ q₀)) (vint w64 (fin (g .0))) (Kept (g .0) (turned g)) (λ l k.
+        k .same ∙ length-room (next (g .0)) (unit (g .0)) (g .0) (g .1 .0) ∙ g .1 .1 .1 .0 .same)
+        (Beside W κ₀ q₀) (back-beside W κ₀ q₀) (λ ν δ.
+        asks-quickly (g .0) (turned g) (ltb→lt (g .0) n less) (subst IsP (reached-next os us (g .0)) is) ν δ .prf) _
+        (λ ν δ u. gave-one 𝓤 H A W quickly.ended (quickly.clauses 𝓤 H A at-mem run) (to-quickly (g .0) (turned g) ν δ) (fin (g .0))
+        (Kept (g .0) (turned g)) (finally u8 δ) (λ ws. ws .1 .1 .1 .1 .0) (λ r ws. id⊢ 𝓤 _)
         (λ ws. past ! $ past ! $ past ! $ past ! $ front ! $ front ! $ done !) (uint-vals w64) (uint-tells w64) u)
         (λ ν δ. arg ! 27 refl (arg ! 35 refl (arg ! 17 refl (arg ! 29 refl (arg ! 5 refl (no-more !)))))) (λ l′ is-fin k.
         -- [the token of the units; the room; its token; what the units own; the token of the segments; what they own; the locals]
@@ -336,25 +364,34 @@ module _ {M : Type 1} (𝓤 : URA M) (H : Heap 𝓤) (A : Atoms 𝓤) (W : Given
         sets ! 38 (of-opd ! (var ! 28 refl)) refl (EL.lawful P.the-type P′.the-laws 𝓤 H A W tt .typed (at (g .0)) _ (g .1 .1 .1 .1) .0) $
         recasts ! 38 (λ (i : ℕ). (mach (at i))) (le-antisymm (g .1 .1 .0) (nltb→le (g .0) n over)) refl $
         returns ! (look ! 38 refl) $ leaves ! 6 refl refl $
-        by ! (exits (g .1 .0) (subst (λ (k : ℕ). Stowed os us k ys (g .1 .0)) (le-antisymm (g .1 .1 .0) (nltb→le (g .0) n over)) (g .1 .1 .1 .0)) (subst (λ (k : ℕ). IsP (at k)) (le-antisymm (g .1 .1 .0) (nltb→le (g .0) n over)) (g .1 .1 .1 .1))))
+        (exits (g .1 .0) (subst (λ (k : ℕ). Stowed os us k ys (g .1 .0)) (le-antisymm (g .1 .1 .0) (nltb→le (g .0) n over)) (g .1 .1 .1 .0))
+        (subst (λ (k : ℕ). IsP (at k)) (le-antisymm (g .1 .1 .0) (nltb→le (g .0) n over)) (g .1 .1 .1 .1))))
 
     looped : (is : IsP (at 0)) → Sq W (At (0, (ys, (zero-le, (stowed-none os us ys, is))))) (runs C Λ En M1.t-5 (atRet En Post))
     looped is = first ! $ blocks ! $ loops ! 𝓣 Nearer Nearer-wf At turns (0, (ys, (zero-le, (stowed-none os us ys, is))))
 
   -- ---- the code up to the loop
-  module _ (𝓣 : Tables 𝓤 H) (fm : FmC 𝓤 H (W .laws) (𝓣 .C)) (known-looked : Triple 𝓤 (𝓣 .C #looked-at) (LookedAt 𝓤 H A at-mem run)) (known-begin : Triple 𝓤 (𝓣 .C #begin) (Begin 𝓤 H A at-mem run)) (known-turn : Triple 𝓤 (𝓣 .C #turn) (Turn 𝓤 H A at-mem run)) (known-quickly : Triple 𝓤 (𝓣 .C #quickly) (Quickly 𝓤 H A at-mem run)) where
-    walk : ent 𝓤 (onEntry 𝓤 H A stow.signature (κ₀, (κ₁, (κ₂, tt))) (q₀, (q₁, (q₂, tt))) a vals) (WpFn 𝓤 H (𝓣 .C) (𝓣 .Λ) code.function (vs ∷ vt ∷ vw ∷ []) Post)
+  module _ (𝓣 : Tables 𝓤 H) (fm : FmC 𝓤 H (W .laws) (𝓣 .C)) (known-looked : Triple 𝓤 (𝓣 .C #looked-at) LookedAt)
+      (known-begin : Triple 𝓤 (𝓣 .C #begin) Begin) (known-turn : Triple 𝓤 (𝓣 .C #turn) Turn)
+      (known-quickly : Triple 𝓤 (𝓣 .C #quickly) Quickly) where
+    walk : ent 𝓤 (onEntry 𝓤 H A stow.signature (κ₀, (κ₁, (κ₂, tt))) (q₀, (q₁, (q₂, tt))) a vals)
+        (WpFn 𝓤 H (𝓣 .C) (𝓣 .Λ) code.function (vs ∷ vt ∷ vw ∷ []) Post)
     walk =
-        qed W ((‵ (flft κ₀ q₀) ⊛ ‵ (flft κ₁ q₁) ⊛ ‵ (flft κ₂ q₂) ⊛ ‵ ftrue) ∷ ‵ (owns (ShrSlice (named 0) κ₀ U.the-row ∷ ShrSlice (named 1) κ₁ u8 ∷ MutSlice (named 2) κ₂ u8 ∷ []) a vals) ∷ []) ∵
-        split ! $ move ! (1 ∷ []) $ split ! $ move ! (1 ∷ []) $ split ! $ move ! (4 ∷ []) $ fsplit ! $ move ! (1 ∷ []) $ fsplit ! $ move ! (1 ∷ []) $ fsplit ! $ keep ! (7 ∷ 3 ∷ 6 ∷ 2 ∷ 0 ∷ 4 ∷ []) $
-        enters ! (𝓣 .C) (𝓣 .Λ) code.function (vs ∷ vt ∷ vw ∷ []) _ (λ bs. (sliced (s-room .0), (sliced (t-room .0), (sliced (room .0), tt)))) (λ bs.
+        qed W ((‵ (flft κ₀ q₀) ⊛ ‵ (flft κ₁ q₁) ⊛ ‵ (flft κ₂ q₂) ⊛ ‵ ftrue) ∷
+        ‵ (owns (ShrSlice (named 0) κ₀ U.the-row ∷ ShrSlice (named 1) κ₁ u8 ∷ MutSlice (named 2) κ₂ u8 ∷ []) a vals) ∷ []) ∵
+        split ! $ move ! (1 ∷ []) $ split ! $ move ! (1 ∷ []) $ split ! $ move ! (4 ∷ []) $ fsplit ! $ move ! (1 ∷ []) $ fsplit ! $
+        move ! (1 ∷ []) $ fsplit ! $ keep ! (7 ∷ 3 ∷ 6 ∷ 2 ∷ 0 ∷ 4 ∷ []) $
+        enters ! (𝓣 .C) (𝓣 .Λ) code.function (vs ∷ vt ∷ vw ∷ []) _ (λ bs. (sliced (s-room .0), (sliced (t-room .0), (sliced (room .0), tt))))
+        (λ bs.
         -- [the locals; the token of the units; what they own; that of the segments; what they own; the room; its token]
         sets ! 16 (of-opd ! (part ! 30 1 refl refl refl)) refl (in64 (s-room .0)) $
-        use0 W (raw (LookedAt 𝓤 H A at-mem run .pre to-looked)) asks-looked $
-        calls-value ! fm looked-at.ended (looked-at.clauses 𝓤 H A at-mem run) known-looked to-looked n (λ r e. id⊢ 𝓤 _) (uint-vals w64) (uint-tells w64) (arg ! 17 refl (no-more !)) (λ is-n.
+        use0 W (raw (LookedAt .pre to-looked)) (asks-looked .prf) $
+        calls-value ! fm looked-at.ended (looked-at.clauses 𝓤 H A at-mem run) known-looked to-looked n (λ r e.
+        id⊢ 𝓤 _) (uint-vals w64) (uint-tells w64) (arg ! 17 refl (no-more !)) (λ is-n.
         let-go ! $ lands-in ! 24 refl (uint-lawful 𝓤 H A W w64 .typed n _ is-n .0) $
-        use0 W (raw (Begin 𝓤 H A at-mem run .pre ((tt, tt, tt, tt, tt), tt))) asks-begin $
-        calls-value ! fm begin.ended (begin.clauses 𝓤 H A at-mem run) known-begin ((tt, tt, tt, tt, tt), tt) begun (λ r e. id⊢ 𝓤 _) (EL.vals P.the-type P′.the-laws) (EL.tells P.the-type P′.the-laws) (no-more !) (λ is-p.
+        use0 W (raw (Begin .pre ((tt, tt, tt, tt, tt), tt))) (asks-begin .prf) $
+        calls-value ! fm begin.ended (begin.clauses 𝓤 H A at-mem run) known-begin ((tt, tt, tt, tt, tt), tt) begun (λ r e.
+        id⊢ 𝓤 _) (EL.vals P.the-type P′.the-laws) (EL.tells P.the-type P′.the-laws) (no-more !) (λ is-p.
         let-go ! $ lands-in ! 22 refl (EL.lawful P.the-type P′.the-laws 𝓤 H A W tt .typed begun _ is-p .0) $
         recasts ! 22 mach (reached-none os us) refl $
         sets ! 20 (of-opd ! (lit ! tt)) refl (in64 (lit< tt)) $ forget ! 16 refl $ move ! (34 ∷ 35 ∷ 36 ∷ 37 ∷ 38 ∷ 39 ∷ []) $
@@ -363,13 +400,21 @@ module _ {M : Type 1} (𝓤 : URA M) (H : Heap 𝓤) (A : Atoms 𝓤) (W : Given
 pub stow-spec : {M : Type 1} → stated.statement M
 unfolding code.routine tablesOf
 stow-spec 𝓤 H 𝓜 𝓖 𝓡 =
-    proved-by 𝓤 H 𝓜 𝓖 𝓡 code.env #stow code.function (code.unfolded 𝓤 H 𝓜 𝓡) stow.ended stayed (stow.clauses 𝓤 H (𝓖 .A) (𝓜 .mem) (𝓡 .run))
-    (goes-none-slice 𝓤 H (𝓖 .A) (givenOf 𝓤 H 𝓜 𝓖) 3 (0 ∷ []) tt (plain (λ _. U.the-row)) yes, (goes-none-slice 𝓤 H (𝓖 .A) (givenOf 𝓤 H 𝓜 𝓖) 3 (1 ∷ []) tt (plain (λ _. u8)) yes, (goes-slice 𝓤 H (𝓖 .A) (givenOf 𝓤 H 𝓜 𝓖) 3 2 tt (plain (λ _. u8)), tt)))
-    (λ κs. (slice-vals, (slice-vals, (slice-vals, tt)))) (λ κs. (shr-slice-tells (named 0) (κs .0) U.the-row, (shr-slice-tells (named 1) (κs .1 .0) u8, (mut-slice-tells (named 2) (κs .1 .1 .0) u8, tt))))
-    (λ κs qs bounds a g are. via 𝓤 _ (fst∗ 𝓤 _ (emp 𝓤)) (walk 𝓤 H (𝓖 .A) (givenOf 𝓤 H 𝓜 𝓖) (𝓜 .mem) (𝓡 .run) (κs .0) (κs .1 .0) (κs .1 .1 .0) (qs .0) (qs .1 .0) (qs .1 .1 .0)
+    proved-by 𝓤 H 𝓜 𝓖 𝓡 code.env #stow code.function (code.unfolded 𝓤 H 𝓜 𝓡) stow.ended stayed
+    (stow.clauses 𝓤 H (𝓖 .A) (𝓜 .mem) (𝓡 .run)) (
+      goes-none-slice 𝓤 H (𝓖 .A) (givenOf 𝓤 H 𝓜 𝓖) 3 (0 ∷ []) tt (plain (λ _. U.the-row)) yes,
+      (
+        goes-none-slice 𝓤 H (𝓖 .A) (givenOf 𝓤 H 𝓜 𝓖) 3 (1 ∷ []) tt (plain (λ _. u8)) yes,
+        (goes-slice 𝓤 H (𝓖 .A) (givenOf 𝓤 H 𝓜 𝓖) 3 2 tt (plain (λ _. u8)), tt),
+      ),
+    )
+    (λ κs. (slice-vals, (slice-vals, (slice-vals, tt)))) (λ κs.
+    (shr-slice-tells (named 0) (κs .0) U.the-row, (shr-slice-tells (named 1) (κs .1 .0) u8, (mut-slice-tells (named 2) (κs .1 .1 .0) u8, tt))))
+    (λ κs qs bounds a g are. via 𝓤 _ (fst∗ 𝓤 _ (emp 𝓤)) (walk 𝓤 H (𝓖 .A) (givenOf 𝓤 H 𝓜 𝓖) (𝓜 .mem) (𝓡 .run) (κs .0)
+    (κs .1 .0) (κs .1 .1 .0) (qs .0) (qs .1 .0) (qs .1 .1 .0)
     (a .0) (a .1 .0) (a .1 .1 .0 .ptr .0) (a .1 .1 .0 .ptr .1) (a .1 .1 .0 .name) (a .1 .1 .0 .now) (are .0 .0 .1) (are .1 .0 .0 .1) (are .1 .1 .0 .0 .1)
     (𝓣of 𝓤 H 𝓜 𝓖 𝓡 code.env) (fmOf 𝓤 H (givenOf 𝓤 H 𝓜 𝓖 .laws) (𝓣of 𝓤 H 𝓜 𝓖 𝓡 code.env))
-    (cited 𝓤 H (LookedAt 𝓤 H (𝓖 .A) (𝓜 .mem) (𝓡 .run)) 𝓜 𝓡 code.env #looked-at looked-at-def.routine code.calls-check-list·looked-at (looked-at-thm.met 𝓤 H 𝓜 𝓖 𝓡))
-    (cited 𝓤 H (Begin 𝓤 H (𝓖 .A) (𝓜 .mem) (𝓡 .run)) 𝓜 𝓡 code.env #begin begin-def.routine code.calls-check-list·begin (begin-thm.met 𝓤 H 𝓜 𝓖 𝓡))
-    (cited 𝓤 H (Turn 𝓤 H (𝓖 .A) (𝓜 .mem) (𝓡 .run)) 𝓜 𝓡 code.env #turn turn-def.routine code.calls-check-list·turn (turn-thm.met 𝓤 H 𝓜 𝓖 𝓡))
-    (cited 𝓤 H (Quickly 𝓤 H (𝓖 .A) (𝓜 .mem) (𝓡 .run)) 𝓜 𝓡 code.env #quickly quickly-def.routine code.calls-write·stow-quickly (quickly-thm.met 𝓤 H 𝓜 𝓖 𝓡))))
+    (cited 𝓤 H _ 𝓜 𝓡 code.env #looked-at looked-at-def.routine code.calls-check-list·looked-at (looked-at-thm.met 𝓤 H 𝓜 𝓖 𝓡))
+    (cited 𝓤 H _ 𝓜 𝓡 code.env #begin begin-def.routine code.calls-check-list·begin (begin-thm.met 𝓤 H 𝓜 𝓖 𝓡))
+    (cited 𝓤 H _ 𝓜 𝓡 code.env #turn turn-def.routine code.calls-check-list·turn (turn-thm.met 𝓤 H 𝓜 𝓖 𝓡))
+    (cited 𝓤 H _ 𝓜 𝓡 code.env #quickly quickly-def.routine code.calls-write·stow-quickly (quickly-thm.met 𝓤 H 𝓜 𝓖 𝓡))))

@@ -3,15 +3,15 @@
 -- Where it does, the next record has its turn; where it does not, the end is set to this place, and the loop is left. Of the functions that
 -- it calls the proof knows their contracts alone. Assumes nothing.
 use Rattle.walks.proofs.Names.{_≡_, refl, sym, _∙_, ap, subst, ℕ, suc, _+_, _-_, _*_, _≤_, _<_, _^_, true, false, [], _∷_, List, length, getD, URA}
-use Rattle.walks.proofs.Names.{fullShare, Ty, named, erased, imm, mut, w8, w64, tyInt, tyRef, Val, vint, vptr, SProp, ent, emp, sep, id⊢, Lft, Share}
-use Rattle.walks.proofs.Names.{GName, Fml, ftrue, flft, Memory, Routine, Heap, Out, Env, afterSeq, afterBlock, Calls, Loops, Wp, atReturn, WpFn}
-use Rattle.walks.proofs.Names.{Tables, Atoms, sem, Fun, givenOf, let-go, Given, Item, ‵, raw, _⊛_, ⋆, runs, anyQ, atRet, Sq, _$_, _∵_, !, qed, by}
-use Rattle.walks.proofs.Names.{move, keep, use0, split, join, rewrite, fsplit, fjoin, suffices, frame, done, look, look-raw, stop, hop, from, load}
-use Rattle.walks.proofs.Names.{lit, of-opd, bin, no-more, first, blocks, branches, returns, exec, Below, again, loops, FmC, fmOf, owns, pointee, Is}
-use Rattle.walks.proofs.Names.{shows, bool-vals, bool-tells, uint-makes, uint-vals, uint-tells, uint-lawful, u8, usize, RefT, sliceVal, sliceTy}
-use Rattle.walks.proofs.Names.{ShrSlice, MutSlice, Room, finally, slice-vals, shr-slice-tells, mut-slice-tells, place-is, elem-out, elem-back}
-use Rattle.walks.proofs.Names.{looks-slice, shuts-slice, owned, nothing, plain, yes, onEntry, tripleOf, Contract, Triple, cited, says, needs, Stays}
-use Rattle.walks.proofs.Names.{stay-none, stay-none-slice, stay-slice, walkOf, goes-none, goes-none-slice, goes-slice, ends-at}
+use Rattle.walks.proofs.Names.{fullShare, named, w64, Val, vint, vptr, SProp, ent, id⊢, Lft, Share, GName, Fml, ftrue, flft, Memory, Routine, Heap}
+use Rattle.walks.proofs.Names.{Out, Env, afterSeq, afterBlock, Calls, Loops, Wp, atReturn, WpFn, Tables, Atoms, Fun, givenOf, let-go, Given, Item, ‵}
+use Rattle.walks.proofs.Names.{raw, _⊛_, prop, runs, anyQ, atRet, Sq, _$_, _∵_, !, qed, move, keep, use0, split, join, rewrite, fsplit, fjoin}
+use Rattle.walks.proofs.Names.{suffices, frame, done, look, look-raw, stop, hop, from, load, lit, of-opd, bin, no-more, first, blocks, branches}
+use Rattle.walks.proofs.Names.{returns, exec, Below, again, loops, FmC, fmOf, owns, Is, shows, bool-vals, bool-tells, uint-makes, uint-vals}
+use Rattle.walks.proofs.Names.{uint-tells, uint-lawful, u8, usize, RefT, sliceVal, ShrSlice, MutSlice, Room, finally, slice-vals, shr-slice-tells}
+use Rattle.walks.proofs.Names.{mut-slice-tells, place-is, elem-out, elem-back, looks-slice, shuts-slice, owned, nothing, plain, yes, onEntry}
+use Rattle.walks.proofs.Names.{tripleOf, Contract, Triple, cited, says, needs, Stays, stay-none, stay-none-slice, stay-slice, walkOf, goes-none}
+use Rattle.walks.proofs.Names.{goes-none-slice, goes-slice, ends-at}
 use native.Mathlib.Numerals.{add-one}
 use native.Mathlib.Omega.{arith}
 use mathlib.Core.WellFounded.{WellFounded, InvImage·wf}
@@ -54,29 +54,14 @@ use Rattle.write.proofs.stow_quickly.Statement as stated
 use Rattle.write.proofs.stow_quickly.Code as code
 use Rattle.write.proofs.stow_quickly.Code.Mir as M1
 
--- ---- the contracts that the proof cites
-module _ {M : Type 1} (𝓤 : URA M) (H : Heap 𝓤) (A : Atoms 𝓤) (mem : Memory → SProp 𝓤) (run : Routine → Fun 𝓤) where
-  abbrev QuickUntil : Contract 𝓤
-  QuickUntil = tripleOf 𝓤 H A quick-until.signature (quick-until.spec 𝓤 H A mem run)
-
-  abbrev QuickTurn : Contract 𝓤
-  QuickTurn = tripleOf 𝓤 H A quick-turn.signature (quick-turn.spec 𝓤 H A mem run)
-
 abbrev stayed : Stays (stow-quickly.ended .signature .params) (stow-quickly.ended .kept)
-stayed = (stay-none (λ _. P.the-row) yes, (stay-none-slice (0 ∷ []) tt (plain (λ _. U.the-row)) yes, (stay-none (λ _. usize) yes, (stay-none (λ _. usize) yes, (stay-slice (1 ∷ []) tt (plain (λ _. u8)), tt)))))
-
--- ---- the types of the locals
-abbrev word : Ty
-word = tyInt w64
-
-abbrev list : Ty
-list = sliceTy (tyRef (named 0) imm (pointee (U.the-row .written)))
-
-abbrev room-ty : Ty
-room-ty = sliceTy (tyRef (named 1) mut (tyInt w8))
-
-abbrev lent : Ty
-lent = tyRef erased mut (tyInt w8)
+stayed = (
+  stay-none (λ _. P.the-row) yes,
+  (
+    stay-none-slice (0 ∷ []) tt (plain (λ _. U.the-row)) yes,
+    (stay-none (λ _. usize) yes, (stay-none (λ _. usize) yes, (stay-slice (1 ∷ []) tt (plain (λ _. u8)), tt))),
+  ),
+)
 
 -- the machine value of a progress
 abbrev mach : Progress → Val
@@ -85,10 +70,18 @@ mach p = EL.val P.the-type P′.the-laws p
 abbrev IsP : Progress → Type 0
 IsP p = Is P.the-row p (mach p ∷ [])
 
-module _ {M : Type 1} (𝓤 : URA M) (H : Heap 𝓤) (A : Atoms 𝓤) (W : Given 𝓤 H A) (at-mem : Memory → SProp 𝓤) (run : Routine → Fun 𝓤) (κ₀ κ₁ : Lft) (q₀ q₁ : Share)
+module _ {M : Type 1} (𝓤 : URA M) (H : Heap 𝓤) (A : Atoms 𝓤) (W : Given 𝓤 H A) (at-mem : Memory → SProp 𝓤) (run : Routine → Fun 𝓤)
+    (κ₀ κ₁ : Lft) (q₀ q₁ : Share)
     (p : Progress) (s : RefT (List UnitRecord)) (i₀ n : ℕ) (b o : ℕ) (γ : GName) (ys : List ℕ)
     (is-p : IsP p) (s-room : Room U.the-row (length (s .now))) (i₀-fits : i₀ < 2 ^ 64) (n-fits : n < 2 ^ 64) (room : Room u8 (length ys))
     (i₀-most : i₀ ≤ n) (n-most : n ≤ length (s .now)) where
+  -- the contracts that the proof cites
+  abbrev QuickUntil : Contract 𝓤
+  QuickUntil = tripleOf 𝓤 H A quick-until.signature (quick-until.spec 𝓤 H A at-mem run)
+
+  abbrev QuickTurn : Contract 𝓤
+  QuickTurn = tripleOf 𝓤 H A quick-turn.signature (quick-turn.spec 𝓤 H A at-mem run)
+
   abbrev us : List UnitRecord
   us = s .now
 
@@ -122,7 +115,10 @@ module _ {M : Type 1} (𝓤 : URA M) (H : Heap 𝓤) (A : Atoms 𝓤) (W : Given
   fin = quickEnd p us i₀ n
 
   abbrev Post : Val → SProp 𝓤
-  Post = walkOf 𝓤 H A stow-quickly.ended stayed (stow-quickly.clauses 𝓤 H A at-mem run) .post (((κ₀, (κ₁, tt)), (q₀, (q₁, tt)), tt, a, vals), tt)
+  Post = walkOf 𝓤 H A stow-quickly.ended stayed (stow-quickly.clauses 𝓤 H A at-mem run) .post (
+    ((κ₀, (κ₁, tt)), (q₀, (q₁, tt)), tt, a, vals),
+    tt,
+  )
 
   abbrev Units : Fml
   Units = ShrSlice (named 0) κ₀ U.the-row .own s (vs ∷ [])
@@ -136,25 +132,27 @@ module _ {M : Type 1} (𝓤 : URA M) (H : Heap 𝓤) (A : Atoms 𝓤) (W : Given
   fin-fits : fin < 2 ^ 64
   fin-fits = omega (arith, run-most us (until - i₀) i₀, until-fits, i₀-fits)
 
-  exits : (w : List ℕ) → Passed p us i₀ fin ys w → ent 𝓤 (⋆ 𝓤 H A (‵ (flft κ₀ q₀) ∷ ‵ Units ∷ ‵ (Work w) ∷ ‵ (flft κ₁ q₁) ∷ [])) (Post (vint w64 fin))
+  exits : (w : List ℕ) → Passed p us i₀ fin ys w
+      → Sq W (‵ (flft κ₀ q₀) ∷ ‵ Units ∷ ‵ (Work w) ∷ ‵ (flft κ₁ q₁) ∷ []) (prop (Post (vint w64 fin)))
   exits w st =
-      qed W (‵ (flft κ₀ q₀) ∷ ‵ Units ∷ ‵ (Work w) ∷ ‵ (flft κ₁ q₁) ∷ []) ∵
-      suffices ! _ (ends-at 𝓤 H A stow-quickly.ended stayed (stow-quickly.clauses 𝓤 H A at-mem run) W (((κ₀, (κ₁, tt)), (q₀, (q₁, tt)), tt, a, vals), tt) (vint w64 fin) fin (tt, (tt, (tt, (tt, (w, tt))))) (tt, (tt, (tt, (tt, (st .same, tt)))))) $
+      suffices ! _ (ends-at 𝓤 H A stow-quickly.ended stayed (stow-quickly.clauses 𝓤 H A at-mem run) W
+      (((κ₀, (κ₁, tt)), (q₀, (q₁, tt)), tt, a, vals), tt) (vint w64 fin) fin (tt, (tt, (tt, (tt, (w, tt))))) (tt, (tt, (tt, (tt, (st .same, tt)))))) $
       says ! (refl, st) $
       -- the tokens
       nothing ! $ move ! (4 ∷ 0 ∷ []) $ join ! $ move ! (1 ∷ 0 ∷ []) $ join ! $ frame ! $
       -- [what the units own; the room]
-      nothing ! $ move ! (2 ∷ 0 ∷ []) $ fjoin ! $ beside ! usize (uint-makes 𝓤 H A W w64) n _ (refl, n-fits) $ beside ! usize (uint-makes 𝓤 H A W w64) i₀ _ (refl, i₀-fits) $
+      nothing ! $ move ! (2 ∷ 0 ∷ []) $ fjoin ! $ beside ! usize (uint-makes 𝓤 H A W w64) n _ (refl, n-fits) $
+      beside ! usize (uint-makes 𝓤 H A W w64) i₀ _ (refl, i₀-fits) $
       move ! (1 ∷ 0 ∷ []) $ fjoin ! $ beside ! P.the-row (EL.makes P.the-type P′.the-plain 𝓤 H A) p _ is-p $ frame ! $
       owned ! usize (Is usize) (uint-makes 𝓤 H A W w64) fin _ (refl, fin-fits) $ done !
 
   -- ---- what the callees ask and give
-  abbrev to-until : QuickUntil 𝓤 H A at-mem run .Ghost
+  abbrev to-until : QuickUntil .Ghost
   to-until = ((tt, tt, tt, (p, (i₀, (n, tt))), (mach p ∷ [], (vint w64 i₀ ∷ [], (vint w64 n ∷ [], tt)))), tt)
 
-  asks-until : ent 𝓤 (emp 𝓤) (QuickUntil 𝓤 H A at-mem run .pre to-until)
+  asks-until : Sq W [] (prop (QuickUntil .pre to-until))
   asks-until =
-      qed W [] ∵ nothing ! $ beside ! usize (uint-makes 𝓤 H A W w64) n _ (refl, n-fits) $ beside ! usize (uint-makes 𝓤 H A W w64) i₀ _ (refl, i₀-fits) $
+      nothing ! $ beside ! usize (uint-makes 𝓤 H A W w64) n _ (refl, n-fits) $ beside ! usize (uint-makes 𝓤 H A W w64) i₀ _ (refl, i₀-fits) $
       beside ! P.the-row (EL.makes P.the-type P′.the-plain 𝓤 H A) p _ is-p $ nothing ! $ join ! $ frame ! $ done !
 
   abbrev IsU : ℕ → Type 0
@@ -164,13 +162,22 @@ module _ {M : Type 1} (𝓤 : URA M) (H : Heap 𝓤) (A : Atoms 𝓤) (W : Given
   abbrev left : ℕ → List ℕ → List ℕ
   left i w = pick (plainOf (unit i)) (withRecord w i (unit i)) w
 
-  abbrev to-turn : ℕ → List ℕ → ℕ → GName → QuickTurn 𝓤 H A at-mem run .Ghost
-  to-turn i w ν δ = (((ν ∷ [], tt), (fullShare, tt), tt, (unit i, (i, (x δ w, tt))), (U′.lowered (unit i) ∷ [], (vint w64 i ∷ [], (vw ∷ [], tt)))), tt)
+  abbrev to-turn : ℕ → List ℕ → ℕ → GName → QuickTurn .Ghost
+  to-turn i w ν δ = (
+    (
+      (ν ∷ [], tt),
+      (fullShare, tt),
+      tt,
+      (unit i, (i, (x δ w, tt))),
+      (U′.lowered (unit i) ∷ [], (vint w64 i ∷ [], (vw ∷ [], tt))),
+    ),
+    tt,
+  )
 
   asks-turn : (i : ℕ) (w : List ℕ) → i < 2 ^ 64 → IsU i → (ν : ℕ) (δ : GName)
-      → ent 𝓤 (sep 𝓤 (emp 𝓤) (sep 𝓤 (A .lft (ν ∷ []) fullShare) (sem 𝓤 H A (MutSlice (named 0) (ν ∷ []) u8 .own (x δ w) (vw ∷ []))))) (QuickTurn 𝓤 H A at-mem run .pre (to-turn i w ν δ))
+      → Sq W (‵ ftrue ∷ ‵ (flft (ν ∷ []) fullShare) ∷ ‵ (MutSlice (named 0) (ν ∷ []) u8 .own (x δ w) (vw ∷ [])) ∷ [])
+      (prop (QuickTurn .pre (to-turn i w ν δ)))
   asks-turn i w fits is-u ν δ =
-      qed W (‵ ftrue ∷ ‵ (flft (ν ∷ []) fullShare) ∷ ‵ (MutSlice (named 0) (ν ∷ []) u8 .own (x δ w) (vw ∷ [])) ∷ []) ∵
       let-go ! $ nothing ! $ move ! (1 ∷ 0 ∷ []) $ join ! $
       -- [the token; the room]
       nothing ! $ move ! (2 ∷ 0 ∷ []) $ fjoin ! $ beside ! usize (uint-makes 𝓤 H A W w64) i _ (refl, fits) $
@@ -255,7 +262,8 @@ module _ {M : Type 1} (𝓤 : URA M) (H : Heap 𝓤) (A : Atoms 𝓤) (W : Given
   unfolding pick
   left-out g e = rw e
 
-  module _ (𝓣 : Tables 𝓤 H) (fm : FmC 𝓤 H (W .laws) (𝓣 .C)) (known-turn : Triple 𝓤 (𝓣 .C #quick-turn) (QuickTurn 𝓤 H A at-mem run)) (bs : Blocks (code.function .locals)) where
+  module _ (𝓣 : Tables 𝓤 H) (fm : FmC 𝓤 H (W .laws) (𝓣 .C)) (known-turn : Triple 𝓤 (𝓣 .C #quick-turn) QuickTurn)
+      (bs : Blocks (code.function .locals)) where
     abbrev C : Calls 𝓤 H
     C = 𝓣 .C
 
@@ -267,10 +275,12 @@ module _ {M : Type 1} (𝓤 : URA M) (H : Heap 𝓤) (A : Atoms 𝓤) (W : Given
 
     abbrev At : Going → List (Item 𝓤)
     At g = ‵ (flft κ₀ q₀) ∷ ‵ Units ∷ ‵ (Work (got g)) ∷ ‵ (flft κ₁ q₁) ∷
-        laid En (empty ∷ full (mach p) ∷ full vs ∷ full (vint w64 i₀) ∷ full (vint w64 n) ∷ full vw ∷ full (vint w64 (end g)) ∷ full (vint w64 (g .0)) ∷ []) []
+        laid En (empty ∷ full (mach p) ∷ full vs ∷ full (vint w64 i₀) ∷ full (vint w64 n) ∷ full vw ∷ full (vint w64 (end g)) ∷
+        full (vint w64 (g .0)) ∷ []) []
 
     abbrev Turned : Going → Out → SProp 𝓤
-    Turned g = afterTurn 𝓤 H (Below 𝓤 H A Nearer At g) (afterBlock 𝓤 H (afterSeq 𝓤 H (Wp 𝓤 H C Λ En M1.t-4 (atReturn 𝓤 H En Post)) (atReturn 𝓤 H En Post)))
+    Turned g = afterTurn 𝓤 H (Below 𝓤 H A Nearer At g)
+        (afterBlock 𝓤 H (afterSeq 𝓤 H (Wp 𝓤 H C Λ En M1.t-4 (atReturn 𝓤 H En Post)) (atReturn 𝓤 H En Post)))
 
     turns : (g : Going) → Sq W (At g) (runs C Λ En M1.turn-1 (anyQ (Turned g)))
     unfolding afterTurn
@@ -284,19 +294,25 @@ module _ {M : Type 1} (𝓤 : URA M) (H : Heap 𝓤) (A : Atoms 𝓤) (W : Given
         sets ! 10 (bin ! (part ! 28 0 refl refl refl) (var ! 12 refl) tt) refl (tt, tt) $
         recasts ! 10 (vptr (s .ptr .0)) (sym (place-is 12 (s .ptr .1) (g .0))) refl $
         move ! (1 ∷ []) $ copies ! (named 0) κ₀ U.the-row s (vs ∷ []) $ fsplit ! $ let-go ! $ fsplit ! $ let-go ! $ move ! (0 ∷ 2 ∷ []) $
-        looks-slice ! tt U.the-row (Is U.the-row) (shows 𝓤 H A U.the-row) (LL.vals U.the-type U′.the-laws) (LL.tells U.the-type U′.the-laws) (LL.copy U.the-type U′.the-copy 𝓤 H A W) us (s .ptr .0) (s .ptr .1) (λ q.
-        elem-out ! U.the-row (Is U.the-row) (shows 𝓤 H A U.the-row) (LL.vals U.the-type U′.the-laws) (LL.tells U.the-type U′.the-laws) q us (g .0) noRecord (s .ptr .0) (s .ptr .1) (inside g less) (λ is-u.
-        sets ! 12 (of-opd ! (load ! (from ! (hop ! (look ! 14 refl) (stop !))) (look-raw ! 0 refl))) refl (LL.lawful U.the-type U′.the-laws 𝓤 H A W .typed (unit (g .0)) _ is-u .0) $
-        elem-back ! U.the-row q us (g .0) noRecord (U′.lowered (unit (g .0)) ∷ []) (s .ptr .0) (s .ptr .1) (inside g less) $ shuts-slice ! tt U.the-row q us (s .ptr .0) (s .ptr .1) $ move ! (1 ∷ []) $ let-go ! $
+        looks-slice ! tt U.the-row (Is U.the-row) (shows 𝓤 H A U.the-row) (LL.vals U.the-type U′.the-laws) (LL.tells U.the-type U′.the-laws)
+        (LL.copy U.the-type U′.the-copy 𝓤 H A W) us (s .ptr .0) (s .ptr .1) (λ q.
+        elem-out ! U.the-row (Is U.the-row) (shows 𝓤 H A U.the-row) (LL.vals U.the-type U′.the-laws) (LL.tells U.the-type U′.the-laws) q us (g .0)
+        noRecord (s .ptr .0) (s .ptr .1) (inside g less) (λ is-u.
+        sets ! 12 (of-opd ! (load ! (from ! (hop ! (look ! 14 refl) (stop !))) (look-raw ! 0 refl))) refl
+        (LL.lawful U.the-type U′.the-laws 𝓤 H A W .typed (unit (g .0)) _ is-u .0) $
+        elem-back ! U.the-row q us (g .0) noRecord (U′.lowered (unit (g .0)) ∷ []) (s .ptr .0) (s .ptr .1) (inside g less) $
+        shuts-slice ! tt U.the-row q us (s .ptr .0) (s .ptr .1) $ move ! (1 ∷ []) $ let-go ! $
         -- [the token of the units; what they own; the room; its token; the locals]: the room is borrowed again
         sets ! 6 (behind ! 22 refl refl) refl (tt, tt) $
         sets ! 4 (resliced ! 6 22 refl refl refl) refl (sliced (room .0)) $
         -- the call
         nothing ! $ move ! (0 ∷ 3 ∷ 4 ∷ []) $
-        calls-lent ! fm (QuickTurn 𝓤 H A at-mem run) known-turn u8 κ₁ q₁ (named 1) γ b o (length ys) (got g) room (known g .passed .same)
-        (to-turn (g .0) (got g)) (‵ ftrue) (‵ ftrue) _ (λ l. l ≡ left (g .0) (got g)) (λ l e. ap length e ∙ length-quick (plainOf (unit (g .0))) (unit (g .0)) (g .0) (got g) ∙ known g .passed .same)
-        (Alone W) (back-alone W) (asks-turn (g .0) (got g) (known g .fits) is-u) _
-        (λ ν δ u. gave-one 𝓤 H A W quick-turn.ended (quick-turn.clauses 𝓤 H A at-mem run) (to-turn (g .0) (got g) ν δ) (plainOf (unit (g .0))) (λ l. l ≡ left (g .0) (got g)) (finally u8 δ) (λ ws. ws .1 .1 .0) (λ r ws. id⊢ 𝓤 _)
+        calls-lent ! fm QuickTurn known-turn u8 κ₁ q₁ (named 1) γ b o (length ys) (got g) room (known g .passed .same)
+        (to-turn (g .0) (got g)) (‵ ftrue) (‵ ftrue) _ (λ l. l ≡ left (g .0) (got g)) (λ l e.
+        ap length e ∙ length-quick (plainOf (unit (g .0))) (unit (g .0)) (g .0) (got g) ∙ known g .passed .same)
+        (Alone W) (back-alone W) (λ ν δ. asks-turn (g .0) (got g) (known g .fits) is-u ν δ .prf) _
+        (λ ν δ u. gave-one 𝓤 H A W quick-turn.ended (quick-turn.clauses 𝓤 H A at-mem run) (to-turn (g .0) (got g) ν δ) (plainOf (unit (g .0)))
+        (λ l. l ≡ left (g .0) (got g)) (finally u8 δ) (λ ws. ws .1 .1 .0) (λ r ws. id⊢ 𝓤 _)
         (λ ws. past ! $ past ! $ front ! $ front ! $ done !) bool-vals bool-tells u)
         (λ ν δ. arg ! 8 refl (arg ! 18 refl (arg ! 4 refl (no-more !)))) (λ l is e.
         -- [nothing; the room; its token; the token of the units; what they own; the locals]
@@ -322,24 +338,47 @@ module _ {M : Type 1} (𝓤 : URA M) (H : Heap 𝓤) (A : Atoms 𝓤) (W : Given
         sets ! 32 (of-opd ! (var ! 18 refl)) refl (in64 (known g .fits)) $
         recasts ! 32 (vint w64) at-end refl $
         returns ! (look ! 32 refl) $ leaves ! 4 refl refl $
-        by ! (exits (got g) (subst (λ (j : ℕ). Passed p us i₀ j ys (got g)) at-end (known g .passed))))
+        (exits (got g) (subst (λ (j : ℕ). Passed p us i₀ j ys (got g)) at-end (known g .passed))))
 
     abbrev start-at : Going
-    start-at = (i₀, (until, (ys, record { most = until-most p i₀ n i₀-most; quick = until-quick p i₀ n; ends = refl; passed = passed-none p us i₀ ys; fits = i₀-fits })))
+    start-at = (
+      i₀,
+      (
+        until,
+        (
+          ys,
+          record {
+            most = until-most p i₀ n i₀-most;
+            quick = until-quick p i₀ n;
+            ends = refl;
+            passed =
+                passed-none p us i₀ ys;
+            fits = i₀-fits;
+          },
+        ),
+      ),
+    )
 
     looped : Sq W (At start-at) (runs C Λ En M1.t-3 (atRet En Post))
     looped = first ! $ blocks ! $ loops ! 𝓣 Nearer Nearer-wf At turns start-at
 
   -- ---- the code up to the loop
-  module _ (𝓣 : Tables 𝓤 H) (fm : FmC 𝓤 H (W .laws) (𝓣 .C)) (known-until : Triple 𝓤 (𝓣 .C #quick-until) (QuickUntil 𝓤 H A at-mem run)) (known-turn : Triple 𝓤 (𝓣 .C #quick-turn) (QuickTurn 𝓤 H A at-mem run)) where
-    walk : ent 𝓤 (onEntry 𝓤 H A stow-quickly.signature (κ₀, (κ₁, tt)) (q₀, (q₁, tt)) a vals) (WpFn 𝓤 H (𝓣 .C) (𝓣 .Λ) code.function (mach p ∷ vs ∷ vint w64 i₀ ∷ vint w64 n ∷ vw ∷ []) Post)
+  module _ (𝓣 : Tables 𝓤 H) (fm : FmC 𝓤 H (W .laws) (𝓣 .C)) (known-until : Triple 𝓤 (𝓣 .C #quick-until) QuickUntil)
+      (known-turn : Triple 𝓤 (𝓣 .C #quick-turn) QuickTurn) where
+    walk : ent 𝓤 (onEntry 𝓤 H A stow-quickly.signature (κ₀, (κ₁, tt)) (q₀, (q₁, tt)) a vals)
+        (WpFn 𝓤 H (𝓣 .C) (𝓣 .Λ) code.function (mach p ∷ vs ∷ vint w64 i₀ ∷ vint w64 n ∷ vw ∷ []) Post)
     walk =
-        qed W ((‵ (flft κ₀ q₀) ⊛ ‵ (flft κ₁ q₁) ⊛ ‵ ftrue) ∷ ‵ (owns (P.the-row ∷ ShrSlice (named 0) κ₀ U.the-row ∷ usize ∷ usize ∷ MutSlice (named 1) κ₁ u8 ∷ []) a vals) ∷ []) ∵
-        split ! $ move ! (1 ∷ []) $ split ! $ move ! (3 ∷ []) $ fsplit ! $ move ! (1 ∷ []) $ fsplit ! $ move ! (1 ∷ []) $ fsplit ! $ move ! (1 ∷ []) $ fsplit ! $ move ! (1 ∷ []) $ fsplit ! $ keep ! (8 ∷ 4 ∷ 0 ∷ 6 ∷ []) $
-        enters ! (𝓣 .C) (𝓣 .Λ) code.function (mach p ∷ vs ∷ vint w64 i₀ ∷ vint w64 n ∷ vw ∷ []) _ (λ bs. (EL.lawful P.the-type P′.the-laws 𝓤 H A W tt .typed p _ is-p .0, (sliced (s-room .0), (in64 i₀-fits, (in64 n-fits, (sliced (room .0), tt)))))) (λ bs.
+        qed W ((‵ (flft κ₀ q₀) ⊛ ‵ (flft κ₁ q₁) ⊛ ‵ ftrue) ∷
+        ‵ (owns (P.the-row ∷ ShrSlice (named 0) κ₀ U.the-row ∷ usize ∷ usize ∷ MutSlice (named 1) κ₁ u8 ∷ []) a vals) ∷ []) ∵
+        split ! $ move ! (1 ∷ []) $ split ! $ move ! (3 ∷ []) $ fsplit ! $ move ! (1 ∷ []) $ fsplit ! $ move ! (1 ∷ []) $ fsplit ! $
+        move ! (1 ∷ []) $ fsplit ! $ move ! (1 ∷ []) $ fsplit ! $ keep ! (8 ∷ 4 ∷ 0 ∷ 6 ∷ []) $
+        enters ! (𝓣 .C) (𝓣 .Λ) code.function (mach p ∷ vs ∷ vint w64 i₀ ∷ vint w64 n ∷ vw ∷ []) _ (λ bs.
+        (EL.lawful P.the-type P′.the-laws 𝓤 H A W tt .typed p _ is-p .0, (sliced (s-room .0), (in64 i₀-fits, (in64 n-fits, (sliced (room .0), tt))))))
+        (λ bs.
         -- [the locals; the token of the units; what they own; the room; its token]
-        use0 W (raw (QuickUntil 𝓤 H A at-mem run .pre to-until)) asks-until $
-        calls-value ! fm quick-until.ended (quick-until.clauses 𝓤 H A at-mem run) known-until to-until until (λ r e. id⊢ 𝓤 _) (uint-vals w64) (uint-tells w64) (arg ! 27 refl (arg ! 23 refl (arg ! 21 refl (no-more !)))) (λ is-end.
+        use0 W (raw (QuickUntil .pre to-until)) (asks-until .prf) $
+        calls-value ! fm quick-until.ended (quick-until.clauses 𝓤 H A at-mem run) known-until to-until until (λ r e.
+        id⊢ 𝓤 _) (uint-vals w64) (uint-tells w64) (arg ! 27 refl (arg ! 23 refl (arg ! 21 refl (no-more !)))) (λ is-end.
         let-go ! $ lands-in ! 16 refl (uint-lawful 𝓤 H A W w64 .typed until _ is-end .0) $
         sets ! 14 (of-opd ! (var ! 22 refl)) refl (in64 i₀-fits) $ move ! (30 ∷ 31 ∷ 32 ∷ 33 ∷ []) $
         looped 𝓣 fm known-turn bs))
@@ -347,21 +386,33 @@ module _ {M : Type 1} (𝓤 : URA M) (H : Heap 𝓤) (A : Atoms 𝓤) (W : Given
 pub stow-quickly-spec : {M : Type 1} → stated.statement M
 unfolding code.routine tablesOf
 stow-quickly-spec 𝓤 H 𝓜 𝓖 𝓡 =
-    proved-by 𝓤 H 𝓜 𝓖 𝓡 code.env #stow-quickly code.function (code.unfolded 𝓤 H 𝓜 𝓡) stow-quickly.ended stayed (stow-quickly.clauses 𝓤 H (𝓖 .A) (𝓜 .mem) (𝓡 .run)) (
+    proved-by 𝓤 H 𝓜 𝓖 𝓡 code.env #stow-quickly code.function (code.unfolded 𝓤 H 𝓜 𝓡) stow-quickly.ended stayed
+    (stow-quickly.clauses 𝓤 H (𝓖 .A) (𝓜 .mem) (𝓡 .run)) (
       goes-none 𝓤 H (𝓖 .A) (givenOf 𝓤 H 𝓜 𝓖) 2 (λ _. P.the-row) yes (λ κs x f. refl),
       (
         goes-none-slice 𝓤 H (𝓖 .A) (givenOf 𝓤 H 𝓜 𝓖) 2 (0 ∷ []) tt (plain (λ _. U.the-row)) yes,
         (
           goes-none 𝓤 H (𝓖 .A) (givenOf 𝓤 H 𝓜 𝓖) 2 (λ _. usize) yes (λ κs x f. refl),
-          (goes-none 𝓤 H (𝓖 .A) (givenOf 𝓤 H 𝓜 𝓖) 2 (λ _. usize) yes (λ κs x f. refl), (goes-slice 𝓤 H (𝓖 .A) (givenOf 𝓤 H 𝓜 𝓖) 2 1 tt (plain (λ _. u8)), tt)),
+          (
+            goes-none 𝓤 H (𝓖 .A) (givenOf 𝓤 H 𝓜 𝓖) 2 (λ _. usize) yes (λ κs x f.
+                refl),
+            (goes-slice 𝓤 H (𝓖 .A) (givenOf 𝓤 H 𝓜 𝓖) 2 1 tt (plain (λ _. u8)), tt),
+          ),
         ),
       ),
     )
     (λ κs. (EL.vals P.the-type P′.the-laws, (slice-vals, (uint-vals w64, (uint-vals w64, (slice-vals, tt))))))
-    (λ κs. (EL.tells P.the-type P′.the-laws, (shr-slice-tells (named 0) (κs .0) U.the-row, (uint-tells w64, (uint-tells w64, (mut-slice-tells (named 1) (κs .1 .0) u8, tt))))))
-    (λ κs qs bounds a g are. needs 𝓤 _ _ (λ pre. walk 𝓤 H (𝓖 .A) (givenOf 𝓤 H 𝓜 𝓖) (𝓜 .mem) (𝓡 .run) (κs .0) (κs .1 .0) (qs .0) (qs .1 .0)
+    (λ κs. (
+      EL.tells P.the-type P′.the-laws,
+      (
+        shr-slice-tells (named 0) (κs .0) U.the-row,
+        (uint-tells w64, (uint-tells w64, (mut-slice-tells (named 1) (κs .1 .0) u8, tt))),
+      ),
+    ))
+    (λ κs qs bounds a g are. needs 𝓤 _ _ (λ pre.
+    walk 𝓤 H (𝓖 .A) (givenOf 𝓤 H 𝓜 𝓖) (𝓜 .mem) (𝓡 .run) (κs .0) (κs .1 .0) (qs .0) (qs .1 .0)
     (a .0) (a .1 .0) (a .1 .1 .0) (a .1 .1 .1 .0) (a .1 .1 .1 .1 .0 .ptr .0) (a .1 .1 .1 .1 .0 .ptr .1) (a .1 .1 .1 .1 .0 .name) (a .1 .1 .1 .1 .0 .now)
     (are .0) (are .1 .0 .0 .1) (are .1 .1 .0 .1) (are .1 .1 .1 .0 .1) (are .1 .1 .1 .1 .0 .0 .1) (pre .0) (pre .1)
     (𝓣of 𝓤 H 𝓜 𝓖 𝓡 code.env) (fmOf 𝓤 H (givenOf 𝓤 H 𝓜 𝓖 .laws) (𝓣of 𝓤 H 𝓜 𝓖 𝓡 code.env))
-    (cited 𝓤 H (QuickUntil 𝓤 H (𝓖 .A) (𝓜 .mem) (𝓡 .run)) 𝓜 𝓡 code.env #quick-until quick-until-def.routine code.calls-check-list·quick-until (quick-until-thm.met 𝓤 H 𝓜 𝓖 𝓡))
-    (cited 𝓤 H (QuickTurn 𝓤 H (𝓖 .A) (𝓜 .mem) (𝓡 .run)) 𝓜 𝓡 code.env #quick-turn quick-turn-def.routine code.calls-check-list·quick-turn (quick-turn-thm.met 𝓤 H 𝓜 𝓖 𝓡))))
+    (cited 𝓤 H _ 𝓜 𝓡 code.env #quick-until quick-until-def.routine code.calls-check-list·quick-until (quick-until-thm.met 𝓤 H 𝓜 𝓖 𝓡))
+    (cited 𝓤 H _ 𝓜 𝓡 code.env #quick-turn quick-turn-def.routine code.calls-check-list·quick-turn (quick-turn-thm.met 𝓤 H 𝓜 𝓖 𝓡))))

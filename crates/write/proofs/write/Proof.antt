@@ -2,9 +2,9 @@
 -- and comes back with the records in its rows; then it and the output are given to `finish` for good. Of the two the proof knows their
 -- contracts alone; that their answer is the writer's is shown in Whole.antt. Assumes nothing.
 use Rattle.walks.proofs.Names.{_≡_, refl, _∙_, ℕ, [], _∷_, List, length, URA, fullShare, named, w64, Val, vint, SProp, ent, emp, sep, ex, guard, via}
-use Rattle.walks.proofs.Names.{fst∗, id⊢, Lft, Share, GName, Fml, ftrue, fsep, flft, Memory, Routine, Heap, Calls, Loops, WpFn, Atoms, sem, Fun, fact}
-use Rattle.walks.proofs.Names.{givenOf, Given, ‵, raw, _⊛_, ⋆, _$_, _∵_, !, qed, by, move, keep, use1, use2, split, join, feqL, fsplit, fjoin, check}
-use Rattle.walks.proofs.Names.{show, suffices, frame, done, look, of-opd, no-more, returns, FmC, fmOf, owns, Is, uint-makes, u8, usize, RefT}
+use Rattle.walks.proofs.Names.{Sq, prop, fst∗, id⊢, Lft, Share, GName, Fml, ftrue, fsep, flft, Memory, Routine, Heap, Calls, Loops, WpFn, Atoms, sem}
+use Rattle.walks.proofs.Names.{Fun, fact, givenOf, Given, ‵, raw, _⊛_, _$_, _∵_, !, qed, move, keep, use1, use2, split, join, feqL, fsplit, fjoin}
+use Rattle.walks.proofs.Names.{check, show, suffices, frame, done, look, of-opd, no-more, returns, FmC, fmOf, owns, Is, uint-makes, u8, usize, RefT}
 use Rattle.walks.proofs.Names.{sliceVal, ShrSlice, MutSlice, Room, finally, slice-vals, shr-slice-tells, mut-slice-tells, owned, heard, nothing}
 use Rattle.walks.proofs.Names.{plain, yes, onEntry, tripleOf, Contract, Triple, Lasts, lasts, cited, says, Stays, stay-none-slice, gave-slice, walkOf}
 use Rattle.walks.proofs.Names.{goes-none-slice, goes-gave-slice, ends-at}
@@ -41,24 +41,30 @@ use Rattle.write.proofs.write as write
 use Rattle.write.proofs.write.Statement as stated
 use Rattle.write.proofs.write.Code as code
 
--- ---- the contracts that the proof cites
-module _ {M : Type 1} (𝓤 : URA M) (H : Heap 𝓤) (A : Atoms 𝓤) (mem : Memory → SProp 𝓤) (run : Routine → Fun 𝓤) where
-  abbrev Stow : Contract 𝓤
-  Stow = tripleOf 𝓤 H A stow.signature (stow.spec 𝓤 H A mem run)
-
-  abbrev Finish : Contract 𝓤
-  Finish = tripleOf 𝓤 H A finish.signature (finish.spec 𝓤 H A mem run)
-
 abbrev stayed : Stays (write.ended .signature .params) (write.ended .kept)
-stayed = (stay-none-slice (0 ∷ []) tt (plain (λ _. U.the-row)) yes, (stay-none-slice (1 ∷ []) tt (plain (λ _. u8)) yes, (gave-slice (2 ∷ []) tt (plain (λ _. u8)), (gave-slice (3 ∷ []) tt (plain (λ _. u8)), tt))))
+stayed = (
+  stay-none-slice (0 ∷ []) tt (plain (λ _. U.the-row)) yes,
+  (
+    stay-none-slice (1 ∷ []) tt (plain (λ _. u8)) yes,
+    (gave-slice (2 ∷ []) tt (plain (λ _. u8)), (gave-slice (3 ∷ []) tt (plain (λ _. u8)), tt)),
+  ),
+)
 
 -- the machine value of a progress
 abbrev mach : Progress → Val
 mach p = EL.val P.the-type P′.the-laws p
 
-module _ {M : Type 1} (𝓤 : URA M) (H : Heap 𝓤) (A : Atoms 𝓤) (W : Given 𝓤 H A) (at-mem : Memory → SProp 𝓤) (run : Routine → Fun 𝓤) (κ₀ κ₁ κ₂ κ₃ : Lft) (q₀ q₁ q₂ q₃ : Share)
+module _ {M : Type 1} (𝓤 : URA M) (H : Heap 𝓤) (A : Atoms 𝓤) (W : Given 𝓤 H A) (at-mem : Memory → SProp 𝓤) (run : Routine → Fun 𝓤)
+    (κ₀ κ₁ κ₂ κ₃ : Lft) (q₀ q₁ q₂ q₃ : Share)
     (s : RefT (List UnitRecord)) (t : RefT (List ℕ)) (b o : ℕ) (γ : GName) (ys : List ℕ) (r : RefT (List ℕ))
     (s-room : Room U.the-row (length (s .now))) (t-room : Room u8 (length (t .now))) (room : Room u8 (length ys)) (r-room : Room u8 (length (r .now))) where
+  -- the contracts that the proof cites
+  abbrev Stow : Contract 𝓤
+  Stow = tripleOf 𝓤 H A stow.signature (stow.spec 𝓤 H A at-mem run)
+
+  abbrev Finish : Contract 𝓤
+  Finish = tripleOf 𝓤 H A finish.signature (finish.spec 𝓤 H A at-mem run)
+
   abbrev us : List UnitRecord
   us = s .now
 
@@ -107,7 +113,8 @@ module _ {M : Type 1} (𝓤 : URA M) (H : Heap 𝓤) (A : Atoms 𝓤) (W : Given
   IsN = Is N.the-row ans (N′.lowered ans ∷ [])
 
   abbrev Post : Val → SProp 𝓤
-  Post = walkOf 𝓤 H A write.ended stayed (write.clauses 𝓤 H A at-mem run) .post (((κ₀, (κ₁, (κ₂, (κ₃, tt)))), (q₀, (q₁, (q₂, (q₃, tt)))), tt, a, vals), tt)
+  Post = walkOf 𝓤 H A write.ended stayed (write.clauses 𝓤 H A at-mem run) .post
+      (((κ₀, (κ₁, (κ₂, (κ₃, tt)))), (q₀, (q₁, (q₂, (q₃, tt)))), tt, a, vals), tt)
 
   abbrev Units : Fml
   Units = ShrSlice (named 0) κ₀ U.the-row .own s (vs ∷ [])
@@ -135,78 +142,117 @@ module _ {M : Type 1} (𝓤 : URA M) (H : Heap 𝓤) (A : Atoms 𝓤) (W : Given
   Said z = fsep (finally u8 γ (z .0)) (finally u8 (r .name) (z .1))
 
   exits : (z : Z) → Known z → IsN
-      → ent 𝓤 (⋆ 𝓤 H A (‵ (Said z) ∷ ‵ (flft κ₀ q₀) ∷ ‵ Units ∷ ‵ Segments ∷ (‵ (flft κ₁ q₁) ⊛ ‵ (flft κ₂ q₂) ⊛ ‵ (flft κ₃ q₃) ⊛ ‵ ftrue) ∷ [])) (Post (N′.lowered ans))
+      → Sq W (‵ (Said z) ∷ ‵ (flft κ₀ q₀) ∷ ‵ Units ∷ ‵ Segments ∷
+      (‵ (flft κ₁ q₁) ⊛ ‵ (flft κ₂ q₂) ⊛ ‵ (flft κ₃ q₃) ⊛ ‵ ftrue) ∷ []) (prop (Post (N′.lowered ans)))
   exits z e is =
-      qed W (‵ (Said z) ∷ ‵ (flft κ₀ q₀) ∷ ‵ Units ∷ ‵ Segments ∷ (‵ (flft κ₁ q₁) ⊛ ‵ (flft κ₂ q₂) ⊛ ‵ (flft κ₃ q₃) ⊛ ‵ ftrue) ∷ []) ∵
-      suffices ! _ (ends-at 𝓤 H A write.ended stayed (write.clauses 𝓤 H A at-mem run) W (((κ₀, (κ₁, (κ₂, (κ₃, tt)))), (q₀, (q₁, (q₂, (q₃, tt)))), tt, a, vals), tt) (N′.lowered ans) ans (tt, (tt, (z .0, (z .1, tt)))) (tt, (tt, (e .1 .0, (e .1 .1, tt))))) $
+      suffices ! _ (ends-at 𝓤 H A write.ended stayed (write.clauses 𝓤 H A at-mem run) W
+      (((κ₀, (κ₁, (κ₂, (κ₃, tt)))), (q₀, (q₁, (q₂, (q₃, tt)))), tt, a, vals), tt) (N′.lowered ans) ans (tt, (tt, (z .0, (z .1, tt))))
+      (tt, (tt, (e .1 .0, (e .1 .1, tt))))) $
       says ! (refl, e .0, e .1 .0, demanded us os (length ys) zs (z .1) (e .0)) $
       -- the tokens
       move ! (1 ∷ 4 ∷ []) $ join ! $ frame ! $
       -- [the last lists; what the units own; what the segments own]
-      fsplit ! $ move ! (1 ∷ []) $ nothing ! $ move ! (1 ∷ 0 ∷ []) $ fjoin ! $ move ! (1 ∷ 0 ∷ []) $ fjoin ! $ move ! (2 ∷ 0 ∷ []) $ fjoin ! $ move ! (1 ∷ 0 ∷ []) $ fjoin ! $ frame ! $
+      fsplit ! $ move ! (1 ∷ []) $ nothing ! $ move ! (1 ∷ 0 ∷ []) $ fjoin ! $ move ! (1 ∷ 0 ∷ []) $ fjoin ! $ move ! (2 ∷ 0 ∷ []) $ fjoin ! $
+      move ! (1 ∷ 0 ∷ []) $ fjoin ! $ frame ! $
       owned ! N.the-row (Is N.the-row) (LL.makes N.the-type N′.the-plain 𝓤 H A) ans _ is $ done !
 
   -- ---- `stow`
-  abbrev to-stow : ℕ → GName → Stow 𝓤 H A at-mem run .Ghost
-  to-stow ν δ = (((κ₀, (κ₁, (ν ∷ [], tt))), (q₀, (q₁, (fullShare, tt))), tt, (s, (t, (x δ ys, tt))), (vs ∷ [], (vt ∷ [], (vw ∷ [], tt)))), tt)
+  abbrev to-stow : ℕ → GName → Stow .Ghost
+  to-stow ν δ = (
+    (
+      (κ₀, (κ₁, (ν ∷ [], tt))),
+      (q₀, (q₁, (fullShare, tt))),
+      tt,
+      (s, (t, (x δ ys, tt))),
+      (vs ∷ [], (vt ∷ [], (vw ∷ [], tt))),
+    ),
+    tt,
+  )
 
   asks-stow : (ν : ℕ) (δ : GName)
-      → ent 𝓤 (sep 𝓤 (sep 𝓤 (sep 𝓤 (A .lft κ₀ q₀) (sem 𝓤 H A Units)) (sep 𝓤 (A .lft κ₁ q₁) (sem 𝓤 H A Segments))) (sep 𝓤 (A .lft (ν ∷ []) fullShare) (sem 𝓤 H A (MutSlice (named 0) (ν ∷ []) u8 .own (x δ ys) (vw ∷ []))))) (Stow 𝓤 H A at-mem run .pre (to-stow ν δ))
+      → Sq W (((‵ (flft κ₀ q₀) ⊛ ‵ Units) ⊛ (‵ (flft κ₁ q₁) ⊛ ‵ Segments)) ∷ ‵ (flft (ν ∷ []) fullShare) ∷
+      ‵ (MutSlice (named 0) (ν ∷ []) u8 .own (x δ ys) (vw ∷ [])) ∷ []) (prop (Stow .pre (to-stow ν δ)))
   asks-stow ν δ =
-      qed W (((‵ (flft κ₀ q₀) ⊛ ‵ Units) ⊛ (‵ (flft κ₁ q₁) ⊛ ‵ Segments)) ∷ ‵ (flft (ν ∷ []) fullShare) ∷ ‵ (MutSlice (named 0) (ν ∷ []) u8 .own (x δ ys) (vw ∷ [])) ∷ []) ∵
       split ! $ split ! $ move ! (2 ∷ []) $ split ! $
       -- [the token of the segments; what they own; the token of the units; what they own; the room's token; the room]
       nothing ! $ move ! (5 ∷ 0 ∷ []) $ join ! $ move ! (1 ∷ 0 ∷ []) $ join ! $ move ! (2 ∷ 0 ∷ []) $ join ! $
-      nothing ! $ move ! (4 ∷ 0 ∷ []) $ fjoin ! $ move ! (2 ∷ 0 ∷ []) $ fjoin ! $ move ! (2 ∷ 0 ∷ []) $ fjoin ! $ move ! (1 ∷ 0 ∷ []) $ join ! $ frame ! $ done !
+      nothing ! $ move ! (4 ∷ 0 ∷ []) $ fjoin ! $ move ! (2 ∷ 0 ∷ []) $ fjoin ! $ move ! (2 ∷ 0 ∷ []) $ fjoin ! $ move ! (1 ∷ 0 ∷ []) $
+      join ! $ frame ! $ done !
 
   abbrev Back : ℕ → SProp 𝓤
   Back ν = sep 𝓤 (A .lft κ₀ q₀) (Beside W κ₁ q₁ ν)
 
-  back-stow : (ν : ℕ) → ent 𝓤 (Back ν) (sep 𝓤 (sep 𝓤 (A .lft κ₀ q₀) (A .lft κ₁ q₁)) (A .lft (ν ∷ []) fullShare))
+  back-stow : (ν : ℕ) → Sq W (‵ (flft κ₀ q₀) ∷ raw (Beside W κ₁ q₁ ν) ∷ [])
+      (prop (sep 𝓤 (sep 𝓤 (A .lft κ₀ q₀) (A .lft κ₁ q₁)) (A .lft (ν ∷ []) fullShare)))
   back-stow ν =
-      qed W (‵ (flft κ₀ q₀) ∷ raw (Beside W κ₁ q₁ ν) ∷ []) ∵ move ! (1 ∷ []) $
+      move ! (1 ∷ []) $
       use1 W (‵ (flft κ₁ q₁) ⊛ ‵ (flft (ν ∷ []) fullShare)) (back-beside W κ₁ q₁ ν) $ split ! $ move ! (2 ∷ 0 ∷ []) $ join ! $ done !
 
   -- ---- `finish`
-  abbrev to-finish : List ℕ → Finish 𝓤 H A at-mem run .Ghost
-  to-finish w = (((κ₁, (κ₂, (κ₃, tt))), (q₁, (q₂, (q₃, tt))), tt, (p, (length us, (t, (x γ w, (r, tt))))), (mach p ∷ [], (vint w64 (length us) ∷ [], (vt ∷ [], (vw ∷ [], (vr ∷ [], tt)))))), tt)
+  abbrev to-finish : List ℕ → Finish .Ghost
+  to-finish w = (
+    (
+      (κ₁, (κ₂, (κ₃, tt))),
+      (q₁, (q₂, (q₃, tt))),
+      tt,
+      (p, (length us, (t, (x γ w, (r, tt))))),
+      (mach p ∷ [], (vint w64 (length us) ∷ [], (vt ∷ [], (vw ∷ [], (vr ∷ [], tt))))),
+    ),
+    tt,
+  )
 
-  asks-finish : (w : List ℕ) → IsP → ent 𝓤 (⋆ 𝓤 H A ((‵ (flft κ₁ q₁) ⊛ ‵ (flft κ₂ q₂) ⊛ ‵ (flft κ₃ q₃) ⊛ ‵ ftrue) ∷ (‵ Segments ⊛ (‵ (Work w) ⊛ ‵ Output)) ∷ [])) (Finish 𝓤 H A at-mem run .pre (to-finish w))
+  asks-finish : (w : List ℕ) → IsP
+      → Sq W ((‵ (flft κ₁ q₁) ⊛ ‵ (flft κ₂ q₂) ⊛ ‵ (flft κ₃ q₃) ⊛ ‵ ftrue) ∷ (‵ Segments ⊛ (‵ (Work w) ⊛ ‵ Output))
+      ∷ []) (prop (Finish .pre (to-finish w)))
   asks-finish w is =
-      qed W ((‵ (flft κ₁ q₁) ⊛ ‵ (flft κ₂ q₂) ⊛ ‵ (flft κ₃ q₃) ⊛ ‵ ftrue) ∷ (‵ Segments ⊛ (‵ (Work w) ⊛ ‵ Output)) ∷ []) ∵ move ! (1 ∷ []) $ split ! $ move ! (1 ∷ []) $ split ! $
+      move ! (1 ∷ []) $ split ! $ move ! (1 ∷ []) $ split ! $
       -- [the room; the output; what the segments own; the tokens]
-      nothing ! $ move ! (2 ∷ 0 ∷ []) $ fjoin ! $ move ! (1 ∷ 0 ∷ []) $ fjoin ! $ move ! (1 ∷ 0 ∷ []) $ fjoin ! $ beside ! usize (uint-makes 𝓤 H A W w64) (length us) _ (refl, s-room .0) $
+      nothing ! $ move ! (2 ∷ 0 ∷ []) $ fjoin ! $ move ! (1 ∷ 0 ∷ []) $ fjoin ! $ move ! (1 ∷ 0 ∷ []) $ fjoin ! $
+      beside ! usize (uint-makes 𝓤 H A W w64) (length us) _ (refl, s-room .0) $
       beside ! P.the-row (EL.makes P.the-type P′.the-plain 𝓤 H A) p _ is $ move ! (1 ∷ 0 ∷ []) $ join ! $ frame ! $ done !
 
   abbrev Finished : List ℕ → Answer → Z → Type 0
   Finished w m z = (m ≡ finishAnswer p (length us) os w (length zs)) × (z .1 ≡ finishOutput p (length us) os w zs) × (length (z .0) ≡ length w)
 
   gives-finish : (w : List ℕ) → Kept w → (m : Answer) (ws : Lasts finish.ended (κ₁, (κ₂, (κ₃, tt))) (p, (length us, (t, (x γ w, (r, tt))))))
-      → ent 𝓤 (sep 𝓤 (sem 𝓤 H A (lasts finish.ended (κ₁, (κ₂, (κ₃, tt))) (p, (length us, (t, (x γ w, (r, tt))))) ws)) (fact 𝓤 (Finished w m (ws .1 .1 .1 .0, ws .1 .1 .1 .1 .0)))) (ex 𝓤 (λ (z : Z). guard 𝓤 ((m ≡ ans) × Known z) (sem 𝓤 H A (Said z))))
+      → Sq W (‵ (lasts finish.ended (κ₁, (κ₂, (κ₃, tt))) (p, (length us, (t, (x γ w, (r, tt))))) ws) ∷
+      raw (fact 𝓤 (Finished w m (ws .1 .1 .1 .0, ws .1 .1 .1 .1 .0))) ∷ [])
+      (prop (ex 𝓤 (λ (z : Z). guard 𝓤 ((m ≡ ans) × Known z) (sem 𝓤 H A (Said z)))))
   gives-finish w st m ws =
-      qed W (‵ (lasts finish.ended (κ₁, (κ₂, (κ₃, tt))) (p, (length us, (t, (x γ w, (r, tt))))) ws) ∷ raw (fact 𝓤 (Finished w m (ws .1 .1 .1 .0, ws .1 .1 .1 .1 .0))) ∷ []) ∵
       move ! (1 ∷ []) $ heard ! (Finished w m (ws .1 .1 .1 .0, ws .1 .1 .1 .1 .0)) (λ e.
-      fsplit ! $ move ! (1 ∷ []) $ fsplit ! $ move ! (1 ∷ []) $ fsplit ! $ move ! (1 ∷ []) $ fsplit ! $ fsplit ! $ move ! (1 ∷ []) $ feqL ! (λ lw. move ! (1 ∷ []) $ fsplit ! $ fsplit ! $ move ! (1 ∷ []) $ feqL ! (λ lr. keep ! (2 ∷ 0 ∷ []) $ fjoin ! $
+      fsplit ! $ move ! (1 ∷ []) $ fsplit ! $ move ! (1 ∷ []) $ fsplit ! $ move ! (1 ∷ []) $ fsplit ! $ fsplit ! $ move ! (1 ∷ []) $
+      feqL ! (λ lw. move ! (1 ∷ []) $ fsplit ! $ fsplit ! $ move ! (1 ∷ []) $ feqL ! (λ lr. keep ! (2 ∷ 0 ∷ []) $ fjoin ! $
       let f = finished us os ys w zs st in
-      show ! (λ (z : Z). guard 𝓤 ((m ≡ ans) × Known z) (sem 𝓤 H A (Said z))) (ws .1 .1 .1 .0, ws .1 .1 .1 .1 .0) $ check ! (e .0 ∙ f .answers, (e .1 ∙ f .output, (e .2 ∙ st .same, lr))) $ done !)))
+      show ! (λ (z : Z). guard 𝓤 ((m ≡ ans) × Known z) (sem 𝓤 H A (Said z))) (ws .1 .1 .1 .0, ws .1 .1 .1 .1 .0) $
+      check ! (e .0 ∙ f .answers, (e .1 ∙ f .output, (e .2 ∙ st .same, lr))) $ done !)))
 
-  module _ (C : Calls 𝓤 H) (Λ : Loops 𝓤 H) (fm : FmC 𝓤 H (W .laws) C) (known-stow : Triple 𝓤 (C #stow) (Stow 𝓤 H A at-mem run)) (known-finish : Triple 𝓤 (C #finish) (Finish 𝓤 H A at-mem run)) where
-    walk : ent 𝓤 (onEntry 𝓤 H A write.signature (κ₀, (κ₁, (κ₂, (κ₃, tt)))) (q₀, (q₁, (q₂, (q₃, tt)))) a vals) (WpFn 𝓤 H C Λ code.function (vs ∷ vt ∷ vw ∷ vr ∷ []) Post)
+  module _ (C : Calls 𝓤 H) (Λ : Loops 𝓤 H) (fm : FmC 𝓤 H (W .laws) C) (known-stow : Triple 𝓤 (C #stow) Stow)
+      (known-finish : Triple 𝓤 (C #finish) Finish) where
+    walk : ent 𝓤 (onEntry 𝓤 H A write.signature (κ₀, (κ₁, (κ₂, (κ₃, tt)))) (q₀, (q₁, (q₂, (q₃, tt)))) a vals)
+        (WpFn 𝓤 H C Λ code.function (vs ∷ vt ∷ vw ∷ vr ∷ []) Post)
     walk =
-        qed W ((‵ (flft κ₀ q₀) ⊛ ‵ (flft κ₁ q₁) ⊛ ‵ (flft κ₂ q₂) ⊛ ‵ (flft κ₃ q₃) ⊛ ‵ ftrue) ∷ ‵ (owns (ShrSlice (named 0) κ₀ U.the-row ∷ ShrSlice (named 1) κ₁ u8 ∷ MutSlice (named 2) κ₂ u8 ∷ MutSlice (named 3) κ₃ u8 ∷ []) a vals) ∷ []) ∵
-        split ! $ move ! (1 ∷ []) $ split ! $ move ! (1 ∷ []) $ split ! $ move ! (4 ∷ []) $ fsplit ! $ move ! (1 ∷ []) $ fsplit ! $ move ! (1 ∷ []) $ fsplit ! $ move ! (1 ∷ []) $ fsplit ! $
+        qed W ((‵ (flft κ₀ q₀) ⊛ ‵ (flft κ₁ q₁) ⊛ ‵ (flft κ₂ q₂) ⊛ ‵ (flft κ₃ q₃) ⊛ ‵ ftrue) ∷
+        ‵ (owns (ShrSlice (named 0) κ₀ U.the-row ∷ ShrSlice (named 1) κ₁ u8 ∷ MutSlice (named 2) κ₂ u8 ∷ MutSlice (named 3) κ₃ u8 ∷ [])
+        a vals) ∷ []) ∵
+        split ! $ move ! (1 ∷ []) $ split ! $ move ! (1 ∷ []) $ split ! $ move ! (4 ∷ []) $ fsplit ! $ move ! (1 ∷ []) $ fsplit ! $
+        move ! (1 ∷ []) $ fsplit ! $ move ! (1 ∷ []) $ fsplit ! $
         -- [the output; true; the room; what the segments own; what the units own; the room's token; the output's; the segments'; the units']
         keep ! (8 ∷ 4 ∷ 7 ∷ 3 ∷ 2 ∷ 5 ∷ 0 ∷ 6 ∷ []) $
-        enters ! C Λ code.function (vs ∷ vt ∷ vw ∷ vr ∷ []) _ (λ bs. (sliced (s-room .0), (sliced (t-room .0), (sliced (room .0), (sliced (r-room .0), tt))))) (λ bs.
+        enters ! C Λ code.function (vs ∷ vt ∷ vw ∷ vr ∷ []) _ (λ bs.
+        (sliced (s-room .0), (sliced (t-room .0), (sliced (room .0), (sliced (r-room .0), tt))))) (λ bs.
         sets ! 12 (behind ! 18 refl refl) refl (tt, tt) $
         sets ! 10 (resliced ! 12 18 refl refl refl) refl (sliced (room .0)) $
         -- [the locals; the units' token; what they own; the segments' token; what they own; the room; its token; the output; its token]
         move ! (27 ∷ []) $ copies ! (named 0) κ₀ U.the-row s (vs ∷ []) $ move ! (28 ∷ 0 ∷ []) $ join ! $
-        move ! (29 ∷ []) $ copies ! (named 1) κ₁ u8 t (vt ∷ []) $ move ! (30 ∷ 0 ∷ []) $ join ! $ move ! (2 ∷ 0 ∷ []) $ join ! $ move ! (0 ∷ 29 ∷ 30 ∷ []) $
+        move ! (29 ∷ []) $ copies ! (named 1) κ₁ u8 t (vt ∷ []) $ move ! (30 ∷ 0 ∷ []) $ join ! $ move ! (2 ∷ 0 ∷ []) $ join ! $
+        move ! (0 ∷ 29 ∷ 30 ∷ []) $
         -- [what goes to `stow`; the room; its token; what the segments own; what the units own; the locals; the output; its token]
-        calls-lent ! fm (Stow 𝓤 H A at-mem run) known-stow u8 κ₂ q₂ (named 2) γ b o (length ys) ys room refl to-stow ((‵ (flft κ₀ q₀) ⊛ ‵ Units) ⊛ (‵ (flft κ₁ q₁) ⊛ ‵ Segments)) (‵ (flft κ₀ q₀) ⊛ ‵ (flft κ₁ q₁)) (mach p) Kept (λ l st. st .same)
-        Back back-stow asks-stow IsP
-        (λ ν δ u. gave-one 𝓤 H A W stow.ended (stow.clauses 𝓤 H A at-mem run) (to-stow ν δ) p Kept (finally u8 δ) (λ ws. ws .1 .1 .0) (λ r ws. id⊢ 𝓤 _)
+        calls-lent ! fm Stow known-stow u8 κ₂ q₂ (named 2) γ b o (length ys) ys room refl to-stow
+        ((‵ (flft κ₀ q₀) ⊛ ‵ Units) ⊛ (‵ (flft κ₁ q₁) ⊛ ‵ Segments)) (‵ (flft κ₀ q₀) ⊛ ‵ (flft κ₁ q₁)) (mach p) Kept
+        (λ l st. st .same)
+        Back (λ ν. back-stow ν .prf) (λ ν δ. asks-stow ν δ .prf) IsP
+        (λ ν δ u. gave-one 𝓤 H A W stow.ended (stow.clauses 𝓤 H A at-mem run) (to-stow ν δ) p Kept (finally u8 δ) (λ ws. ws .1 .1 .0) (λ r ws.
+        id⊢ 𝓤 _)
         (λ ws. past ! $ past ! $ front ! $ front ! $ done !) (EL.vals P.the-type P′.the-laws) (EL.tells P.the-type P′.the-laws) u)
         (λ ν δ. arg ! 26 refl (arg ! 24 refl (arg ! 14 refl (no-more !)))) (λ w is st.
         -- [the tokens; the room; its token; what the segments own; what the units own; the locals; the output; its token]
@@ -219,22 +265,39 @@ module _ {M : Type 1} (𝓤 : URA M) (H : Heap 𝓤) (A : Atoms 𝓤) (W : Given
         -- the tokens together, then what goes to `finish`
         split ! $ move ! (3 ∷ 33 ∷ []) $ join ! $ move ! (2 ∷ 0 ∷ []) $ join ! $
         move ! (3 ∷ []) $ copies ! (named 1) κ₁ u8 t (vt ∷ []) $ move ! (4 ∷ 32 ∷ []) $ join ! $ move ! (1 ∷ 0 ∷ []) $ join ! $
-        move ! (2 ∷ 0 ∷ []) $ use2 W (raw (Finish 𝓤 H A at-mem run .pre (to-finish w))) (asks-finish w is) $
+        move ! (2 ∷ 0 ∷ []) $ use2 W (raw (Finish .pre (to-finish w))) (asks-finish w is .prf) $
         -- [what `finish` asks; what the segments own; the units' token; what they own; the locals]
-        calls-ends ! fm finish.ended (finish.clauses 𝓤 H A at-mem run) known-finish (to-finish w) ans Known Said (gives-finish w st) (LL.vals N.the-type N′.the-laws) (LL.tells N.the-type N′.the-laws)
+        calls-ends ! fm finish.ended (finish.clauses 𝓤 H A at-mem run) known-finish (to-finish w) ans Known Said (λ m ws.
+        gives-finish w st m ws .prf) (LL.vals N.the-type N′.the-laws) (LL.tells N.the-type N′.the-laws)
         (arg ! 18 refl (arg ! 12 refl (arg ! 24 refl (arg ! 8 refl (arg ! 4 refl (no-more !)))))) (λ z e is-n.
-        use1 W (‵ (flft κ₁ q₁) ⊛ ‵ (flft κ₂ q₂) ⊛ ‵ (flft κ₃ q₃) ⊛ ‵ ftrue) (id⊢ 𝓤 _) $ lands-in ! 29 refl (LL.lawful N.the-type N′.the-laws 𝓤 H A W .typed ans _ is-n .0) $
+        use1 W (‵ (flft κ₁ q₁) ⊛ ‵ (flft κ₂ q₂) ⊛ ‵ (flft κ₃ q₃) ⊛ ‵ ftrue) (id⊢ 𝓤 _) $
+        lands-in ! 29 refl (LL.lawful N.the-type N′.the-laws 𝓤 H A W .typed ans _ is-n .0) $
         returns ! (look ! 29 refl) $ leaves ! 5 refl refl $
-        move ! (1 ∷ 3 ∷ 4 ∷ 2 ∷ 0 ∷ []) $ by ! (exits z e is-n))))
+        move ! (1 ∷ 3 ∷ 4 ∷ 2 ∷ 0 ∷ []) $ (exits z e is-n))))
 
 pub write-spec : {M : Type 1} → stated.statement M
 unfolding code.routine tablesOf
 write-spec 𝓤 H 𝓜 𝓖 𝓡 =
-    proved-by 𝓤 H 𝓜 𝓖 𝓡 code.env #write code.function (code.unfolded 𝓤 H 𝓜 𝓡) write.ended stayed (write.clauses 𝓤 H (𝓖 .A) (𝓜 .mem) (𝓡 .run))
-    (goes-none-slice 𝓤 H (𝓖 .A) (givenOf 𝓤 H 𝓜 𝓖) 4 (0 ∷ []) tt (plain (λ _. U.the-row)) yes, (goes-none-slice 𝓤 H (𝓖 .A) (givenOf 𝓤 H 𝓜 𝓖) 4 (1 ∷ []) tt (plain (λ _. u8)) yes, (goes-gave-slice 𝓤 H (𝓖 .A) (givenOf 𝓤 H 𝓜 𝓖) 4 2 tt (plain (λ _. u8)), (goes-gave-slice 𝓤 H (𝓖 .A) (givenOf 𝓤 H 𝓜 𝓖) 4 3 tt (plain (λ _. u8)), tt))))
-    (λ κs. (slice-vals, (slice-vals, (slice-vals, (slice-vals, tt))))) (λ κs. (shr-slice-tells (named 0) (κs .0) U.the-row, (shr-slice-tells (named 1) (κs .1 .0) u8, (mut-slice-tells (named 2) (κs .1 .1 .0) u8, (mut-slice-tells (named 3) (κs .1 .1 .1 .0) u8, tt)))))
-    (λ κs qs bounds a g are. via 𝓤 _ (fst∗ 𝓤 _ (emp 𝓤)) (walk 𝓤 H (𝓖 .A) (givenOf 𝓤 H 𝓜 𝓖) (𝓜 .mem) (𝓡 .run) (κs .0) (κs .1 .0) (κs .1 .1 .0) (κs .1 .1 .1 .0) (qs .0) (qs .1 .0) (qs .1 .1 .0) (qs .1 .1 .1 .0)
-    (a .0) (a .1 .0) (a .1 .1 .0 .ptr .0) (a .1 .1 .0 .ptr .1) (a .1 .1 .0 .name) (a .1 .1 .0 .now) (a .1 .1 .1 .0) (are .0 .0 .1) (are .1 .0 .0 .1) (are .1 .1 .0 .0 .1) (are .1 .1 .1 .0 .0 .1)
-    (𝓣of 𝓤 H 𝓜 𝓖 𝓡 code.env .C) (𝓣of 𝓤 H 𝓜 𝓖 𝓡 code.env .Λ) (fmOf 𝓤 H (givenOf 𝓤 H 𝓜 𝓖 .laws) (𝓣of 𝓤 H 𝓜 𝓖 𝓡 code.env))
-    (cited 𝓤 H (Stow 𝓤 H (𝓖 .A) (𝓜 .mem) (𝓡 .run)) 𝓜 𝓡 code.env #stow stow-def.routine code.calls-write·stow (stow-thm.met 𝓤 H 𝓜 𝓖 𝓡))
-    (cited 𝓤 H (Finish 𝓤 H (𝓖 .A) (𝓜 .mem) (𝓡 .run)) 𝓜 𝓡 code.env #finish finish-def.routine code.calls-write·finish (finish-thm.met 𝓤 H 𝓜 𝓖 𝓡))))
+    proved-by 𝓤 H 𝓜 𝓖 𝓡 code.env #write code.function (code.unfolded 𝓤 H 𝓜 𝓡) write.ended stayed
+    (write.clauses 𝓤 H (𝓖 .A) (𝓜 .mem) (𝓡 .run)) (
+      goes-none-slice 𝓤 H (𝓖 .A) (givenOf 𝓤 H 𝓜 𝓖) 4 (0 ∷ []) tt (plain (λ _. U.the-row)) yes,
+      (
+        goes-none-slice 𝓤 H (𝓖 .A) (givenOf 𝓤 H 𝓜 𝓖) 4 (1 ∷ []) tt (plain (λ _. u8)) yes,
+        (
+          goes-gave-slice 𝓤 H (𝓖 .A) (givenOf 𝓤 H 𝓜 𝓖) 4 2 tt (plain (λ _. u8)),
+          (goes-gave-slice 𝓤 H (𝓖 .A) (givenOf 𝓤 H 𝓜 𝓖) 4 3 tt (plain (λ _. u8)), tt),
+        ),
+      ),
+    )
+    (λ κs. (slice-vals, (slice-vals, (slice-vals, (slice-vals, tt))))) (λ κs. (
+      shr-slice-tells (named 0) (κs .0) U.the-row,
+      (shr-slice-tells (named 1) (κs .1 .0) u8, (mut-slice-tells (named 2) (κs .1 .1 .0) u8, (mut-slice-tells (named 3) (κs .1 .1 .1 .0) u8, tt))),
+    ))
+    (λ κs qs bounds a g are. via 𝓤 _ (fst∗ 𝓤 _ (emp 𝓤)) (walk 𝓤 H (𝓖 .A) (givenOf 𝓤 H 𝓜 𝓖) (𝓜 .mem) (𝓡 .run) (κs .0)
+    (κs .1 .0) (κs .1 .1 .0) (κs .1 .1 .1 .0) (qs .0) (qs .1 .0) (qs .1 .1 .0) (qs .1 .1 .1 .0)
+    (a .0) (a .1 .0) (a .1 .1 .0 .ptr .0) (a .1 .1 .0 .ptr .1) (a .1 .1 .0 .name) (a .1 .1 .0 .now) (a .1 .1 .1 .0) (are .0 .0 .1) (are .1 .0 .0 .1)
+    (are .1 .1 .0 .0 .1) (are .1 .1 .1 .0 .0 .1)
+    (𝓣of 𝓤 H 𝓜 𝓖 𝓡 code.env .C) (𝓣of 𝓤 H 𝓜 𝓖 𝓡 code.env .Λ)
+    (fmOf 𝓤 H (givenOf 𝓤 H 𝓜 𝓖 .laws) (𝓣of 𝓤 H 𝓜 𝓖 𝓡 code.env))
+    (cited 𝓤 H _ 𝓜 𝓡 code.env #stow stow-def.routine code.calls-write·stow (stow-thm.met 𝓤 H 𝓜 𝓖 𝓡))
+    (cited 𝓤 H _ 𝓜 𝓡 code.env #finish finish-def.routine code.calls-write·finish (finish-thm.met 𝓤 H 𝓜 𝓖 𝓡))))

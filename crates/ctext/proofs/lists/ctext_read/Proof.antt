@@ -28,12 +28,15 @@ abbrev Reads : {M : Type 1} (𝓤 : URA M) (H : Heap 𝓤) (A : Atoms 𝓤) (mem
 Reads 𝓤 H A mem run = tripleOf 𝓤 H A read.signature (read.spec 𝓤 H A mem run)
 
 -- the two contracts are one
-same : {M : Type 1} (𝓤 : URA M) (H : Heap 𝓤) (A : Atoms 𝓤) (mem : Memory → SProp 𝓤) (run : Routine → Fun 𝓤) → read.spec 𝓤 H A mem run ≡ ctext-read.spec 𝓤 H A mem run
+same : {M : Type 1} (𝓤 : URA M) (H : Heap 𝓤) (A : Atoms 𝓤) (mem : Memory → SProp 𝓤) (run : Routine → Fun 𝓤)
+    → read.spec 𝓤 H A mem run ≡ ctext-read.spec 𝓤 H A mem run
 same 𝓤 H A mem run = refl
 
-module _ {M : Type 1} (𝓤 : URA M) (H : Heap 𝓤) (A : Atoms 𝓤) (W : Given 𝓤 H A) (mem : Memory → SProp 𝓤) (run : Routine → Fun 𝓤) (𝓣 : Tables 𝓤 H) (fm : FmC 𝓤 H (W .laws) (𝓣 .C)) (known : Triple 𝓤 (𝓣 .C #read) (Reads 𝓤 H A mem run)) where
+module _ {M : Type 1} (𝓤 : URA M) (H : Heap 𝓤) (A : Atoms 𝓤) (W : Given 𝓤 H A) (mem : Memory → SProp 𝓤) (run : Routine → Fun 𝓤)
+    (𝓣 : Tables 𝓤 H) (fm : FmC 𝓤 H (W .laws) (𝓣 .C)) (known : Triple 𝓤 (𝓣 .C #read) (Reads 𝓤 H A mem run)) where
   -- at the string s and the list lent, us
-  module _ (κ κ′ : Lft) (q q′ : Share) (s : RefT (List ℕ)) (us : RefT (List UnitRecord)) (s-fits : length (s .now) < 2 ^ 64) (us-fits : length (us .now) < 2 ^ 64) where
+  module _ (κ κ′ : Lft) (q q′ : Share) (s : RefT (List ℕ)) (us : RefT (List UnitRecord)) (s-fits : length (s .now) < 2 ^ 64)
+      (us-fits : length (us .now) < 2 ^ 64) where
     abbrev vs : Val
     vs = sliceVal (s .ptr) (length (s .now))
 
@@ -45,7 +48,8 @@ module _ {M : Type 1} (𝓤 : URA M) (H : Heap 𝓤) (A : Atoms 𝓤) (W : Given
 
     walk : ent 𝓤 (Reads 𝓤 H A mem run .pre to) (WpFn 𝓤 H (𝓣 .C) (𝓣 .Λ) code.function (vs ∷ vo ∷ []) (Reads 𝓤 H A mem run .post to))
     walk =
-        qed W (raw (Reads 𝓤 H A mem run .pre to) ∷ []) ∵ enters ! (𝓣 .C) (𝓣 .Λ) code.function (vs ∷ vo ∷ []) _ (λ bs. (sliced s-fits, (sliced us-fits, tt))) (λ bs.
+        qed W (raw (Reads 𝓤 H A mem run .pre to) ∷ []) ∵
+        enters ! (𝓣 .C) (𝓣 .Λ) code.function (vs ∷ vo ∷ []) _ (λ bs. (sliced s-fits, (sliced us-fits, tt))) (λ bs.
         sets ! 2 (behind ! 4 refl refl) refl (tt, tt) $
         sets ! 0 (resliced ! 2 4 refl refl refl) refl (sliced us-fits) $
         -- [the locals; what `read` asks]
@@ -63,6 +67,9 @@ module _ {M : Type 1} (𝓤 : URA M) (H : Heap 𝓤) (A : Atoms 𝓤) (W : Given
 pub ctext-read-spec : {M : Type 1} → stated.statement M
 unfolding code.routine tablesOf
 ctext-read-spec 𝓤 H 𝓜 𝓖 𝓡 =
-    passed-on 𝓤 H 𝓜 𝓖 𝓡 code.env #ctext-read code.function (code.unfolded 𝓤 H 𝓜 𝓡) read.signature (read.spec 𝓤 H (𝓖 .A) (𝓜 .mem) (𝓡 .run))
-    (reads 𝓤 H (𝓖 .A) (givenOf 𝓤 H 𝓜 𝓖) (𝓜 .mem) (𝓡 .run) (𝓣of 𝓤 H 𝓜 𝓖 𝓡 code.env) (fmOf 𝓤 H (givenOf 𝓤 H 𝓜 𝓖 .laws) (𝓣of 𝓤 H 𝓜 𝓖 𝓡 code.env))
-    (cited 𝓤 H (Reads 𝓤 H (𝓖 .A) (𝓜 .mem) (𝓡 .run)) 𝓜 𝓡 code.env #read read-def.routine code.calls-read·read (read-thm.met 𝓤 H 𝓜 𝓖 𝓡)))
+    passed-on 𝓤 H 𝓜 𝓖 𝓡 code.env #ctext-read code.function (code.unfolded 𝓤 H 𝓜 𝓡) read.signature
+    (read.spec 𝓤 H (𝓖 .A) (𝓜 .mem) (𝓡 .run))
+    (reads 𝓤 H (𝓖 .A) (givenOf 𝓤 H 𝓜 𝓖) (𝓜 .mem) (𝓡 .run) (𝓣of 𝓤 H 𝓜 𝓖 𝓡 code.env)
+    (fmOf 𝓤 H (givenOf 𝓤 H 𝓜 𝓖 .laws) (𝓣of 𝓤 H 𝓜 𝓖 𝓡 code.env))
+    (cited 𝓤 H (Reads 𝓤 H (𝓖 .A) (𝓜 .mem) (𝓡 .run)) 𝓜 𝓡 code.env #read read-def.routine code.calls-read·read
+    (read-thm.met 𝓤 H 𝓜 𝓖 𝓡)))

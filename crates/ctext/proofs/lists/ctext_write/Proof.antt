@@ -28,13 +28,16 @@ abbrev Writes : {M : Type 1} (𝓤 : URA M) (H : Heap 𝓤) (A : Atoms 𝓤) (me
 Writes 𝓤 H A mem run = tripleOf 𝓤 H A write.signature (write.spec 𝓤 H A mem run)
 
 -- the two contracts are one
-same : {M : Type 1} (𝓤 : URA M) (H : Heap 𝓤) (A : Atoms 𝓤) (mem : Memory → SProp 𝓤) (run : Routine → Fun 𝓤) → write.spec 𝓤 H A mem run ≡ ctext-write.spec 𝓤 H A mem run
+same : {M : Type 1} (𝓤 : URA M) (H : Heap 𝓤) (A : Atoms 𝓤) (mem : Memory → SProp 𝓤) (run : Routine → Fun 𝓤)
+    → write.spec 𝓤 H A mem run ≡ ctext-write.spec 𝓤 H A mem run
 same 𝓤 H A mem run = refl
 
-module _ {M : Type 1} (𝓤 : URA M) (H : Heap 𝓤) (A : Atoms 𝓤) (W : Given 𝓤 H A) (mem : Memory → SProp 𝓤) (run : Routine → Fun 𝓤) (𝓣 : Tables 𝓤 H) (fm : FmC 𝓤 H (W .laws) (𝓣 .C)) (known : Triple 𝓤 (𝓣 .C #write) (Writes 𝓤 H A mem run)) where
+module _ {M : Type 1} (𝓤 : URA M) (H : Heap 𝓤) (A : Atoms 𝓤) (W : Given 𝓤 H A) (mem : Memory → SProp 𝓤) (run : Routine → Fun 𝓤)
+    (𝓣 : Tables 𝓤 H) (fm : FmC 𝓤 H (W .laws) (𝓣 .C)) (known : Triple 𝓤 (𝓣 .C #write) (Writes 𝓤 H A mem run)) where
   -- at the list us, the segments' octets gs, the work room ws and the output os
   module _ (κ κ₁ κ₂ κ₃ : Lft) (q q₁ q₂ q₃ : Share) (us : RefT (List UnitRecord)) (gs ws os : RefT (List ℕ))
-      (us-fits : length (us .now) < 2 ^ 64) (gs-fits : length (gs .now) < 2 ^ 64) (ws-fits : length (ws .now) < 2 ^ 64) (os-fits : length (os .now) < 2 ^ 64) where
+      (us-fits : length (us .now) < 2 ^ 64) (gs-fits : length (gs .now) < 2 ^ 64) (ws-fits : length (ws .now) < 2 ^ 64)
+      (os-fits : length (os .now) < 2 ^ 64) where
     abbrev vu : Val
     vu = sliceVal (us .ptr) (length (us .now))
 
@@ -48,11 +51,22 @@ module _ {M : Type 1} (𝓤 : URA M) (H : Heap 𝓤) (A : Atoms 𝓤) (W : Given
     vo = sliceVal (os .ptr) (length (os .now))
 
     abbrev to : Writes 𝓤 H A mem run .Ghost
-    to = (((κ, (κ₁, (κ₂, (κ₃, tt)))), (q, (q₁, (q₂, (q₃, tt)))), tt, (us, (gs, (ws, (os, tt)))), (vu ∷ [], (vg ∷ [], (vw ∷ [], (vo ∷ [], tt))))), tt)
+    to = (
+      (
+        (κ, (κ₁, (κ₂, (κ₃, tt)))),
+        (q, (q₁, (q₂, (q₃, tt)))),
+        tt,
+        (us, (gs, (ws, (os, tt)))),
+        (vu ∷ [], (vg ∷ [], (vw ∷ [], (vo ∷ [], tt)))),
+      ),
+      tt,
+    )
 
-    walk : ent 𝓤 (Writes 𝓤 H A mem run .pre to) (WpFn 𝓤 H (𝓣 .C) (𝓣 .Λ) code.function (vu ∷ vg ∷ vw ∷ vo ∷ []) (Writes 𝓤 H A mem run .post to))
+    walk : ent 𝓤 (Writes 𝓤 H A mem run .pre to) (WpFn 𝓤 H (𝓣 .C) (𝓣 .Λ) code.function (vu ∷ vg ∷ vw ∷ vo ∷ [])
+        (Writes 𝓤 H A mem run .post to))
     walk =
-        qed W (raw (Writes 𝓤 H A mem run .pre to) ∷ []) ∵ enters ! (𝓣 .C) (𝓣 .Λ) code.function (vu ∷ vg ∷ vw ∷ vo ∷ []) _ (λ bs. (sliced us-fits, (sliced gs-fits, (sliced ws-fits, (sliced os-fits, tt))))) (λ bs.
+        qed W (raw (Writes 𝓤 H A mem run .pre to) ∷ []) ∵ enters ! (𝓣 .C) (𝓣 .Λ) code.function (vu ∷ vg ∷ vw ∷ vo ∷ []) _ (λ bs.
+        (sliced us-fits, (sliced gs-fits, (sliced ws-fits, (sliced os-fits, tt))))) (λ bs.
         sets ! 6 (behind ! 10 refl refl) refl (tt, tt) $
         sets ! 4 (resliced ! 6 10 refl refl refl) refl (sliced ws-fits) $
         sets ! 2 (behind ! 8 refl refl) refl (tt, tt) $
@@ -65,14 +79,22 @@ module _ {M : Type 1} (𝓤 : URA M) (H : Heap 𝓤) (A : Atoms 𝓤) (W : Given
 
   writes : Triple 𝓤 (WpFn 𝓤 H (𝓣 .C) (𝓣 .Λ) code.function) (Writes 𝓤 H A mem run)
   writes =
-      written-out 𝓤 H A write.signature (write.spec 𝓤 H A mem run) (WpFn 𝓤 H (𝓣 .C) (𝓣 .Λ) code.function) (λ κs. (slice-vals, (slice-vals, (slice-vals, (slice-vals, tt)))))
-      (λ κs. (shr-slice-tells (named 0) (κs .0) U.the-row, (shr-slice-tells (named 1) (κs .1 .0) u8, (mut-slice-tells (named 2) (κs .1 .1 .0) u8, (mut-slice-tells (named 3) (κs .1 .1 .1 .0) u8, tt)))))
-      (λ y are. walk (y .0 .0 .0) (y .0 .0 .1 .0) (y .0 .0 .1 .1 .0) (y .0 .0 .1 .1 .1 .0) (y .0 .1 .0) (y .0 .1 .1 .0) (y .0 .1 .1 .1 .0) (y .0 .1 .1 .1 .1 .0) (y .0 .3 .0) (y .0 .3 .1 .0) (y .0 .3 .1 .1 .0) (y .0 .3 .1 .1 .1 .0)
+      written-out 𝓤 H A write.signature (write.spec 𝓤 H A mem run) (WpFn 𝓤 H (𝓣 .C) (𝓣 .Λ) code.function) (λ κs.
+      (slice-vals, (slice-vals, (slice-vals, (slice-vals, tt)))))
+      (λ κs. (
+        shr-slice-tells (named 0) (κs .0) U.the-row,
+        (shr-slice-tells (named 1) (κs .1 .0) u8, (mut-slice-tells (named 2) (κs .1 .1 .0) u8, (mut-slice-tells (named 3) (κs .1 .1 .1 .0) u8, tt))),
+      ))
+      (λ y are. walk (y .0 .0 .0) (y .0 .0 .1 .0) (y .0 .0 .1 .1 .0) (y .0 .0 .1 .1 .1 .0) (y .0 .1 .0) (y .0 .1 .1 .0) (y .0 .1 .1 .1 .0)
+      (y .0 .1 .1 .1 .1 .0) (y .0 .3 .0) (y .0 .3 .1 .0) (y .0 .3 .1 .1 .0) (y .0 .3 .1 .1 .1 .0)
       (are .0 .0 .1 .0) (are .1 .0 .0 .1 .0) (are .1 .1 .0 .0 .1 .0) (are .1 .1 .1 .0 .0 .1 .0))
 
 pub ctext-write-spec : {M : Type 1} → stated.statement M
 unfolding code.routine tablesOf
 ctext-write-spec 𝓤 H 𝓜 𝓖 𝓡 =
-    passed-on 𝓤 H 𝓜 𝓖 𝓡 code.env #ctext-write code.function (code.unfolded 𝓤 H 𝓜 𝓡) write.signature (write.spec 𝓤 H (𝓖 .A) (𝓜 .mem) (𝓡 .run))
-    (writes 𝓤 H (𝓖 .A) (givenOf 𝓤 H 𝓜 𝓖) (𝓜 .mem) (𝓡 .run) (𝓣of 𝓤 H 𝓜 𝓖 𝓡 code.env) (fmOf 𝓤 H (givenOf 𝓤 H 𝓜 𝓖 .laws) (𝓣of 𝓤 H 𝓜 𝓖 𝓡 code.env))
-    (cited 𝓤 H (Writes 𝓤 H (𝓖 .A) (𝓜 .mem) (𝓡 .run)) 𝓜 𝓡 code.env #write write-def.routine code.calls-write·write (write-thm.met 𝓤 H 𝓜 𝓖 𝓡)))
+    passed-on 𝓤 H 𝓜 𝓖 𝓡 code.env #ctext-write code.function (code.unfolded 𝓤 H 𝓜 𝓡) write.signature
+    (write.spec 𝓤 H (𝓖 .A) (𝓜 .mem) (𝓡 .run))
+    (writes 𝓤 H (𝓖 .A) (givenOf 𝓤 H 𝓜 𝓖) (𝓜 .mem) (𝓡 .run) (𝓣of 𝓤 H 𝓜 𝓖 𝓡 code.env)
+    (fmOf 𝓤 H (givenOf 𝓤 H 𝓜 𝓖 .laws) (𝓣of 𝓤 H 𝓜 𝓖 𝓡 code.env))
+    (cited 𝓤 H (Writes 𝓤 H (𝓖 .A) (𝓜 .mem) (𝓡 .run)) 𝓜 𝓡 code.env #write write-def.routine code.calls-write·write
+    (write-thm.met 𝓤 H 𝓜 𝓖 𝓡)))
