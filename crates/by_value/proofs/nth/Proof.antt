@@ -39,18 +39,9 @@ use Rattle.reader.proofs.Reader.Laws as T′
 use Rattle.reader.proofs.Item as I
 use Rattle.reader.proofs.Item.Laws as I′
 use Rattle.reader.proofs.open as opn
-use Rattle.reader.proofs.open.Symbol as open-def
-use Rattle.reader.proofs.open.Symbol.{name as #open}
-use Rattle.reader.proofs.open.Met as open-thm
 use Rattle.reader.proofs.next as next
-use Rattle.reader.proofs.next.Symbol as next-def
-use Rattle.reader.proofs.next.Symbol.{name as #next}
-use Rattle.reader.proofs.next.Met as next-thm
-use Rattle.by_value.proofs.nth.Key.{name as #nth}
 use Rattle.by_value.proofs.nth as nth
-use Rattle.by_value.proofs.nth.Statement as stated
 use Rattle.by_value.proofs.nth.Code as code
-use Rattle.by_value.proofs.nth.Code.Mir as M1
 
 abbrev stayed : Stays (nth.ended .signature .params) (nth.ended .kept)
 stayed = (stay-none-slice (0 ∷ []) tt (plain (λ _. u8)) yes, (stay-none (λ _. usize) yes, tt))
@@ -196,7 +187,7 @@ module _ {M : Type 1} (𝓤 : URA M) (H : Heap 𝓤) (A : Atoms 𝓤) (W : Given
   nearer : (i : ℕ) → Holds (ltb i k) → k - suc i < k - i
   nearer i less = let h : i < k = ltb→lt i k less in omega arith
 
-  module _ (𝓣 : Tables 𝓤 H) (fm : FmC 𝓤 H (W .laws) (𝓣 .C)) (known : Triple 𝓤 (𝓣 .C #next) Next) (bs : Blocks (code.function .locals)) where
+  module _ (𝓣 : Tables 𝓤 H) (fm : FmC 𝓤 H (W .laws) (𝓣 .C)) (known : Triple 𝓤 (𝓣 .C next.Symbol.name) Next) (bs : Blocks (code.function .locals)) where
     abbrev C : Calls 𝓤 H
     C = 𝓣 .C
 
@@ -217,9 +208,9 @@ module _ {M : Type 1} (𝓤 : URA M) (H : Heap 𝓤) (A : Atoms 𝓤) (W : Given
 
     abbrev Turned : Turn → Out → SProp 𝓤
     Turned i = afterTurn 𝓤 H (Below 𝓤 H A Nearer At i)
-        (afterBlock 𝓤 H (afterSeq 𝓤 H (Wp 𝓤 H C Λ En M1.t-5 (atReturn 𝓤 H En Post)) (atReturn 𝓤 H En Post)))
+        (afterBlock 𝓤 H (afterSeq 𝓤 H (Wp 𝓤 H C Λ En code.Mir.t-5 (atReturn 𝓤 H En Post)) (atReturn 𝓤 H En Post)))
 
-    turns : (i : Turn) → Sq W (At i) (runs C Λ En M1.turn-1 (anyQ (Turned i)))
+    turns : (i : Turn) → Sq W (At i) (runs C Λ En code.Mir.turn-1 (anyQ (Turned i)))
     unfolding afterTurn readerAfter
     turns i =
         sets ! 9 (bin ! (var ! 13 refl) (var ! 16 refl) tt) refl (tt, tt) $
@@ -231,7 +222,7 @@ module _ {M : Type 1} (𝓤 : URA M) (H : Heap 𝓤) (A : Atoms 𝓤) (W : Given
         lands-in ! 7 refl (EL.lawful I.the-type I′.the-laws 𝓤 H A W tt .typed (it (i .0)) _ is .0) $
         resets-last ! 13 (bin ! (var ! 13 refl) (lit ! tt) (record { fits = next-fits (i .0) less })) refl (in64 (next-fits (i .0) less)) $
         recasts ! 13 (vint w64) (add-one (i .0)) refl $ clears ! 5 5 refl $ again ! Nearer At i (suc (i .0), ltb→lt (i .0) k less) (nearer (i .0) less)))
-        (λ over. exec ! C Λ En M1.t-5 (atRet En Post) $ sets ! 3 (addr ! (from ! (stop !))) refl (tt, tt) $
+        (λ over. exec ! C Λ En code.Mir.t-5 (atRet En Post) $ sets ! 3 (addr ! (from ! (stop !))) refl (tt, tt) $
         rewrite ! 0 (λ (j : ℕ). ‵ (partAt R fullShare (rd j) reader 0)) (le-antisymm (i .1) (nltb→le (i .0) k over)) refl $
         calls-local ! fm Next known R κ q reader (rd k) (moved (rd k)) (to-next reader (rd k)) (item (it k)) (IsI (it k)) (asks-next reader (rd k))
         (gave-next reader (rd k))
@@ -241,11 +232,11 @@ module _ {M : Type 1} (𝓤 : URA M) (H : Heap 𝓤) (A : Atoms 𝓤) (W : Given
         returns ! (look ! 20 refl) $ move ! (1 ∷ 2 ∷ 3 ∷ 4 ∷ 5 ∷ 6 ∷ 7 ∷ 8 ∷ 9 ∷ 10 ∷ 11 ∷ 12 ∷ 13 ∷ 14 ∷ 0 ∷ []) $
         leaves ! 2 refl refl $ (exits is)))
 
-    looped : Sq W (At (0, zero-le)) (runs C Λ En M1.t-4 (atRet En Post))
+    looped : Sq W (At (0, zero-le)) (runs C Λ En code.Mir.t-4 (atRet En Post))
     looped = first ! $ blocks ! $ loops ! 𝓣 Nearer Nearer-wf At turns (0, zero-le)
 
-  module _ (𝓣 : Tables 𝓤 H) (fm : FmC 𝓤 H (W .laws) (𝓣 .C)) (known-next : Triple 𝓤 (𝓣 .C #next) Next)
-      (known-open : Triple 𝓤 (𝓣 .C #open) Open) where
+  module _ (𝓣 : Tables 𝓤 H) (fm : FmC 𝓤 H (W .laws) (𝓣 .C)) (known-next : Triple 𝓤 (𝓣 .C next.Symbol.name) Next)
+      (known-open : Triple 𝓤 (𝓣 .C opn.Symbol.name) Open) where
     walk : ent 𝓤 (onEntry 𝓤 H A nth.signature (κ, tt) (q, tt) a vals) (WpFn 𝓤 H (𝓣 .C) (𝓣 .Λ) code.function (v ∷ vint w64 k ∷ []) Post)
     unfolding readerAfter
     walk =
@@ -266,10 +257,10 @@ module _ {M : Type 1} (𝓤 : URA M) (H : Heap 𝓤) (A : Atoms 𝓤) (W : Given
         use1 W (‵ (flft κ q) ⊛ ‵ ftrue) (id⊢ 𝓤 _) $ split ! $ move ! (1 ∷ []) $ let-go ! $ move ! (1 ∷ 0 ∷ []) $
         looped 𝓣 fm known-next bs))
 
-pub nth-spec : {M : Type 1} → stated.statement M
+pub nth-spec : {M : Type 1} → nth.Statement.statement M
 unfolding code.routine tablesOf
 nth-spec 𝓤 H 𝓜 𝓖 𝓡 =
-    proved-by 𝓤 H 𝓜 𝓖 𝓡 code.env #nth code.function (code.unfolded 𝓤 H 𝓜 𝓡) nth.ended stayed
+    proved-by 𝓤 H 𝓜 𝓖 𝓡 code.env nth.Key.name code.function (code.unfolded 𝓤 H 𝓜 𝓡) nth.ended stayed
     (nth.clauses 𝓤 H (𝓖 .A) (𝓜 .mem) (𝓡 .run)) (
       goes-none-slice 𝓤 H (𝓖 .A) (givenOf 𝓤 H 𝓜 𝓖) 1 (0 ∷ []) tt (plain (λ _. u8)) yes,
       (goes-none 𝓤 H (𝓖 .A) (givenOf 𝓤 H 𝓜 𝓖) 1 (λ _. usize) yes (λ κs x f. refl), tt),
@@ -278,5 +269,5 @@ nth-spec 𝓤 H 𝓜 𝓖 𝓡 =
     (λ κs qs bounds a g are. via 𝓤 _ (fst∗ 𝓤 _ (emp 𝓤)) (walk 𝓤 H (𝓖 .A) (givenOf 𝓤 H 𝓜 𝓖) (𝓜 .mem) (𝓡 .run) (κs .0)
     (qs .0) (a .0) (a .1 .0) (are .0 .0 .1 .0) (are .1 .0 .1) (𝓣of 𝓤 H 𝓜 𝓖 𝓡 code.env)
     (fmOf 𝓤 H (givenOf 𝓤 H 𝓜 𝓖 .laws) (𝓣of 𝓤 H 𝓜 𝓖 𝓡 code.env))
-    (cited 𝓤 H _ 𝓜 𝓡 code.env #next next-def.routine code.calls-reader·next (next-thm.met 𝓤 H 𝓜 𝓖 𝓡))
-    (cited 𝓤 H _ 𝓜 𝓡 code.env #open open-def.routine code.calls-reader·open (open-thm.met 𝓤 H 𝓜 𝓖 𝓡))))
+    (cited 𝓤 H _ 𝓜 𝓡 code.env next.Symbol.name next.Symbol.routine code.calls-reader·next (next.Met.met 𝓤 H 𝓜 𝓖 𝓡))
+    (cited 𝓤 H _ 𝓜 𝓡 code.env opn.Symbol.name opn.Symbol.routine code.calls-reader·open (opn.Met.met 𝓤 H 𝓜 𝓖 𝓡))))

@@ -26,12 +26,7 @@ use Rattle.walks.proofs.Steps.{var, arg, sets, lands-in, sliced, beside, copies
 use Rattle.walks.proofs.Locals.{array-out, array-in}
 use Rattle.read.specs.Listing.{readAnswer, listAfter}
 use Rattle.read.proofs.read as read
-use Rattle.read.proofs.read.Symbol as read-def
-use Rattle.read.proofs.read.Symbol.{name as #read}
-use Rattle.read.proofs.read.Met as read-thm
-use Rattle.by_value.proofs.read_eight.Key.{name as #read-eight}
 use Rattle.by_value.proofs.read_eight as eight
-use Rattle.by_value.proofs.read_eight.Statement as stated
 use Rattle.by_value.proofs.read_eight.Code as code
 
 -- the contract that the proof cites
@@ -116,7 +111,7 @@ module _ {M : Type 1} (𝓤 : URA M) (H : Heap 𝓤) (A : Atoms 𝓤) (W : Given
         heard ! (Said m (ws .1 .0)) (λ e. fsplit ! $ move ! (1 ∷ []) $ fsplit ! $ fsplit ! $ keep ! (0 ∷ []) $
         show ! (λ (zs : List UnitRecord). guard 𝓤 (Said m zs) (sem 𝓤 H A (finally U.the-row δ zs))) (ws .1 .0) $ check ! e $ done !)
 
-  module _ (C : Calls 𝓤 H) (Λ : Loops 𝓤 H) (fm : FmC 𝓤 H (W .laws) C) (known : Triple 𝓤 (C #read) (Reads 𝓤 H A at-mem run)) where
+  module _ (C : Calls 𝓤 H) (Λ : Loops 𝓤 H) (fm : FmC 𝓤 H (W .laws) C) (known : Triple 𝓤 (C read.Symbol.name) (Reads 𝓤 H A at-mem run)) where
     walk : ent 𝓤 (onEntry 𝓤 H A eight.signature (κ, tt) (q, tt) a vals) (WpFn 𝓤 H C Λ code.function (v ∷ U′.lowered mark ∷ []) Post)
     walk =
         qed W ((‵ (flft κ q) ⊛ ‵ ftrue) ∷ ‵ (owns (ShrSlice (named 0) κ u8 ∷ U.the-row ∷ []) a vals) ∷ []) ∵ move ! (1 ∷ []) $
@@ -154,10 +149,10 @@ module _ {M : Type 1} (𝓤 : URA M) (H : Heap 𝓤) (A : Atoms 𝓤) (W : Given
         sets ! 16 (of-opd ! (var ! 0 refl)) refl (array-lawful 𝓤 H A W U.the-row (LL.lawful U.the-type U′.the-laws 𝓤 H A W) 8 .typed zs _ is-zs .0) $
         returns ! (look ! 16 refl) $ move ! (1 ∷ 2 ∷ 3 ∷ 4 ∷ 5 ∷ 6 ∷ 7 ∷ 8 ∷ 9 ∷ 10 ∷ 0 ∷ []) $ leaves ! 4 refl refl $ (exits zs e)))))))
 
-pub read-eight-spec : {M : Type 1} → stated.statement M
+pub read-eight-spec : {M : Type 1} → eight.Statement.statement M
 unfolding code.routine tablesOf
 read-eight-spec 𝓤 H 𝓜 𝓖 𝓡 =
-    proved-by 𝓤 H 𝓜 𝓖 𝓡 code.env #read-eight code.function (code.unfolded 𝓤 H 𝓜 𝓡) eight.ended stayed
+    proved-by 𝓤 H 𝓜 𝓖 𝓡 code.env eight.Key.name code.function (code.unfolded 𝓤 H 𝓜 𝓡) eight.ended stayed
     (eight.clauses 𝓤 H (𝓖 .A) (𝓜 .mem) (𝓡 .run)) (
       goes-none-slice 𝓤 H (𝓖 .A) (givenOf 𝓤 H 𝓜 𝓖) 1 (0 ∷ []) tt (plain (λ _. u8)) yes,
       (goes-none 𝓤 H (𝓖 .A) (givenOf 𝓤 H 𝓜 𝓖) 1 (λ _. U.the-row) yes (λ κs x f. refl), tt),
@@ -167,5 +162,5 @@ read-eight-spec 𝓤 H 𝓜 𝓖 𝓡 =
     (qs .0) (a .0) (a .1 .0) (are .0 .0 .1 .0) (are .1 .0)
     (𝓣of 𝓤 H 𝓜 𝓖 𝓡 code.env .C) (𝓣of 𝓤 H 𝓜 𝓖 𝓡 code.env .Λ)
     (fmOf 𝓤 H (givenOf 𝓤 H 𝓜 𝓖 .laws) (𝓣of 𝓤 H 𝓜 𝓖 𝓡 code.env))
-    (cited 𝓤 H (Reads 𝓤 H (𝓖 .A) (𝓜 .mem) (𝓡 .run)) 𝓜 𝓡 code.env #read read-def.routine code.calls-read·read
-    (read-thm.met 𝓤 H 𝓜 𝓖 𝓡))))
+    (cited 𝓤 H (Reads 𝓤 H (𝓖 .A) (𝓜 .mem) (𝓡 .run)) 𝓜 𝓡 code.env read.Symbol.name read.Symbol.routine code.calls-read·read
+    (read.Met.met 𝓤 H 𝓜 𝓖 𝓡))))

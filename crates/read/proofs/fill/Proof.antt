@@ -34,18 +34,9 @@ use Rattle.read.proofs.Fills.{count-over, count-stops, count-goes, coun
 use Rattle.read.proofs.spans.Span as R
 use Rattle.read.proofs.spans.Span.Laws as R′
 use Rattle.read.proofs.spans.stands_at as stands-at
-use Rattle.read.proofs.spans.stands_at.Symbol as stands-at-def
-use Rattle.read.proofs.spans.stands_at.Symbol.{name as #stands-at}
-use Rattle.read.proofs.spans.stands_at.Met as stands-at-thm
 use Rattle.read.proofs.spans.nth as nth
-use Rattle.read.proofs.spans.nth.Symbol as nth-def
-use Rattle.read.proofs.spans.nth.Symbol.{name as #nth}
-use Rattle.read.proofs.spans.nth.Met as nth-thm
-use Rattle.read.proofs.fill.Key.{name as #fill}
 use Rattle.read.proofs.fill as fill
-use Rattle.read.proofs.fill.Statement as stated
 use Rattle.read.proofs.fill.Code as code
-use Rattle.read.proofs.fill.Code.Mir as M1
 
 abbrev stayed : Stays (fill.ended .signature .params) (fill.ended .kept)
 stayed = (
@@ -207,8 +198,8 @@ module _ {M : Type 1} (𝓤 : URA M) (H : Heap 𝓤) (A : Atoms 𝓤) (W : Given
   none-left : (g : Going) → r .most ≤ g .0 → g .1 .0 ≡ 0
   none-left g over = omega (arith, over, g .1 .1 .1 .left)
 
-  module _ (𝓣 : Tables 𝓤 H) (fm : FmC 𝓤 H (W .laws) (𝓣 .C)) (known-stands : Triple 𝓤 (𝓣 .C #stands-at) StandsAt)
-      (known-nth : Triple 𝓤 (𝓣 .C #nth) Nth)
+  module _ (𝓣 : Tables 𝓤 H) (fm : FmC 𝓤 H (W .laws) (𝓣 .C)) (known-stands : Triple 𝓤 (𝓣 .C stands-at.Symbol.name) StandsAt)
+      (known-nth : Triple 𝓤 (𝓣 .C nth.Symbol.name) Nth)
       (bs : Blocks (code.function .locals)) where
     abbrev C : Calls 𝓤 H
     C = 𝓣 .C
@@ -228,9 +219,9 @@ module _ {M : Type 1} (𝓤 : URA M) (H : Heap 𝓤) (A : Atoms 𝓤) (W : Given
 
     abbrev Turned : Going → Out → SProp 𝓤
     Turned g = afterTurn 𝓤 H (Below 𝓤 H A Nearer At g)
-        (afterBlock 𝓤 H (afterSeq 𝓤 H (Wp 𝓤 H C Λ En M1.t-4 (atReturn 𝓤 H En Post)) (atReturn 𝓤 H En Post)))
+        (afterBlock 𝓤 H (afterSeq 𝓤 H (Wp 𝓤 H C Λ En code.Mir.t-4 (atReturn 𝓤 H En Post)) (atReturn 𝓤 H En Post)))
 
-    turns : (g : Going) → Sq W (At g) (runs C Λ En M1.turn-1 (anyQ (Turned g)))
+    turns : (g : Going) → Sq W (At g) (runs C Λ En code.Mir.turn-1 (anyQ (Turned g)))
     unfolding afterTurn
     turns g =
         sets ! 16 (bin ! (var ! 18 refl) (var ! 20 refl) tt) refl (tt, tt) $
@@ -282,7 +273,7 @@ module _ {M : Type 1} (𝓤 : URA M) (H : Heap 𝓤) (A : Atoms 𝓤) (W : Given
         -- the loop is left: the borrow is closed at the list that is filled
         (λ over.
         let none : g .1 .0 ≡ 0 = none-left g (nltb→le (g .0) (r .most) over) in
-        exec ! C Λ En M1.t-4 (atRet En Post) $
+        exec ! C Λ En code.Mir.t-4 (atRet En Post) $
         sets ! 30 (of-opd ! (var ! 18 refl)) refl (in64 (omega (arith, g .1 .1 .1 .left, most-fits))) $
         recasts ! 30 (vint w64) (sym (count-over xs r (g .1 .0) (g .0) none) ∙ g .1 .1 .1 .count) refl $
         move ! (2 ∷ 3 ∷ 4 ∷ 5 ∷ []) $ closes-slice ! tt U.the-row ys (got g) (g .1 .1 .1 .same) b o $
@@ -292,12 +283,12 @@ module _ {M : Type 1} (𝓤 : URA M) (H : Heap 𝓤) (A : Atoms 𝓤) (W : Given
     abbrev start-at : Going
     start-at = (0, (r .most, (ys, record { left = omega arith; count = refl; stored = refl; same = refl })))
 
-    looped : Sq W (At start-at) (runs C Λ En M1.t-3 (atRet En Post))
+    looped : Sq W (At start-at) (runs C Λ En code.Mir.t-3 (atRet En Post))
     looped = begins ! $ blocks ! $ loops ! 𝓣 Nearer Nearer-wf At turns start-at
 
   -- ---- the code up to the loop
-  module _ (𝓣 : Tables 𝓤 H) (fm : FmC 𝓤 H (W .laws) (𝓣 .C)) (known-stands : Triple 𝓤 (𝓣 .C #stands-at) StandsAt)
-      (known-nth : Triple 𝓤 (𝓣 .C #nth) Nth) where
+  module _ (𝓣 : Tables 𝓤 H) (fm : FmC 𝓤 H (W .laws) (𝓣 .C)) (known-stands : Triple 𝓤 (𝓣 .C stands-at.Symbol.name) StandsAt)
+      (known-nth : Triple 𝓤 (𝓣 .C nth.Symbol.name) Nth) where
     walk : ent 𝓤 (onEntry 𝓤 H A fill.signature (κ, (κ′, tt)) (q, (q′, tt)) a vals)
         (WpFn 𝓤 H (𝓣 .C) (𝓣 .Λ) code.function (vs ∷ R′.lowered r ∷ vo ∷ vint w64 start ∷ []) Post)
     walk =
@@ -314,10 +305,10 @@ module _ {M : Type 1} (𝓤 : URA M) (H : Heap 𝓤) (A : Atoms 𝓤) (W : Given
         move ! (28 ∷ 29 ∷ 30 ∷ []) $ opens-slice ! tt U.the-row ys b o $ move ! (30 ∷ 31 ∷ []) $
         looped 𝓣 fm known-stands known-nth bs)
 
-pub fill-spec : {M : Type 1} → stated.statement M
+pub fill-spec : {M : Type 1} → fill.Statement.statement M
 unfolding code.routine tablesOf
 fill-spec 𝓤 H 𝓜 𝓖 𝓡 =
-    proved-by 𝓤 H 𝓜 𝓖 𝓡 code.env #fill code.function (code.unfolded 𝓤 H 𝓜 𝓡) fill.ended stayed
+    proved-by 𝓤 H 𝓜 𝓖 𝓡 code.env fill.Key.name code.function (code.unfolded 𝓤 H 𝓜 𝓡) fill.ended stayed
     (fill.clauses 𝓤 H (𝓖 .A) (𝓜 .mem) (𝓡 .run)) (
       goes-none-slice 𝓤 H (𝓖 .A) (givenOf 𝓤 H 𝓜 𝓖) 2 (0 ∷ []) tt (plain (λ _. u8)) yes,
       (
@@ -338,5 +329,5 @@ fill-spec 𝓤 H 𝓜 𝓖 𝓡 =
     (a .0) (a .1 .0) (a .1 .1 .0 .ptr .0) (a .1 .1 .0 .ptr .1) (a .1 .1 .0 .name) (a .1 .1 .0 .now) (a .1 .1 .1 .0)
     (are .0 .0 .1 .0) (are .1 .0) (are .1 .1 .0 .0 .1) (are .1 .1 .1 .0 .1) (pre .0) (pre .1)
     (𝓣of 𝓤 H 𝓜 𝓖 𝓡 code.env) (fmOf 𝓤 H (givenOf 𝓤 H 𝓜 𝓖 .laws) (𝓣of 𝓤 H 𝓜 𝓖 𝓡 code.env))
-    (cited 𝓤 H _ 𝓜 𝓡 code.env #stands-at stands-at-def.routine code.calls-read·spans·stands-at (stands-at-thm.met 𝓤 H 𝓜 𝓖 𝓡))
-    (cited 𝓤 H _ 𝓜 𝓡 code.env #nth nth-def.routine code.calls-read·spans·nth (nth-thm.met 𝓤 H 𝓜 𝓖 𝓡))))
+    (cited 𝓤 H _ 𝓜 𝓡 code.env stands-at.Symbol.name stands-at.Symbol.routine code.calls-read·spans·stands-at (stands-at.Met.met 𝓤 H 𝓜 𝓖 𝓡))
+    (cited 𝓤 H _ 𝓜 𝓡 code.env nth.Symbol.name nth.Symbol.routine code.calls-read·spans·nth (nth.Met.met 𝓤 H 𝓜 𝓖 𝓡))))

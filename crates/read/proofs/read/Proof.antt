@@ -44,34 +44,13 @@ use Rattle.cursor.proofs.Cursor.Laws as K′
 use Rattle.read.proofs.spans.Span as R
 use Rattle.read.proofs.spans.Span.Laws as R′
 use Rattle.read.proofs.spans.span_at as span-at
-use Rattle.read.proofs.spans.span_at.Symbol as span-at-def
-use Rattle.read.proofs.spans.span_at.Symbol.{name as #span-at}
-use Rattle.read.proofs.spans.span_at.Met as span-at-thm
 use Rattle.read.proofs.spans.moved as moved
-use Rattle.read.proofs.spans.moved.Symbol as moved-def
-use Rattle.read.proofs.spans.moved.Symbol.{name as #moved}
-use Rattle.read.proofs.spans.moved.Met as moved-thm
 use Rattle.read.proofs.fill as fill
-use Rattle.read.proofs.fill.Symbol as fill-def
-use Rattle.read.proofs.fill.Symbol.{name as #fill}
-use Rattle.read.proofs.fill.Met as fill-thm
 use Rattle.read.proofs.answer as answer
-use Rattle.read.proofs.answer.Symbol as answer-def
-use Rattle.read.proofs.answer.Symbol.{name as #answer}
-use Rattle.read.proofs.answer.Met as answer-thm
 use Rattle.read.proofs.stored as stored
-use Rattle.read.proofs.stored.Symbol as stored-def
-use Rattle.read.proofs.stored.Symbol.{name as #stored}
-use Rattle.read.proofs.stored.Met as stored-thm
 use Rattle.cursor.proofs.Cursor.first as first-fn
-use Rattle.cursor.proofs.Cursor.first.Symbol as first-def
-use Rattle.cursor.proofs.Cursor.first.Symbol.{name as #first}
-use Rattle.cursor.proofs.Cursor.first.Met as first-thm
-use Rattle.read.proofs.read.Key.{name as #read}
 use Rattle.read.proofs.read as read
-use Rattle.read.proofs.read.Statement as stated
 use Rattle.read.proofs.read.Code as code
-use Rattle.read.proofs.read.Code.Mir as M1
 
 abbrev stayed : Stays (read.ended .signature .params) (read.ended .kept)
 stayed = (stay-none-slice (0 ∷ []) tt (plain (λ _. u8)) yes, (stay-slice (1 ∷ []) tt (plain (λ _. U.the-row)), tt))
@@ -278,9 +257,9 @@ module _ {M : Type 1} (𝓤 : URA M) (H : Heap 𝓤) (A : Atoms 𝓤) (W : Given
       let k = count-in (i .0) less in
       omega (arith, h, k, less)
 
-  module _ (𝓣 : Tables 𝓤 H) (fm : FmC 𝓤 H (W .laws) (𝓣 .C)) (known-span : Triple 𝓤 (𝓣 .C #span-at) SpanAt)
-      (known-fill : Triple 𝓤 (𝓣 .C #fill) Fill)
-      (known-moved : Triple 𝓤 (𝓣 .C #moved) Moved) (is-ans : IsN) (bs : Blocks (code.function .locals)) where
+  module _ (𝓣 : Tables 𝓤 H) (fm : FmC 𝓤 H (W .laws) (𝓣 .C)) (known-span : Triple 𝓤 (𝓣 .C span-at.Symbol.name) SpanAt)
+      (known-fill : Triple 𝓤 (𝓣 .C fill.Symbol.name) Fill)
+      (known-moved : Triple 𝓤 (𝓣 .C moved.Symbol.name) Moved) (is-ans : IsN) (bs : Blocks (code.function .locals)) where
     abbrev C : Calls 𝓤 H
     C = 𝓣 .C
 
@@ -297,9 +276,9 @@ module _ {M : Type 1} (𝓤 : URA M) (H : Heap 𝓤) (A : Atoms 𝓤) (W : Given
 
     abbrev Turned : Turn → Out → SProp 𝓤
     Turned i = afterTurn 𝓤 H (Below 𝓤 H A Nearer At i)
-        (afterBlock 𝓤 H (afterSeq 𝓤 H (Wp 𝓤 H C Λ En M1.t-7 (atReturn 𝓤 H En Post)) (atReturn 𝓤 H En Post)))
+        (afterBlock 𝓤 H (afterSeq 𝓤 H (Wp 𝓤 H C Λ En code.Mir.t-7 (atReturn 𝓤 H En Post)) (atReturn 𝓤 H En Post)))
 
-    turns : (i : Turn) → Sq W (At i) (runs C Λ En M1.turn-1 (anyQ (Turned i)))
+    turns : (i : Turn) → Sq W (At i) (runs C Λ En code.Mir.turn-1 (anyQ (Turned i)))
     unfolding afterTurn
     turns i =
         sets ! 10 (bin ! (var ! 18 refl) (var ! 22 refl) tt) refl (tt, tt) $
@@ -344,19 +323,19 @@ module _ {M : Type 1} (𝓤 : URA M) (H : Heap 𝓤) (A : Atoms 𝓤) (W : Given
         (store ! 18 refl (in64 (omega (arith, count-in (i .0) less, n-fits)))) $
         clears ! 4 13 refl $ move ! (0 ∷ 3 ∷ 1 ∷ 2 ∷ []) $ again ! Nearer At i (further i less is-c) (nearer i less)))))
         -- the loop is left
-        (λ over. exec ! C Λ En M1.t-7 (atRet En Post) $
+        (λ over. exec ! C Λ En code.Mir.t-7 (atRet En Post) $
         sets ! 30 (of-opd ! (var ! 24 refl)) refl (LL.lawful N.the-type N′.the-laws 𝓤 H A W .typed ans _ is-ans .0) $
         rewrite ! 2 (λ (j : ℕ). ‵ (Units (got xs ys j))) (le-antisymm (i .1 .0) (nltb→le (i .0) n over)) refl $
         returns ! (look ! 30 refl) $ leaves ! 4 refl refl $ (exits is-ans))
 
-    looped : (is : IsK first) → Sq W (At (0, (zero-le, is))) (runs C Λ En M1.t-6 (atRet En Post))
+    looped : (is : IsK first) → Sq W (At (0, (zero-le, is))) (runs C Λ En code.Mir.t-6 (atRet En Post))
     looped is = begins ! $ blocks ! $ loops ! 𝓣 Nearer Nearer-wf At turns (0, (zero-le, is))
 
   -- ---- the code up to the loop
-  module _ (𝓣 : Tables 𝓤 H) (fm : FmC 𝓤 H (W .laws) (𝓣 .C)) (known-span : Triple 𝓤 (𝓣 .C #span-at) SpanAt)
-      (known-fill : Triple 𝓤 (𝓣 .C #fill) Fill)
-      (known-moved : Triple 𝓤 (𝓣 .C #moved) Moved) (known-answer : Triple 𝓤 (𝓣 .C #answer) Answers)
-      (known-stored : Triple 𝓤 (𝓣 .C #stored) Stored) (known-first : Triple 𝓤 (𝓣 .C #first) First) where
+  module _ (𝓣 : Tables 𝓤 H) (fm : FmC 𝓤 H (W .laws) (𝓣 .C)) (known-span : Triple 𝓤 (𝓣 .C span-at.Symbol.name) SpanAt)
+      (known-fill : Triple 𝓤 (𝓣 .C fill.Symbol.name) Fill)
+      (known-moved : Triple 𝓤 (𝓣 .C moved.Symbol.name) Moved) (known-answer : Triple 𝓤 (𝓣 .C answer.Symbol.name) Answers)
+      (known-stored : Triple 𝓤 (𝓣 .C stored.Symbol.name) Stored) (known-first : Triple 𝓤 (𝓣 .C first-fn.Symbol.name) First) where
     walk : ent 𝓤 (onEntry 𝓤 H A read.signature (κ, (κ′, tt)) (q, (q′, tt)) a vals)
         (WpFn 𝓤 H (𝓣 .C) (𝓣 .Λ) code.function (vs ∷ vo ∷ []) Post)
     walk =
@@ -383,10 +362,10 @@ module _ {M : Type 1} (𝓤 : URA M) (H : Heap 𝓤) (A : Atoms 𝓤) (W : Given
         sets ! 16 (of-opd ! (lit ! tt)) refl (in64 (lit< tt)) $ forget ! 10 refl $ move ! (0 ∷ 1 ∷ 30 ∷ 31 ∷ []) $
         looped 𝓣 fm known-span known-fill known-moved is-ans bs is-first))))
 
-pub read-spec : {M : Type 1} → stated.statement M
+pub read-spec : {M : Type 1} → read.Statement.statement M
 unfolding code.routine tablesOf
 read-spec 𝓤 H 𝓜 𝓖 𝓡 =
-    proved-by 𝓤 H 𝓜 𝓖 𝓡 code.env #read code.function (code.unfolded 𝓤 H 𝓜 𝓡) read.ended stayed
+    proved-by 𝓤 H 𝓜 𝓖 𝓡 code.env read.Key.name code.function (code.unfolded 𝓤 H 𝓜 𝓡) read.ended stayed
     (read.clauses 𝓤 H (𝓖 .A) (𝓜 .mem) (𝓡 .run)) (
       goes-none-slice 𝓤 H (𝓖 .A) (givenOf 𝓤 H 𝓜 𝓖) 2 (0 ∷ []) tt (plain (λ _. u8)) yes,
       (goes-slice 𝓤 H (𝓖 .A) (givenOf 𝓤 H 𝓜 𝓖) 2 1 tt (plain (λ _. U.the-row)), tt),
@@ -395,9 +374,9 @@ read-spec 𝓤 H 𝓜 𝓖 𝓡 =
     (λ κs qs bounds a g are. via 𝓤 _ (fst∗ 𝓤 _ (emp 𝓤)) (walk 𝓤 H (𝓖 .A) (givenOf 𝓤 H 𝓜 𝓖) (𝓜 .mem) (𝓡 .run) (κs .0)
     (κs .1 .0) (qs .0) (qs .1 .0) (a .0) (a .1 .0 .ptr .0) (a .1 .0 .ptr .1) (a .1 .0 .name) (a .1 .0 .now) (are .0 .0 .1 .0) (are .1 .0 .0 .1)
     (𝓣of 𝓤 H 𝓜 𝓖 𝓡 code.env) (fmOf 𝓤 H (givenOf 𝓤 H 𝓜 𝓖 .laws) (𝓣of 𝓤 H 𝓜 𝓖 𝓡 code.env))
-    (cited 𝓤 H _ 𝓜 𝓡 code.env #span-at span-at-def.routine code.calls-read·spans·span-at (span-at-thm.met 𝓤 H 𝓜 𝓖 𝓡))
-    (cited 𝓤 H _ 𝓜 𝓡 code.env #fill fill-def.routine code.calls-read·fill (fill-thm.met 𝓤 H 𝓜 𝓖 𝓡))
-    (cited 𝓤 H _ 𝓜 𝓡 code.env #moved moved-def.routine code.calls-read·spans·moved (moved-thm.met 𝓤 H 𝓜 𝓖 𝓡))
-    (cited 𝓤 H _ 𝓜 𝓡 code.env #answer answer-def.routine code.calls-read·answer (answer-thm.met 𝓤 H 𝓜 𝓖 𝓡))
-    (cited 𝓤 H _ 𝓜 𝓡 code.env #stored stored-def.routine code.calls-read·stored (stored-thm.met 𝓤 H 𝓜 𝓖 𝓡))
-    (cited 𝓤 H _ 𝓜 𝓡 code.env #first first-def.routine code.calls-cursor·Cursor·first (first-thm.met 𝓤 H 𝓜 𝓖 𝓡))))
+    (cited 𝓤 H _ 𝓜 𝓡 code.env span-at.Symbol.name span-at.Symbol.routine code.calls-read·spans·span-at (span-at.Met.met 𝓤 H 𝓜 𝓖 𝓡))
+    (cited 𝓤 H _ 𝓜 𝓡 code.env fill.Symbol.name fill.Symbol.routine code.calls-read·fill (fill.Met.met 𝓤 H 𝓜 𝓖 𝓡))
+    (cited 𝓤 H _ 𝓜 𝓡 code.env moved.Symbol.name moved.Symbol.routine code.calls-read·spans·moved (moved.Met.met 𝓤 H 𝓜 𝓖 𝓡))
+    (cited 𝓤 H _ 𝓜 𝓡 code.env answer.Symbol.name answer.Symbol.routine code.calls-read·answer (answer.Met.met 𝓤 H 𝓜 𝓖 𝓡))
+    (cited 𝓤 H _ 𝓜 𝓡 code.env stored.Symbol.name stored.Symbol.routine code.calls-read·stored (stored.Met.met 𝓤 H 𝓜 𝓖 𝓡))
+    (cited 𝓤 H _ 𝓜 𝓡 code.env first-fn.Symbol.name first-fn.Symbol.routine code.calls-cursor·Cursor·first (first-fn.Met.met 𝓤 H 𝓜 𝓖 𝓡))))

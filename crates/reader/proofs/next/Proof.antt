@@ -29,12 +29,7 @@ use Rattle.reader.proofs.Item.Laws as I′
 use Rattle.reader.proofs.Stepped as G
 use Rattle.reader.proofs.Stepped.Laws as G′
 use Rattle.reader.proofs.step as step
-use Rattle.reader.proofs.step.Symbol as step-def
-use Rattle.reader.proofs.step.Symbol.{name as #step}
-use Rattle.reader.proofs.step.Met as step-thm
-use Rattle.reader.proofs.next.Key.{name as #next}
 use Rattle.reader.proofs.next as next
-use Rattle.reader.proofs.next.Statement as stated
 use Rattle.reader.proofs.next.Code as code
 
 -- the struct at the second of the signature's lifetimes
@@ -123,7 +118,7 @@ module _ {M : Type 1} (𝓤 : URA M) (H : Heap 𝓤) (A : Atoms 𝓤) (W : Given
         move ! (1 ∷ 0 ∷ []) $ fjoin ! $ frame ! $
         owned ! I.the-row (Is I.the-row) (EL.makes I.the-type I′.the-plain 𝓤 H A) (g .item) _ is $ done !
 
-    module _ (C : Calls 𝓤 H) (Λ : Loops 𝓤 H) (fm : FmC 𝓤 H (W .laws) C) (known : Triple 𝓤 (C #step) (Steps 𝓤 H A at-mem run)) where
+    module _ (C : Calls 𝓤 H) (Λ : Loops 𝓤 H) (fm : FmC 𝓤 H (W .laws) C) (known : Triple 𝓤 (C step.Symbol.name) (Steps 𝓤 H A at-mem run)) where
       walk : ent 𝓤 (onEntry 𝓤 H A next.signature (κ, (κ′, tt)) (q, (q′, tt)) a vals) (WpFn 𝓤 H C Λ code.function (vptr b o ∷ []) Post)
       walk =
           qed W ((‵ (flft κ q) ⊛ ‵ (flft κ′ q′) ⊛ ‵ ftrue) ∷ ‵ (owns (MutRef (named 0) κ R ∷ []) a vals) ∷ []) ∵
@@ -176,10 +171,10 @@ module _ {M : Type 1} (𝓤 : URA M) (H : Heap 𝓤) (A : Atoms 𝓤) (W : Given
           move ! (0 ∷ 1 ∷ 3 ∷ 4 ∷ 5 ∷ []) $ closes ! tt R h′ (T′.lowered h′ ∷ []) b o $
           returns ! (look ! 16 refl) $ leaves ! 4 refl refl $ (exits (LL.owed G.the-type G′.the-laws g _ is .1 .1 .1 .0)))))))
 
-pub next-spec : {M : Type 1} → stated.statement M
+pub next-spec : {M : Type 1} → next.Statement.statement M
 unfolding code.routine tablesOf
 next-spec 𝓤 H 𝓜 𝓖 𝓡 =
-    proved-by 𝓤 H 𝓜 𝓖 𝓡 code.env #next code.function (code.unfolded 𝓤 H 𝓜 𝓡) next.ended stayed
+    proved-by 𝓤 H 𝓜 𝓖 𝓡 code.env next.Key.name code.function (code.unfolded 𝓤 H 𝓜 𝓡) next.ended stayed
     (next.clauses 𝓤 H (𝓖 .A) (𝓜 .mem) (𝓡 .run))
     (goes-ref 𝓤 H (𝓖 .A) (givenOf 𝓤 H 𝓜 𝓖) 2 0 tt behind, tt)
     (λ κs. (ptr-vals, tt)) (λ κs. (mut-tells (named 0) (κs .0) (T.the-row (namedLft 2 1 tt κs)), tt))
@@ -187,5 +182,5 @@ next-spec 𝓤 H 𝓜 𝓖 𝓡 =
     (κs .1 .0) bounds (qs .0) (qs .1 .0) (a .0 .ptr .0) (a .0 .ptr .1) (a .0 .name) (a .0 .now)
     (𝓣of 𝓤 H 𝓜 𝓖 𝓡 code.env .C) (𝓣of 𝓤 H 𝓜 𝓖 𝓡 code.env .Λ)
     (fmOf 𝓤 H (givenOf 𝓤 H 𝓜 𝓖 .laws) (𝓣of 𝓤 H 𝓜 𝓖 𝓡 code.env))
-    (cited 𝓤 H (Steps 𝓤 H (𝓖 .A) (𝓜 .mem) (𝓡 .run)) 𝓜 𝓡 code.env #step step-def.routine code.calls-reader·step
-    (step-thm.met 𝓤 H 𝓜 𝓖 𝓡))))
+    (cited 𝓤 H (Steps 𝓤 H (𝓖 .A) (𝓜 .mem) (𝓡 .run)) 𝓜 𝓡 code.env step.Symbol.name step.Symbol.routine code.calls-reader·step
+    (step.Met.met 𝓤 H 𝓜 𝓖 𝓡))))

@@ -24,9 +24,7 @@ use Rattle.reader.specs.declared.Reader.{Reader}
 use Rattle.reader.specs.Reader.{opened}
 use Rattle.reader.proofs.Reader as T
 use Rattle.reader.proofs.Reader.Laws as T′
-use Rattle.reader.proofs.open.Key.{name as #open}
 use Rattle.reader.proofs.open as opn
-use Rattle.reader.proofs.open.Statement as stated
 use Rattle.reader.proofs.open.Code as code
 
 abbrev stayed : Stays (opn.ended .signature .params) (opn.ended .kept)
@@ -91,10 +89,10 @@ module _ {M : Type 1} (𝓤 : URA M) (H : Heap 𝓤) (A : Atoms 𝓤) (W : Given
         )) $
         returns ! (look ! 8 refl) $ move ! (10 ∷ []) $ leaves ! 1 refl refl $ by ! (exits .prf))
 
-pub open-spec : {M : Type 1} → stated.statement M
+pub open-spec : {M : Type 1} → opn.Statement.statement M
 unfolding code.routine tablesOf
 open-spec 𝓤 H 𝓜 𝓖 𝓡 =
-    proved-by 𝓤 H 𝓜 𝓖 𝓡 code.env #open code.function (code.unfolded 𝓤 H 𝓜 𝓡) opn.ended stayed
+    proved-by 𝓤 H 𝓜 𝓖 𝓡 code.env opn.Key.name code.function (code.unfolded 𝓤 H 𝓜 𝓡) opn.ended stayed
     (opn.clauses 𝓤 H (𝓖 .A) (𝓜 .mem) (𝓡 .run))
     (goes-none-slice 𝓤 H (𝓖 .A) (givenOf 𝓤 H 𝓜 𝓖) 1 (0 ∷ []) tt (plain (λ _. u8)) yes, tt)
     (λ κs. (slice-vals, tt)) (λ κs. (shr-slice-tells (named 0) (κs .0) u8, tt))

@@ -25,16 +25,8 @@ use Rattle.runs.proofs.view.Run as T
 use Rattle.runs.proofs.view.Run.Laws as T′
 use Rattle.runs.proofs.Lies.{run-lies}
 use Rattle.runs.proofs.run_at as run-at
-use Rattle.runs.proofs.run_at.Symbol as run-at-def
-use Rattle.runs.proofs.run_at.Symbol.{name as #run-at}
-use Rattle.runs.proofs.run_at.Met as run-at-thm
 use Rattle.runs.proofs.part as part
-use Rattle.runs.proofs.part.Symbol as part-def
-use Rattle.runs.proofs.part.Symbol.{name as #part}
-use Rattle.runs.proofs.part.Met as part-thm
-use Rattle.runs.proofs.run.Key.{name as #run}
 use Rattle.runs.proofs.run as this
-use Rattle.runs.proofs.run.Statement as stated
 use Rattle.runs.proofs.run.Code as code
 
 -- ---- the contracts that the proof cites
@@ -121,8 +113,8 @@ module _ {M : Type 1} (𝓤 : URA M) (H : Heap 𝓤) (A : Atoms 𝓤) (W : Given
       fjoin ! $
       by ! (own-shut 𝓤 H A W D (T′.the-laws α) (r, (g .answer, (g .set, (g .width, (g .direction, tt))))))
 
-  module _ (C : Calls 𝓤 H) (Λ : Loops 𝓤 H) (fm : FmC 𝓤 H (W .laws) C) (known-run-at : Triple 𝓤 (C #run-at) (RunAt 𝓤 H A mem run))
-      (known-part : Triple 𝓤 (C #part) (Part 𝓤 H A mem run)) where
+  module _ (C : Calls 𝓤 H) (Λ : Loops 𝓤 H) (fm : FmC 𝓤 H (W .laws) C) (known-run-at : Triple 𝓤 (C run-at.Symbol.name) (RunAt 𝓤 H A mem run))
+      (known-part : Triple 𝓤 (C part.Symbol.name) (Part 𝓤 H A mem run)) where
     walk : ent 𝓤 (onEntry 𝓤 H A this.signature (κ, tt) (q, tt) a vals) (WpFn 𝓤 H C Λ code.function (v ∷ vint w64 k ∷ []) Post)
     walk =
         qed W ((‵ (flft κ q) ⊛ ‵ ftrue) ∷ ‵ (owns (ShrSlice (named 0) κ u8 ∷ usize ∷ []) a vals) ∷ []) ∵ move ! (1 ∷ []) $ fsplit ! $
@@ -154,23 +146,23 @@ module _ {M : Type 1} (𝓤 : URA M) (H : Heap 𝓤) (A : Atoms 𝓤) (W : Given
         returns ! (look ! 11 refl) $ leaves ! 3 refl refl $ by ! (exits is r e))))
 
 module _ {M : Type 1} (𝓤 : URA M) (H : Heap 𝓤) (A : Atoms 𝓤) (W : Given 𝓤 H A) (mem : Memory → SProp 𝓤) (run : Routine → Fun 𝓤) where
-  run-walks : (C : Calls 𝓤 H) (Λ : Loops 𝓤 H) → FmC 𝓤 H (W .laws) C → Triple 𝓤 (C #run-at) (RunAt 𝓤 H A mem run)
-      → Triple 𝓤 (C #part) (Part 𝓤 H A mem run) → Walks 𝓤 H A this.ended stayed (WpFn 𝓤 H C Λ code.function) (this.clauses 𝓤 H A mem run)
+  run-walks : (C : Calls 𝓤 H) (Λ : Loops 𝓤 H) → FmC 𝓤 H (W .laws) C → Triple 𝓤 (C run-at.Symbol.name) (RunAt 𝓤 H A mem run)
+      → Triple 𝓤 (C part.Symbol.name) (Part 𝓤 H A mem run) → Walks 𝓤 H A this.ended stayed (WpFn 𝓤 H C Λ code.function) (this.clauses 𝓤 H A mem run)
   run-walks C Λ fm kr kp = walked 𝓤 H A this.ended stayed (this.clauses 𝓤 H A mem run) (WpFn 𝓤 H C Λ code.function) (λ κs.
       (slice-vals, (uint-vals w64, tt))) (λ κs. (shr-slice-tells (named 0) (κs .0) u8, (uint-tells w64, tt)))
       (λ κs qs bounds a g are. via 𝓤 _ (fst∗ 𝓤 _ (emp 𝓤)) (walk 𝓤 H A W mem run (κs .0) (qs .0) (a .0) (a .1 .0) (are .0 .0 .1 .0)
       (are .1 .0 .1) C Λ fm kr kp))
 
-pub run-spec : {M : Type 1} → stated.statement M
+pub run-spec : {M : Type 1} → this.Statement.statement M
 unfolding code.routine tablesOf
 run-spec 𝓤 H 𝓜 𝓖 𝓡 =
     let W = givenOf 𝓤 H 𝓜 𝓖 in
-    proved 𝓤 H 𝓜 𝓖 𝓡 code.env #run code.function (code.unfolded 𝓤 H 𝓜 𝓡) this.ended stayed
+    proved 𝓤 H 𝓜 𝓖 𝓡 code.env this.Key.name code.function (code.unfolded 𝓤 H 𝓜 𝓡) this.ended stayed
     (this.clauses 𝓤 H (𝓖 .A) (𝓜 .mem) (𝓡 .run))
     (goes-none-slice 𝓤 H (𝓖 .A) W 1 (0 ∷ []) tt (plain (λ _. u8)) yes, (goes-none 𝓤 H (𝓖 .A) W 1 (λ _. usize) yes (λ κs x f. refl), tt))
     (run-walks 𝓤 H (𝓖 .A) W (𝓜 .mem) (𝓡 .run) (𝓣of 𝓤 H 𝓜 𝓖 𝓡 code.env .C) (𝓣of 𝓤 H 𝓜 𝓖 𝓡 code.env .Λ)
     (fmOf 𝓤 H (W .laws) (𝓣of 𝓤 H 𝓜 𝓖 𝓡 code.env))
-    (cited 𝓤 H (RunAt 𝓤 H (𝓖 .A) (𝓜 .mem) (𝓡 .run)) 𝓜 𝓡 code.env #run-at run-at-def.routine code.calls-runs·run-at
-    (run-at-thm.met 𝓤 H 𝓜 𝓖 𝓡))
-    (cited 𝓤 H (Part 𝓤 H (𝓖 .A) (𝓜 .mem) (𝓡 .run)) 𝓜 𝓡 code.env #part part-def.routine code.calls-runs·part
-    (part-thm.met 𝓤 H 𝓜 𝓖 𝓡)))
+    (cited 𝓤 H (RunAt 𝓤 H (𝓖 .A) (𝓜 .mem) (𝓡 .run)) 𝓜 𝓡 code.env run-at.Symbol.name run-at.Symbol.routine code.calls-runs·run-at
+    (run-at.Met.met 𝓤 H 𝓜 𝓖 𝓡))
+    (cited 𝓤 H (Part 𝓤 H (𝓖 .A) (𝓜 .mem) (𝓡 .run)) 𝓜 𝓡 code.env part.Symbol.name part.Symbol.routine code.calls-runs·part
+    (part.Met.met 𝓤 H 𝓜 𝓖 𝓡)))

@@ -17,16 +17,8 @@ use Rattle.runs.specs.declared.view.Run.{Run}
 use Rattle.runs.proofs.view.Run as T
 use Rattle.runs.proofs.view.Run.Laws as T′
 use Rattle.runs.proofs.run as asked
-use Rattle.runs.proofs.run.Symbol as run-def
-use Rattle.runs.proofs.run.Symbol.{name as #run}
-use Rattle.runs.proofs.run.Met as run-thm
 use Rattle.runs.proofs.octet as octet
-use Rattle.runs.proofs.octet.Symbol as octet-def
-use Rattle.runs.proofs.octet.Symbol.{name as #octet}
-use Rattle.runs.proofs.octet.Met as octet-thm
-use Rattle.runs.proofs.run_octet.Key.{name as #run-octet}
 use Rattle.runs.proofs.run_octet as this
-use Rattle.runs.proofs.run_octet.Statement as stated
 use Rattle.runs.proofs.run_octet.Code as code
 
 -- ---- the contracts that the proof cites
@@ -106,8 +98,8 @@ module _ {M : Type 1} (𝓤 : URA M) (H : Heap 𝓤) (A : Atoms 𝓤) (W : Given
         move ! (1 ∷ 0 ∷ []) $ fjoin ! $ frame ! $
         owned ! u8 (Is u8) (uint-makes 𝓤 H A W w8) x _ is $ done !
 
-  module _ (C : Calls 𝓤 H) (Λ : Loops 𝓤 H) (fm : FmC 𝓤 H (W .laws) C) (known-run : Triple 𝓤 (C #run) (Asked 𝓤 H A mem run))
-      (known-octet : Triple 𝓤 (C #octet) (Octet 𝓤 H A mem run)) where
+  module _ (C : Calls 𝓤 H) (Λ : Loops 𝓤 H) (fm : FmC 𝓤 H (W .laws) C) (known-run : Triple 𝓤 (C asked.Symbol.name) (Asked 𝓤 H A mem run))
+      (known-octet : Triple 𝓤 (C octet.Symbol.name) (Octet 𝓤 H A mem run)) where
     walk : ent 𝓤 (onEntry 𝓤 H A this.signature (κ, tt) (q, tt) a vals) (WpFn 𝓤 H C Λ code.function (v ∷ vint w64 k ∷ vint w64 i ∷ []) Post)
     walk =
         qed W ((‵ (flft κ q) ⊛ ‵ ftrue) ∷ ‵ (owns (ShrSlice (named 0) κ u8 ∷ usize ∷ usize ∷ []) a vals) ∷ []) ∵ move ! (1 ∷ []) $
@@ -136,18 +128,18 @@ module _ {M : Type 1} (𝓤 : URA M) (H : Heap 𝓤) (A : Atoms 𝓤) (W : Given
         move ! (1 ∷ []) $ let-go ! $ returns ! (look ! 12 refl) $ leaves ! 2 refl refl $ (exits r e is-x)))))
 
 module _ {M : Type 1} (𝓤 : URA M) (H : Heap 𝓤) (A : Atoms 𝓤) (W : Given 𝓤 H A) (mem : Memory → SProp 𝓤) (run : Routine → Fun 𝓤) where
-  walks : (C : Calls 𝓤 H) (Λ : Loops 𝓤 H) → FmC 𝓤 H (W .laws) C → Triple 𝓤 (C #run) (Asked 𝓤 H A mem run)
-      → Triple 𝓤 (C #octet) (Octet 𝓤 H A mem run) → Walks 𝓤 H A this.ended stayed (WpFn 𝓤 H C Λ code.function) (this.clauses 𝓤 H A mem run)
+  walks : (C : Calls 𝓤 H) (Λ : Loops 𝓤 H) → FmC 𝓤 H (W .laws) C → Triple 𝓤 (C asked.Symbol.name) (Asked 𝓤 H A mem run)
+      → Triple 𝓤 (C octet.Symbol.name) (Octet 𝓤 H A mem run) → Walks 𝓤 H A this.ended stayed (WpFn 𝓤 H C Λ code.function) (this.clauses 𝓤 H A mem run)
   walks C Λ fm kr ko = walked 𝓤 H A this.ended stayed (this.clauses 𝓤 H A mem run) (WpFn 𝓤 H C Λ code.function) (λ κs.
       (slice-vals, (uint-vals w64, (uint-vals w64, tt)))) (λ κs. (shr-slice-tells (named 0) (κs .0) u8, (uint-tells w64, (uint-tells w64, tt))))
       (λ κs qs bounds a g are. via 𝓤 _ (fst∗ 𝓤 _ (emp 𝓤)) (walk 𝓤 H A W mem run (κs .0) (qs .0) (a .0) (a .1 .0) (a .1 .1 .0)
       (are .0 .0 .1 .0) (are .1 .0 .1) (are .1 .1 .0 .1) C Λ fm kr ko))
 
-pub run-octet-spec : {M : Type 1} → stated.statement M
+pub run-octet-spec : {M : Type 1} → this.Statement.statement M
 unfolding code.routine tablesOf
 run-octet-spec 𝓤 H 𝓜 𝓖 𝓡 =
     let W = givenOf 𝓤 H 𝓜 𝓖 in
-    proved 𝓤 H 𝓜 𝓖 𝓡 code.env #run-octet code.function (code.unfolded 𝓤 H 𝓜 𝓡) this.ended stayed
+    proved 𝓤 H 𝓜 𝓖 𝓡 code.env this.Key.name code.function (code.unfolded 𝓤 H 𝓜 𝓡) this.ended stayed
     (this.clauses 𝓤 H (𝓖 .A) (𝓜 .mem) (𝓡 .run)) (
       goes-none-slice 𝓤 H (𝓖 .A) W 1 (0 ∷ []) tt (plain (λ _. u8)) yes,
       (
@@ -158,7 +150,7 @@ run-octet-spec 𝓤 H 𝓜 𝓖 𝓡 =
     )
     (walks 𝓤 H (𝓖 .A) W (𝓜 .mem) (𝓡 .run) (𝓣of 𝓤 H 𝓜 𝓖 𝓡 code.env .C) (𝓣of 𝓤 H 𝓜 𝓖 𝓡 code.env .Λ)
     (fmOf 𝓤 H (W .laws) (𝓣of 𝓤 H 𝓜 𝓖 𝓡 code.env))
-    (cited 𝓤 H (Asked 𝓤 H (𝓖 .A) (𝓜 .mem) (𝓡 .run)) 𝓜 𝓡 code.env #run run-def.routine code.calls-runs·run
-    (run-thm.met 𝓤 H 𝓜 𝓖 𝓡))
-    (cited 𝓤 H (Octet 𝓤 H (𝓖 .A) (𝓜 .mem) (𝓡 .run)) 𝓜 𝓡 code.env #octet octet-def.routine code.calls-runs·octet
-    (octet-thm.met 𝓤 H 𝓜 𝓖 𝓡)))
+    (cited 𝓤 H (Asked 𝓤 H (𝓖 .A) (𝓜 .mem) (𝓡 .run)) 𝓜 𝓡 code.env asked.Symbol.name asked.Symbol.routine code.calls-runs·run
+    (asked.Met.met 𝓤 H 𝓜 𝓖 𝓡))
+    (cited 𝓤 H (Octet 𝓤 H (𝓖 .A) (𝓜 .mem) (𝓡 .run)) 𝓜 𝓡 code.env octet.Symbol.name octet.Symbol.routine code.calls-runs·octet
+    (octet.Met.met 𝓤 H 𝓜 𝓖 𝓡)))

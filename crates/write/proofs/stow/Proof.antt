@@ -38,28 +38,13 @@ use Rattle.check_list.proofs.Turns.{until-most}
 use Rattle.check_list.proofs.Progress as P
 use Rattle.check_list.proofs.Progress.Laws as P′
 use Rattle.check_list.proofs.looked_at as looked-at
-use Rattle.check_list.proofs.looked_at.Symbol as looked-at-def
-use Rattle.check_list.proofs.looked_at.Symbol.{name as #looked-at}
-use Rattle.check_list.proofs.looked_at.Met as looked-at-thm
 use Rattle.check_list.proofs.begin as begin
-use Rattle.check_list.proofs.begin.Symbol as begin-def
-use Rattle.check_list.proofs.begin.Symbol.{name as #begin}
-use Rattle.check_list.proofs.begin.Met as begin-thm
 use Rattle.check_list.proofs.turn as turn
-use Rattle.check_list.proofs.turn.Symbol as turn-def
-use Rattle.check_list.proofs.turn.Symbol.{name as #turn}
-use Rattle.check_list.proofs.turn.Met as turn-thm
 use Rattle.write.specs.Stowed.{reached, Stowed, quickEnd, Passed}
 use Rattle.write.proofs.Lists.{length-room, looked-most, reached-none, reached-next, stowed-none, stowed-next, run-most}
 use Rattle.write.proofs.stow_quickly as quickly
-use Rattle.write.proofs.stow_quickly.Symbol as quickly-def
-use Rattle.write.proofs.stow_quickly.Symbol.{name as #quickly}
-use Rattle.write.proofs.stow_quickly.Met as quickly-thm
-use Rattle.write.proofs.stow.Key.{name as #stow}
 use Rattle.write.proofs.stow as stow
-use Rattle.write.proofs.stow.Statement as stated
 use Rattle.write.proofs.stow.Code as code
-use Rattle.write.proofs.stow.Code.Mir as M1
 
 abbrev stayed : Stays (stow.ended .signature .params) (stow.ended .kept)
 stayed = (
@@ -280,8 +265,8 @@ module _ {M : Type 1} (𝓤 : URA M) (H : Heap 𝓤) (A : Atoms 𝓤) (W : Given
   nearer : (g : Going) → Holds (ltb (g .0) n) → (l : List ℕ) → Kept (g .0) (turned g) l → n - fin (g .0) < n - g .0
   nearer g less l k = let h : g .0 < n = ltb→lt (g .0) n less in omega (arith, h, k .onwards)
 
-  module _ (𝓣 : Tables 𝓤 H) (fm : FmC 𝓤 H (W .laws) (𝓣 .C)) (known-turn : Triple 𝓤 (𝓣 .C #turn) Turn)
-      (known-quickly : Triple 𝓤 (𝓣 .C #quickly) Quickly)
+  module _ (𝓣 : Tables 𝓤 H) (fm : FmC 𝓤 H (W .laws) (𝓣 .C)) (known-turn : Triple 𝓤 (𝓣 .C turn.Symbol.name) Turn)
+      (known-quickly : Triple 𝓤 (𝓣 .C quickly.Symbol.name) Quickly)
       (bs : Blocks (code.function .locals)) where
     abbrev C : Calls 𝓤 H
     C = 𝓣 .C
@@ -298,9 +283,9 @@ module _ {M : Type 1} (𝓤 : URA M) (H : Heap 𝓤) (A : Atoms 𝓤) (W : Given
 
     abbrev Turned : Going → Out → SProp 𝓤
     Turned g = afterTurn 𝓤 H (Below 𝓤 H A Nearer At g)
-        (afterBlock 𝓤 H (afterSeq 𝓤 H (Wp 𝓤 H C Λ En M1.t-6 (atReturn 𝓤 H En Post)) (atReturn 𝓤 H En Post)))
+        (afterBlock 𝓤 H (afterSeq 𝓤 H (Wp 𝓤 H C Λ En code.Mir.t-6 (atReturn 𝓤 H En Post)) (atReturn 𝓤 H En Post)))
 
-    turns : (g : Going) → Sq W (At g) (runs C Λ En M1.turn-1 (anyQ (Turned g)))
+    turns : (g : Going) → Sq W (At g) (runs C Λ En code.Mir.turn-1 (anyQ (Turned g)))
     unfolding afterTurn
     turns g =
         sets ! 20 (bin ! (var ! 26 refl) (var ! 30 refl) tt) refl (tt, tt) $
@@ -360,20 +345,20 @@ module _ {M : Type 1} (𝓤 : URA M) (H : Heap 𝓤) (A : Atoms 𝓤) (W : Given
         recasts ! 28 mach (sym (k .stays os refl)) refl $
         clears ! 6 19 refl $ move ! (0 ∷ 3 ∷ 4 ∷ 5 ∷ 1 ∷ 2 ∷ []) $
         again ! Nearer At g (further g less is l′ k) (nearer g less l′ k))))))
-        (λ over. exec ! C Λ En M1.t-6 (atRet En Post) $
+        (λ over. exec ! C Λ En code.Mir.t-6 (atRet En Post) $
         sets ! 38 (of-opd ! (var ! 28 refl)) refl (EL.lawful P.the-type P′.the-laws 𝓤 H A W tt .typed (at (g .0)) _ (g .1 .1 .1 .1) .0) $
         recasts ! 38 (λ (i : ℕ). (mach (at i))) (le-antisymm (g .1 .1 .0) (nltb→le (g .0) n over)) refl $
         returns ! (look ! 38 refl) $ leaves ! 6 refl refl $
         (exits (g .1 .0) (subst (λ (k : ℕ). Stowed os us k ys (g .1 .0)) (le-antisymm (g .1 .1 .0) (nltb→le (g .0) n over)) (g .1 .1 .1 .0))
         (subst (λ (k : ℕ). IsP (at k)) (le-antisymm (g .1 .1 .0) (nltb→le (g .0) n over)) (g .1 .1 .1 .1))))
 
-    looped : (is : IsP (at 0)) → Sq W (At (0, (ys, (zero-le, (stowed-none os us ys, is))))) (runs C Λ En M1.t-5 (atRet En Post))
+    looped : (is : IsP (at 0)) → Sq W (At (0, (ys, (zero-le, (stowed-none os us ys, is))))) (runs C Λ En code.Mir.t-5 (atRet En Post))
     looped is = first ! $ blocks ! $ loops ! 𝓣 Nearer Nearer-wf At turns (0, (ys, (zero-le, (stowed-none os us ys, is))))
 
   -- ---- the code up to the loop
-  module _ (𝓣 : Tables 𝓤 H) (fm : FmC 𝓤 H (W .laws) (𝓣 .C)) (known-looked : Triple 𝓤 (𝓣 .C #looked-at) LookedAt)
-      (known-begin : Triple 𝓤 (𝓣 .C #begin) Begin) (known-turn : Triple 𝓤 (𝓣 .C #turn) Turn)
-      (known-quickly : Triple 𝓤 (𝓣 .C #quickly) Quickly) where
+  module _ (𝓣 : Tables 𝓤 H) (fm : FmC 𝓤 H (W .laws) (𝓣 .C)) (known-looked : Triple 𝓤 (𝓣 .C looked-at.Symbol.name) LookedAt)
+      (known-begin : Triple 𝓤 (𝓣 .C begin.Symbol.name) Begin) (known-turn : Triple 𝓤 (𝓣 .C turn.Symbol.name) Turn)
+      (known-quickly : Triple 𝓤 (𝓣 .C quickly.Symbol.name) Quickly) where
     walk : ent 𝓤 (onEntry 𝓤 H A stow.signature (κ₀, (κ₁, (κ₂, tt))) (q₀, (q₁, (q₂, tt))) a vals)
         (WpFn 𝓤 H (𝓣 .C) (𝓣 .Λ) code.function (vs ∷ vt ∷ vw ∷ []) Post)
     walk =
@@ -397,10 +382,10 @@ module _ {M : Type 1} (𝓤 : URA M) (H : Heap 𝓤) (A : Atoms 𝓤) (W : Given
         sets ! 20 (of-opd ! (lit ! tt)) refl (in64 (lit< tt)) $ forget ! 16 refl $ move ! (34 ∷ 35 ∷ 36 ∷ 37 ∷ 38 ∷ 39 ∷ []) $
         looped 𝓣 fm known-turn known-quickly bs (subst IsP (reached-none os us) is-p))))
 
-pub stow-spec : {M : Type 1} → stated.statement M
+pub stow-spec : {M : Type 1} → stow.Statement.statement M
 unfolding code.routine tablesOf
 stow-spec 𝓤 H 𝓜 𝓖 𝓡 =
-    proved-by 𝓤 H 𝓜 𝓖 𝓡 code.env #stow code.function (code.unfolded 𝓤 H 𝓜 𝓡) stow.ended stayed
+    proved-by 𝓤 H 𝓜 𝓖 𝓡 code.env stow.Key.name code.function (code.unfolded 𝓤 H 𝓜 𝓡) stow.ended stayed
     (stow.clauses 𝓤 H (𝓖 .A) (𝓜 .mem) (𝓡 .run)) (
       goes-none-slice 𝓤 H (𝓖 .A) (givenOf 𝓤 H 𝓜 𝓖) 3 (0 ∷ []) tt (plain (λ _. U.the-row)) yes,
       (
@@ -414,7 +399,7 @@ stow-spec 𝓤 H 𝓜 𝓖 𝓡 =
     (κs .1 .0) (κs .1 .1 .0) (qs .0) (qs .1 .0) (qs .1 .1 .0)
     (a .0) (a .1 .0) (a .1 .1 .0 .ptr .0) (a .1 .1 .0 .ptr .1) (a .1 .1 .0 .name) (a .1 .1 .0 .now) (are .0 .0 .1) (are .1 .0 .0 .1) (are .1 .1 .0 .0 .1)
     (𝓣of 𝓤 H 𝓜 𝓖 𝓡 code.env) (fmOf 𝓤 H (givenOf 𝓤 H 𝓜 𝓖 .laws) (𝓣of 𝓤 H 𝓜 𝓖 𝓡 code.env))
-    (cited 𝓤 H _ 𝓜 𝓡 code.env #looked-at looked-at-def.routine code.calls-check-list·looked-at (looked-at-thm.met 𝓤 H 𝓜 𝓖 𝓡))
-    (cited 𝓤 H _ 𝓜 𝓡 code.env #begin begin-def.routine code.calls-check-list·begin (begin-thm.met 𝓤 H 𝓜 𝓖 𝓡))
-    (cited 𝓤 H _ 𝓜 𝓡 code.env #turn turn-def.routine code.calls-check-list·turn (turn-thm.met 𝓤 H 𝓜 𝓖 𝓡))
-    (cited 𝓤 H _ 𝓜 𝓡 code.env #quickly quickly-def.routine code.calls-write·stow-quickly (quickly-thm.met 𝓤 H 𝓜 𝓖 𝓡))))
+    (cited 𝓤 H _ 𝓜 𝓡 code.env looked-at.Symbol.name looked-at.Symbol.routine code.calls-check-list·looked-at (looked-at.Met.met 𝓤 H 𝓜 𝓖 𝓡))
+    (cited 𝓤 H _ 𝓜 𝓡 code.env begin.Symbol.name begin.Symbol.routine code.calls-check-list·begin (begin.Met.met 𝓤 H 𝓜 𝓖 𝓡))
+    (cited 𝓤 H _ 𝓜 𝓡 code.env turn.Symbol.name turn.Symbol.routine code.calls-check-list·turn (turn.Met.met 𝓤 H 𝓜 𝓖 𝓡))
+    (cited 𝓤 H _ 𝓜 𝓡 code.env quickly.Symbol.name quickly.Symbol.routine code.calls-write·stow-quickly (quickly.Met.met 𝓤 H 𝓜 𝓖 𝓡))))

@@ -39,20 +39,11 @@ use Rattle.check_list.proofs.Turns.{until-quick, until-most}
 use Rattle.check_list.proofs.Progress as P
 use Rattle.check_list.proofs.Progress.Laws as P′
 use Rattle.check_list.proofs.quick_until as quick-until
-use Rattle.check_list.proofs.quick_until.Symbol as quick-until-def
-use Rattle.check_list.proofs.quick_until.Symbol.{name as #quick-until}
-use Rattle.check_list.proofs.quick_until.Met as quick-until-thm
 use Rattle.check_list.proofs.quick_turn as quick-turn
-use Rattle.check_list.proofs.quick_turn.Symbol as quick-turn-def
-use Rattle.check_list.proofs.quick_turn.Symbol.{name as #quick-turn}
-use Rattle.check_list.proofs.quick_turn.Met as quick-turn-thm
 use Rattle.write.specs.Stowed.{quickRun, quickEnd, Passed}
 use Rattle.write.proofs.Lists.{length-quick, run-over, run-stops, run-goes, run-most, passed-none, passed-next}
-use Rattle.write.proofs.stow_quickly.Key.{name as #stow-quickly}
 use Rattle.write.proofs.stow_quickly as stow-quickly
-use Rattle.write.proofs.stow_quickly.Statement as stated
 use Rattle.write.proofs.stow_quickly.Code as code
-use Rattle.write.proofs.stow_quickly.Code.Mir as M1
 
 abbrev stayed : Stays (stow-quickly.ended .signature .params) (stow-quickly.ended .kept)
 stayed = (
@@ -262,7 +253,7 @@ module _ {M : Type 1} (𝓤 : URA M) (H : Heap 𝓤) (A : Atoms 𝓤) (W : Given
   unfolding pick
   left-out g e = rw e
 
-  module _ (𝓣 : Tables 𝓤 H) (fm : FmC 𝓤 H (W .laws) (𝓣 .C)) (known-turn : Triple 𝓤 (𝓣 .C #quick-turn) QuickTurn)
+  module _ (𝓣 : Tables 𝓤 H) (fm : FmC 𝓤 H (W .laws) (𝓣 .C)) (known-turn : Triple 𝓤 (𝓣 .C quick-turn.Symbol.name) QuickTurn)
       (bs : Blocks (code.function .locals)) where
     abbrev C : Calls 𝓤 H
     C = 𝓣 .C
@@ -280,9 +271,9 @@ module _ {M : Type 1} (𝓤 : URA M) (H : Heap 𝓤) (A : Atoms 𝓤) (W : Given
 
     abbrev Turned : Going → Out → SProp 𝓤
     Turned g = afterTurn 𝓤 H (Below 𝓤 H A Nearer At g)
-        (afterBlock 𝓤 H (afterSeq 𝓤 H (Wp 𝓤 H C Λ En M1.t-4 (atReturn 𝓤 H En Post)) (atReturn 𝓤 H En Post)))
+        (afterBlock 𝓤 H (afterSeq 𝓤 H (Wp 𝓤 H C Λ En code.Mir.t-4 (atReturn 𝓤 H En Post)) (atReturn 𝓤 H En Post)))
 
-    turns : (g : Going) → Sq W (At g) (runs C Λ En M1.turn-1 (anyQ (Turned g)))
+    turns : (g : Going) → Sq W (At g) (runs C Λ En code.Mir.turn-1 (anyQ (Turned g)))
     unfolding afterTurn
     turns g =
         sets ! 16 (bin ! (var ! 18 refl) (var ! 20 refl) tt) refl (tt, tt) $
@@ -334,7 +325,7 @@ module _ {M : Type 1} (𝓤 : URA M) (H : Heap 𝓤) (A : Atoms 𝓤) (W : Given
         -- the loop is left
         (λ over.
         let at-end : g .0 ≡ fin = run-over us (end g - g .0) (g .0) (omega (arith, nltb→le (g .0) (end g) over)) ∙ known g .ends in
-        exec ! C Λ En M1.t-4 (atRet En Post) $
+        exec ! C Λ En code.Mir.t-4 (atRet En Post) $
         sets ! 32 (of-opd ! (var ! 18 refl)) refl (in64 (known g .fits)) $
         recasts ! 32 (vint w64) at-end refl $
         returns ! (look ! 32 refl) $ leaves ! 4 refl refl $
@@ -359,12 +350,12 @@ module _ {M : Type 1} (𝓤 : URA M) (H : Heap 𝓤) (A : Atoms 𝓤) (W : Given
       ),
     )
 
-    looped : Sq W (At start-at) (runs C Λ En M1.t-3 (atRet En Post))
+    looped : Sq W (At start-at) (runs C Λ En code.Mir.t-3 (atRet En Post))
     looped = first ! $ blocks ! $ loops ! 𝓣 Nearer Nearer-wf At turns start-at
 
   -- ---- the code up to the loop
-  module _ (𝓣 : Tables 𝓤 H) (fm : FmC 𝓤 H (W .laws) (𝓣 .C)) (known-until : Triple 𝓤 (𝓣 .C #quick-until) QuickUntil)
-      (known-turn : Triple 𝓤 (𝓣 .C #quick-turn) QuickTurn) where
+  module _ (𝓣 : Tables 𝓤 H) (fm : FmC 𝓤 H (W .laws) (𝓣 .C)) (known-until : Triple 𝓤 (𝓣 .C quick-until.Symbol.name) QuickUntil)
+      (known-turn : Triple 𝓤 (𝓣 .C quick-turn.Symbol.name) QuickTurn) where
     walk : ent 𝓤 (onEntry 𝓤 H A stow-quickly.signature (κ₀, (κ₁, tt)) (q₀, (q₁, tt)) a vals)
         (WpFn 𝓤 H (𝓣 .C) (𝓣 .Λ) code.function (mach p ∷ vs ∷ vint w64 i₀ ∷ vint w64 n ∷ vw ∷ []) Post)
     walk =
@@ -383,10 +374,10 @@ module _ {M : Type 1} (𝓤 : URA M) (H : Heap 𝓤) (A : Atoms 𝓤) (W : Given
         sets ! 14 (of-opd ! (var ! 22 refl)) refl (in64 i₀-fits) $ move ! (30 ∷ 31 ∷ 32 ∷ 33 ∷ []) $
         looped 𝓣 fm known-turn bs))
 
-pub stow-quickly-spec : {M : Type 1} → stated.statement M
+pub stow-quickly-spec : {M : Type 1} → stow-quickly.Statement.statement M
 unfolding code.routine tablesOf
 stow-quickly-spec 𝓤 H 𝓜 𝓖 𝓡 =
-    proved-by 𝓤 H 𝓜 𝓖 𝓡 code.env #stow-quickly code.function (code.unfolded 𝓤 H 𝓜 𝓡) stow-quickly.ended stayed
+    proved-by 𝓤 H 𝓜 𝓖 𝓡 code.env stow-quickly.Key.name code.function (code.unfolded 𝓤 H 𝓜 𝓡) stow-quickly.ended stayed
     (stow-quickly.clauses 𝓤 H (𝓖 .A) (𝓜 .mem) (𝓡 .run)) (
       goes-none 𝓤 H (𝓖 .A) (givenOf 𝓤 H 𝓜 𝓖) 2 (λ _. P.the-row) yes (λ κs x f. refl),
       (
@@ -414,5 +405,5 @@ stow-quickly-spec 𝓤 H 𝓜 𝓖 𝓡 =
     (a .0) (a .1 .0) (a .1 .1 .0) (a .1 .1 .1 .0) (a .1 .1 .1 .1 .0 .ptr .0) (a .1 .1 .1 .1 .0 .ptr .1) (a .1 .1 .1 .1 .0 .name) (a .1 .1 .1 .1 .0 .now)
     (are .0) (are .1 .0 .0 .1) (are .1 .1 .0 .1) (are .1 .1 .1 .0 .1) (are .1 .1 .1 .1 .0 .0 .1) (pre .0) (pre .1)
     (𝓣of 𝓤 H 𝓜 𝓖 𝓡 code.env) (fmOf 𝓤 H (givenOf 𝓤 H 𝓜 𝓖 .laws) (𝓣of 𝓤 H 𝓜 𝓖 𝓡 code.env))
-    (cited 𝓤 H _ 𝓜 𝓡 code.env #quick-until quick-until-def.routine code.calls-check-list·quick-until (quick-until-thm.met 𝓤 H 𝓜 𝓖 𝓡))
-    (cited 𝓤 H _ 𝓜 𝓡 code.env #quick-turn quick-turn-def.routine code.calls-check-list·quick-turn (quick-turn-thm.met 𝓤 H 𝓜 𝓖 𝓡))))
+    (cited 𝓤 H _ 𝓜 𝓡 code.env quick-until.Symbol.name quick-until.Symbol.routine code.calls-check-list·quick-until (quick-until.Met.met 𝓤 H 𝓜 𝓖 𝓡))
+    (cited 𝓤 H _ 𝓜 𝓡 code.env quick-turn.Symbol.name quick-turn.Symbol.routine code.calls-check-list·quick-turn (quick-turn.Met.met 𝓤 H 𝓜 𝓖 𝓡))))

@@ -29,16 +29,8 @@ use Rattle.check_list.proofs.Progress.Laws as P′
 use Rattle.write.specs.Stowed.{reached, Stowed, finishAnswer, finishOutput}
 use Rattle.write.proofs.Whole.{finished, demanded}
 use Rattle.write.proofs.stow as stow
-use Rattle.write.proofs.stow.Symbol as stow-def
-use Rattle.write.proofs.stow.Symbol.{name as #stow}
-use Rattle.write.proofs.stow.Met as stow-thm
 use Rattle.write.proofs.finish as finish
-use Rattle.write.proofs.finish.Symbol as finish-def
-use Rattle.write.proofs.finish.Symbol.{name as #finish}
-use Rattle.write.proofs.finish.Met as finish-thm
-use Rattle.write.proofs.write.Key.{name as #write}
 use Rattle.write.proofs.write as write
-use Rattle.write.proofs.write.Statement as stated
 use Rattle.write.proofs.write.Code as code
 
 abbrev stayed : Stays (write.ended .signature .params) (write.ended .kept)
@@ -226,8 +218,8 @@ module _ {M : Type 1} (𝓤 : URA M) (H : Heap 𝓤) (A : Atoms 𝓤) (W : Given
       show ! (λ (z : Z). guard 𝓤 ((m ≡ ans) × Known z) (sem 𝓤 H A (Said z))) (ws .1 .1 .1 .0, ws .1 .1 .1 .1 .0) $
       check ! (e .0 ∙ f .answers, (e .1 ∙ f .output, (e .2 ∙ st .same, lr))) $ done !)))
 
-  module _ (C : Calls 𝓤 H) (Λ : Loops 𝓤 H) (fm : FmC 𝓤 H (W .laws) C) (known-stow : Triple 𝓤 (C #stow) Stow)
-      (known-finish : Triple 𝓤 (C #finish) Finish) where
+  module _ (C : Calls 𝓤 H) (Λ : Loops 𝓤 H) (fm : FmC 𝓤 H (W .laws) C) (known-stow : Triple 𝓤 (C stow.Symbol.name) Stow)
+      (known-finish : Triple 𝓤 (C finish.Symbol.name) Finish) where
     walk : ent 𝓤 (onEntry 𝓤 H A write.signature (κ₀, (κ₁, (κ₂, (κ₃, tt)))) (q₀, (q₁, (q₂, (q₃, tt)))) a vals)
         (WpFn 𝓤 H C Λ code.function (vs ∷ vt ∷ vw ∷ vr ∷ []) Post)
     walk =
@@ -275,10 +267,10 @@ module _ {M : Type 1} (𝓤 : URA M) (H : Heap 𝓤) (A : Atoms 𝓤) (W : Given
         returns ! (look ! 29 refl) $ leaves ! 5 refl refl $
         move ! (1 ∷ 3 ∷ 4 ∷ 2 ∷ 0 ∷ []) $ (exits z e is-n))))
 
-pub write-spec : {M : Type 1} → stated.statement M
+pub write-spec : {M : Type 1} → write.Statement.statement M
 unfolding code.routine tablesOf
 write-spec 𝓤 H 𝓜 𝓖 𝓡 =
-    proved-by 𝓤 H 𝓜 𝓖 𝓡 code.env #write code.function (code.unfolded 𝓤 H 𝓜 𝓡) write.ended stayed
+    proved-by 𝓤 H 𝓜 𝓖 𝓡 code.env write.Key.name code.function (code.unfolded 𝓤 H 𝓜 𝓡) write.ended stayed
     (write.clauses 𝓤 H (𝓖 .A) (𝓜 .mem) (𝓡 .run)) (
       goes-none-slice 𝓤 H (𝓖 .A) (givenOf 𝓤 H 𝓜 𝓖) 4 (0 ∷ []) tt (plain (λ _. U.the-row)) yes,
       (
@@ -299,5 +291,5 @@ write-spec 𝓤 H 𝓜 𝓖 𝓡 =
     (are .1 .1 .0 .0 .1) (are .1 .1 .1 .0 .0 .1)
     (𝓣of 𝓤 H 𝓜 𝓖 𝓡 code.env .C) (𝓣of 𝓤 H 𝓜 𝓖 𝓡 code.env .Λ)
     (fmOf 𝓤 H (givenOf 𝓤 H 𝓜 𝓖 .laws) (𝓣of 𝓤 H 𝓜 𝓖 𝓡 code.env))
-    (cited 𝓤 H _ 𝓜 𝓡 code.env #stow stow-def.routine code.calls-write·stow (stow-thm.met 𝓤 H 𝓜 𝓖 𝓡))
-    (cited 𝓤 H _ 𝓜 𝓡 code.env #finish finish-def.routine code.calls-write·finish (finish-thm.met 𝓤 H 𝓜 𝓖 𝓡))))
+    (cited 𝓤 H _ 𝓜 𝓡 code.env stow.Symbol.name stow.Symbol.routine code.calls-write·stow (stow.Met.met 𝓤 H 𝓜 𝓖 𝓡))
+    (cited 𝓤 H _ 𝓜 𝓡 code.env finish.Symbol.name finish.Symbol.routine code.calls-write·finish (finish.Met.met 𝓤 H 𝓜 𝓖 𝓡))))

@@ -15,12 +15,7 @@ use Rattle.walks.proofs.Frame.{enters, leaves}
 use Rattle.walks.proofs.Steps.{arg, sets, lands-in, behind, resliced, sliced}
 use Rattle.walks.proofs.Passing.{calls-whole, written-out, passed-on}
 use Rattle.read.proofs.read as read
-use Rattle.read.proofs.read.Symbol as read-def
-use Rattle.read.proofs.read.Symbol.{name as #read}
-use Rattle.read.proofs.read.Met as read-thm
-use Rattle.ctext.proofs.lists.ctext_read.Key.{name as #ctext-read}
 use Rattle.ctext.proofs.lists.ctext_read as ctext-read
-use Rattle.ctext.proofs.lists.ctext_read.Statement as stated
 use Rattle.ctext.proofs.lists.ctext_read.Code as code
 
 -- the contract of `read`
@@ -33,7 +28,7 @@ same : {M : Type 1} (𝓤 : URA M) (H : Heap 𝓤) (A : Atoms 𝓤) (mem : Memor
 same 𝓤 H A mem run = refl
 
 module _ {M : Type 1} (𝓤 : URA M) (H : Heap 𝓤) (A : Atoms 𝓤) (W : Given 𝓤 H A) (mem : Memory → SProp 𝓤) (run : Routine → Fun 𝓤)
-    (𝓣 : Tables 𝓤 H) (fm : FmC 𝓤 H (W .laws) (𝓣 .C)) (known : Triple 𝓤 (𝓣 .C #read) (Reads 𝓤 H A mem run)) where
+    (𝓣 : Tables 𝓤 H) (fm : FmC 𝓤 H (W .laws) (𝓣 .C)) (known : Triple 𝓤 (𝓣 .C read.Symbol.name) (Reads 𝓤 H A mem run)) where
   -- at the string s and the list lent, us
   module _ (κ κ′ : Lft) (q q′ : Share) (s : RefT (List ℕ)) (us : RefT (List UnitRecord)) (s-fits : length (s .now) < 2 ^ 64)
       (us-fits : length (us .now) < 2 ^ 64) where
@@ -64,12 +59,12 @@ module _ {M : Type 1} (𝓤 : URA M) (H : Heap 𝓤) (A : Atoms 𝓤) (W : Given
       (λ κs. (shr-slice-tells (named 0) (κs .0) u8, (mut-slice-tells (named 1) (κs .1 .0) U.the-row, tt)))
       (λ y are. walk (y .0 .0 .0) (y .0 .0 .1 .0) (y .0 .1 .0) (y .0 .1 .1 .0) (y .0 .3 .0) (y .0 .3 .1 .0) (are .0 .0 .1 .0) (are .1 .0 .0 .1 .0))
 
-pub ctext-read-spec : {M : Type 1} → stated.statement M
+pub ctext-read-spec : {M : Type 1} → ctext-read.Statement.statement M
 unfolding code.routine tablesOf
 ctext-read-spec 𝓤 H 𝓜 𝓖 𝓡 =
-    passed-on 𝓤 H 𝓜 𝓖 𝓡 code.env #ctext-read code.function (code.unfolded 𝓤 H 𝓜 𝓡) read.signature
+    passed-on 𝓤 H 𝓜 𝓖 𝓡 code.env ctext-read.Key.name code.function (code.unfolded 𝓤 H 𝓜 𝓡) read.signature
     (read.spec 𝓤 H (𝓖 .A) (𝓜 .mem) (𝓡 .run))
     (reads 𝓤 H (𝓖 .A) (givenOf 𝓤 H 𝓜 𝓖) (𝓜 .mem) (𝓡 .run) (𝓣of 𝓤 H 𝓜 𝓖 𝓡 code.env)
     (fmOf 𝓤 H (givenOf 𝓤 H 𝓜 𝓖 .laws) (𝓣of 𝓤 H 𝓜 𝓖 𝓡 code.env))
-    (cited 𝓤 H (Reads 𝓤 H (𝓖 .A) (𝓜 .mem) (𝓡 .run)) 𝓜 𝓡 code.env #read read-def.routine code.calls-read·read
-    (read-thm.met 𝓤 H 𝓜 𝓖 𝓡)))
+    (cited 𝓤 H (Reads 𝓤 H (𝓖 .A) (𝓜 .mem) (𝓡 .run)) 𝓜 𝓡 code.env read.Symbol.name read.Symbol.routine code.calls-read·read
+    (read.Met.met 𝓤 H 𝓜 𝓖 𝓡)))

@@ -15,12 +15,7 @@ use Rattle.walks.proofs.Frame.{enters, leaves}
 use Rattle.walks.proofs.Steps.{arg, sets, lands-in, behind, resliced, sliced}
 use Rattle.walks.proofs.Passing.{calls-whole, written-out, passed-on}
 use Rattle.write.proofs.write as write
-use Rattle.write.proofs.write.Symbol as write-def
-use Rattle.write.proofs.write.Symbol.{name as #write}
-use Rattle.write.proofs.write.Met as write-thm
-use Rattle.ctext.proofs.lists.ctext_write.Key.{name as #ctext-write}
 use Rattle.ctext.proofs.lists.ctext_write as ctext-write
-use Rattle.ctext.proofs.lists.ctext_write.Statement as stated
 use Rattle.ctext.proofs.lists.ctext_write.Code as code
 
 -- the contract of `write`
@@ -33,7 +28,7 @@ same : {M : Type 1} (𝓤 : URA M) (H : Heap 𝓤) (A : Atoms 𝓤) (mem : Memor
 same 𝓤 H A mem run = refl
 
 module _ {M : Type 1} (𝓤 : URA M) (H : Heap 𝓤) (A : Atoms 𝓤) (W : Given 𝓤 H A) (mem : Memory → SProp 𝓤) (run : Routine → Fun 𝓤)
-    (𝓣 : Tables 𝓤 H) (fm : FmC 𝓤 H (W .laws) (𝓣 .C)) (known : Triple 𝓤 (𝓣 .C #write) (Writes 𝓤 H A mem run)) where
+    (𝓣 : Tables 𝓤 H) (fm : FmC 𝓤 H (W .laws) (𝓣 .C)) (known : Triple 𝓤 (𝓣 .C write.Symbol.name) (Writes 𝓤 H A mem run)) where
   -- at the list us, the segments' octets gs, the work room ws and the output os
   module _ (κ κ₁ κ₂ κ₃ : Lft) (q q₁ q₂ q₃ : Share) (us : RefT (List UnitRecord)) (gs ws os : RefT (List ℕ))
       (us-fits : length (us .now) < 2 ^ 64) (gs-fits : length (gs .now) < 2 ^ 64) (ws-fits : length (ws .now) < 2 ^ 64)
@@ -89,12 +84,12 @@ module _ {M : Type 1} (𝓤 : URA M) (H : Heap 𝓤) (A : Atoms 𝓤) (W : Given
       (y .0 .1 .1 .1 .1 .0) (y .0 .3 .0) (y .0 .3 .1 .0) (y .0 .3 .1 .1 .0) (y .0 .3 .1 .1 .1 .0)
       (are .0 .0 .1 .0) (are .1 .0 .0 .1 .0) (are .1 .1 .0 .0 .1 .0) (are .1 .1 .1 .0 .0 .1 .0))
 
-pub ctext-write-spec : {M : Type 1} → stated.statement M
+pub ctext-write-spec : {M : Type 1} → ctext-write.Statement.statement M
 unfolding code.routine tablesOf
 ctext-write-spec 𝓤 H 𝓜 𝓖 𝓡 =
-    passed-on 𝓤 H 𝓜 𝓖 𝓡 code.env #ctext-write code.function (code.unfolded 𝓤 H 𝓜 𝓡) write.signature
+    passed-on 𝓤 H 𝓜 𝓖 𝓡 code.env ctext-write.Key.name code.function (code.unfolded 𝓤 H 𝓜 𝓡) write.signature
     (write.spec 𝓤 H (𝓖 .A) (𝓜 .mem) (𝓡 .run))
     (writes 𝓤 H (𝓖 .A) (givenOf 𝓤 H 𝓜 𝓖) (𝓜 .mem) (𝓡 .run) (𝓣of 𝓤 H 𝓜 𝓖 𝓡 code.env)
     (fmOf 𝓤 H (givenOf 𝓤 H 𝓜 𝓖 .laws) (𝓣of 𝓤 H 𝓜 𝓖 𝓡 code.env))
-    (cited 𝓤 H (Writes 𝓤 H (𝓖 .A) (𝓜 .mem) (𝓡 .run)) 𝓜 𝓡 code.env #write write-def.routine code.calls-write·write
-    (write-thm.met 𝓤 H 𝓜 𝓖 𝓡)))
+    (cited 𝓤 H (Writes 𝓤 H (𝓖 .A) (𝓜 .mem) (𝓡 .run)) 𝓜 𝓡 code.env write.Symbol.name write.Symbol.routine code.calls-write·write
+    (write.Met.met 𝓤 H 𝓜 𝓖 𝓡)))
