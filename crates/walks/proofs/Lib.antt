@@ -7,3 +7,4 @@ pub mod Passing
 pub mod Lent
 pub mod Frame
 pub mod Steps
+pub mod Loop

@@ -4,20 +4,17 @@
 -- Assumes nothing.
 use Rattle.walks.proofs.Names.{_≡_, refl, sym, _∙_, ap, subst, ℕ, suc, _+_, _-_, _*_, _≤_, _<_, _^_, true, false, [], _∷_, List, length, set, URA}
 use Rattle.walks.proofs.Names.{fullShare, named, w64, Val, vint, vptr, SProp, ent, id⊢, Lft, Share, GName, Fml, ftrue, flft, fobs, fauth, fbor, fobor}
-use Rattle.walks.proofs.Names.{Memory, Routine, Heap, Out, Env, afterSeq, afterBlock, Calls, Loops, Wp, atReturn, WpFn, Tables, Atoms, Fun, givenOf}
-use Rattle.walks.proofs.Names.{Given, Item, ‵, raw, _⊛_, prop, runs, anyQ, atRet, Sq, _$_, _∵_, !, qed, move, keep, let-go, use1, use2, split, join}
-use Rattle.walks.proofs.Names.{fsplit, fjoin, suffices, frame, done, look, store-raw, stop, hop, from, lit, of-opd, bin, no-more, assigns}
-use Rattle.walks.proofs.Names.{first as begins, blocks, branches, returns, returns-within, exec, Below, again, loops, FmC, fmOf, owns, pureI, Is}
+use Rattle.walks.proofs.Names.{Memory, Routine, Heap, Env, WpFn, Tables, Atoms, Fun, givenOf, Given, Item, ‵, raw, _⊛_, prop, runs, atRet, Sq, _$_}
+use Rattle.walks.proofs.Names.{_∵_, !, qed, move, keep, let-go, use1, use2, split, join, fsplit, fjoin, suffices, frame, done, look, store-raw, stop}
+use Rattle.walks.proofs.Names.{hop, from, lit, of-opd, bin, no-more, assigns, branches, returns, returns-within, exec, FmC, fmOf, owns, pureI, Is}
 use Rattle.walks.proofs.Names.{shows, bool-vals, bool-tells, uint-makes, uint-vals, uint-tells, u8, usize, RefT, sliceVal, ShrSlice, MutSlice, Room}
 use Rattle.walks.proofs.Names.{heres, codedHoleys, at-slice, slice-vals, shr-slice-tells, mut-slice-tells, Held, row, place-is, elem-out, elem-put}
 use Rattle.walks.proofs.Names.{opens-slice, closes-slice, owned, nothing, plain, onEntry, tripleOf, Contract, Triple, cited, says, needs, Stays}
 use Rattle.walks.proofs.Names.{stay-none, stay-none-slice, stay-slice, walkOf, goes-none, goes-none-slice, goes-slice, ends-at, yes}
 use native.Mathlib.Numerals.{add-one}
 use native.Mathlib.Omega.{arith}
-use mathlib.Core.WellFounded.{WellFounded, InvImage·wf}
 use lib.Dec.{ltb→lt, nltb→le, lit<}
 use lib.ListN.{length-set}
-use lib.WfN.{Nat·lt-wfRel}
 use prog.Wp.{afterTurn}
 use contract.Running.{tablesOf}
 use denote.Struct.Laws as LL
@@ -26,6 +23,7 @@ use Rattle.base.proofs.Unit as U
 use Rattle.base.proofs.Unit.Laws as U′
 use Rattle.walks.proofs.Body.{𝓣of, tests, holds, fails, proved-by}
 use Rattle.walks.proofs.Calls.{calls-value}
+use Rattle.walks.proofs.Loop.{Turns, rounds, loop-by}
 use Rattle.walks.proofs.Frame.{empty, full, Blocks, envOf, laid, enters, clears, leaves}
 use Rattle.walks.proofs.Steps.{var, arg, part, sets, resets-last, lands-in, recasts, in64, sliced, beside, copies}
 use Rattle.read.specs.Spans.{Fits, stands, nthOf, countFrom, storedFrom}
@@ -144,11 +142,8 @@ module _ {M : Type 1} (𝓤 : URA M) (H : Heap 𝓤) (A : Atoms 𝓤) (W : Given
   abbrev Going : Type 0
   Going = (j : ℕ) × ((m : ℕ) × ((l : List UnitRecord) × Known j m l))
 
-  abbrev Nearer : Going → Going → Type 0
-  Nearer h g = h .1 .0 < g .1 .0
-
-  Nearer-wf : WellFounded Nearer
-  Nearer-wf = InvImage·wf (λ (g : Going). g .1 .0) (Nat·lt-wfRel .wf)
+  abbrev μ : Going → ℕ
+  μ g = g .1 .0
 
   -- the list of a turn, and the unit of it
   abbrev got : Going → List UnitRecord
@@ -201,12 +196,6 @@ module _ {M : Type 1} (𝓤 : URA M) (H : Heap 𝓤) (A : Atoms 𝓤) (W : Given
   module _ (𝓣 : Tables 𝓤 H) (fm : FmC 𝓤 H (W .laws) (𝓣 .C)) (known-stands : Triple 𝓤 (𝓣 .C stands-at.Symbol.name) StandsAt)
       (known-nth : Triple 𝓤 (𝓣 .C nth.Symbol.name) Nth)
       (bs : Blocks (code.function .locals)) where
-    abbrev C : Calls 𝓤 H
-    C = 𝓣 .C
-
-    abbrev Λ : Loops 𝓤 H
-    Λ = 𝓣 .Λ
-
     abbrev En : Env 𝓤 H
     En = envOf (code.function .locals) bs
 
@@ -217,11 +206,7 @@ module _ {M : Type 1} (𝓤 : URA M) (H : Heap 𝓤) (A : Atoms 𝓤) (W : Given
         laid En (empty ∷ full vs ∷ full (R′.lowered r) ∷ full vo ∷ full (vint w64 start) ∷ full (vint w64 (r .most)) ∷ full (vint w64 (g .0))
         ∷ []) []
 
-    abbrev Turned : Going → Out → SProp 𝓤
-    Turned g = afterTurn 𝓤 H (Below 𝓤 H A Nearer At g)
-        (afterBlock 𝓤 H (afterSeq 𝓤 H (Wp 𝓤 H C Λ En code.Mir.t-4 (atReturn 𝓤 H En Post)) (atReturn 𝓤 H En Post)))
-
-    turns : (g : Going) → Sq W (At g) (runs C Λ En code.Mir.turn-1 (anyQ (Turned g)))
+    turns : (g : Going) → Turns W 𝓣 En Post code.Mir.turn-1 code.Mir.t-4 μ At g
     unfolding afterTurn
     turns g =
         sets ! 16 (bin ! (var ! 18 refl) (var ! 20 refl) tt) refl (tt, tt) $
@@ -261,7 +246,7 @@ module _ {M : Type 1} (𝓤 : URA M) (H : Heap 𝓤) (A : Atoms 𝓤) (W : Given
         resets-last ! 18 (bin ! (var ! 18 refl) (lit ! tt) (record { fits = next-fits g less })) refl (in64 (next-fits g less)) $
         recasts ! 18 (vint w64) (add-one (g .0)) refl $
         clears ! 6 11 refl $ move ! (1 ∷ 2 ∷ 0 ∷ []) $
-        again ! Nearer At g (further g less (holds (stands xs r (g .0)) yes-b)) (nearer g less))))
+        rounds ! μ At g (further g less (holds (stands xs r (g .0)) yes-b)) (nearer g less))))
         -- no unit of the form stands there: the borrow is closed at the list so far
         (λ no-b.
         let none : stands xs r (g .0) ≡ false = fails (stands xs r (g .0)) no-b in
@@ -273,7 +258,7 @@ module _ {M : Type 1} (𝓤 : URA M) (H : Heap 𝓤) (A : Atoms 𝓤) (W : Given
         -- the loop is left: the borrow is closed at the list that is filled
         (λ over.
         let none : g .1 .0 ≡ 0 = none-left g (nltb→le (g .0) (r .most) over) in
-        exec ! C Λ En code.Mir.t-4 (atRet En Post) $
+        exec ! (𝓣 .C) (𝓣 .Λ) En code.Mir.t-4 (atRet En Post) $
         sets ! 30 (of-opd ! (var ! 18 refl)) refl (in64 (omega (arith, g .1 .1 .1 .left, most-fits))) $
         recasts ! 30 (vint w64) (sym (count-over xs r (g .1 .0) (g .0) none) ∙ g .1 .1 .1 .count) refl $
         move ! (2 ∷ 3 ∷ 4 ∷ 5 ∷ []) $ closes-slice ! tt U.the-row ys (got g) (g .1 .1 .1 .same) b o $
@@ -283,8 +268,8 @@ module _ {M : Type 1} (𝓤 : URA M) (H : Heap 𝓤) (A : Atoms 𝓤) (W : Given
     abbrev start-at : Going
     start-at = (0, (r .most, (ys, record { left = omega arith; count = refl; stored = refl; same = refl })))
 
-    looped : Sq W (At start-at) (runs C Λ En code.Mir.t-3 (atRet En Post))
-    looped = begins ! $ blocks ! $ loops ! 𝓣 Nearer Nearer-wf At turns start-at
+    looped : Sq W (At start-at) (runs (𝓣 .C) (𝓣 .Λ) En code.Mir.t-3 (atRet En Post))
+    looped = loop-by W 𝓣 En Post code.Mir.turn-1 code.Mir.t-4 μ At turns start-at
 
   -- ---- the code up to the loop
   module _ (𝓣 : Tables 𝓤 H) (fm : FmC 𝓤 H (W .laws) (𝓣 .C)) (known-stands : Triple 𝓤 (𝓣 .C stands-at.Symbol.name) StandsAt)

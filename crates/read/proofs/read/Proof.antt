@@ -3,19 +3,16 @@
 -- functions that it calls the proof knows their contracts alone.
 -- Assumes nothing.
 use Rattle.walks.proofs.Names.{_≡_, refl, sym, _∙_, ap, subst, ℕ, _+_, _-_, _*_, _≤_, _<_, _^_, zero-le, [], _∷_, List, length, URA, fullShare, named}
-use Rattle.walks.proofs.Names.{w64, Val, vint, SProp, ent, emp, via, fst∗, id⊢, Lft, Share, GName, Fml, ftrue, flft, Memory, Routine, Heap, Out, Env}
-use Rattle.walks.proofs.Names.{afterSeq, afterBlock, Calls, Loops, Wp, atReturn, WpFn, Tables, Atoms, Fun, givenOf, Given, Item, ‵, raw, _⊛_, prop}
-use Rattle.walks.proofs.Names.{runs, anyQ, atRet, Sq, _$_, _∵_, !, qed, move, keep, let-go, use0, use1, use2, split, join, rewrite, fsplit, fjoin}
-use Rattle.walks.proofs.Names.{suffices, frame, done, look, store, forget, stop, from, lit, of-opd, bin, no-more, assigns-last, first as begins}
-use Rattle.walks.proofs.Names.{blocks, land, returns, exec, Below, again, loops, FmC, fmOf, owns, Is, uint-makes, uint-vals, uint-tells, uint-lawful}
-use Rattle.walks.proofs.Names.{u8, usize, RefT, sliceVal, ShrSlice, MutSlice, Room, finally, slice-vals, shr-slice-tells, mut-slice-tells, owned}
-use Rattle.walks.proofs.Names.{nothing, plain, onEntry, tripleOf, Contract, Triple, cited, says, Stays, stay-none-slice, stay-slice, walkOf}
-use Rattle.walks.proofs.Names.{goes-none-slice, goes-slice, ends-at, yes}
+use Rattle.walks.proofs.Names.{w64, Val, vint, SProp, ent, emp, via, fst∗, id⊢, Lft, Share, GName, Fml, ftrue, flft, Memory, Routine, Heap, Env, WpFn}
+use Rattle.walks.proofs.Names.{Tables, Atoms, Fun, givenOf, Given, Item, ‵, raw, _⊛_, prop, runs, atRet, Sq, _$_, _∵_, !, qed, move, keep, let-go}
+use Rattle.walks.proofs.Names.{use0, use1, use2, split, join, rewrite, fsplit, fjoin, suffices, frame, done, look, store, forget, stop, from, lit}
+use Rattle.walks.proofs.Names.{of-opd, bin, no-more, assigns-last, land, returns, exec, FmC, fmOf, owns, Is, uint-makes, uint-vals, uint-tells}
+use Rattle.walks.proofs.Names.{uint-lawful, u8, usize, RefT, sliceVal, ShrSlice, MutSlice, Room, finally, slice-vals, shr-slice-tells}
+use Rattle.walks.proofs.Names.{mut-slice-tells, owned, nothing, plain, onEntry, tripleOf, Contract, Triple, cited, says, Stays, stay-none-slice}
+use Rattle.walks.proofs.Names.{stay-slice, walkOf, goes-none-slice, goes-slice, ends-at, yes}
 use native.Mathlib.Nat.{le-antisymm}
 use native.Mathlib.Omega.{arith}
-use mathlib.Core.WellFounded.{WellFounded, InvImage·wf}
 use lib.Dec.{ltb→lt, nltb→le, lit<}
-use lib.WfN.{Nat·lt-wfRel}
 use prog.Wp.{afterTurn}
 use contract.Running.{tablesOf}
 use denote.Struct.Laws as LL
@@ -27,6 +24,7 @@ use Rattle.base.proofs.Answer.Laws as N′
 use Rattle.walks.proofs.Body.{𝓣of, tests, proved-by}
 use Rattle.walks.proofs.Calls.{calls-value, gave-one}
 use Rattle.walks.proofs.Lent.{calls-lent, Beside, back-beside}
+use Rattle.walks.proofs.Loop.{Turns, rounds, loop-by}
 use Rattle.walks.proofs.Frame.{empty, full, Blocks, envOf, laid, enters, clears, leaves}
 use Rattle.walks.proofs.Steps.{var, arg, part, sets, lands-in, recasts, behind, resliced, in64, sliced, beside, copies, past, front}
 use Rattle.walks.proofs.Filling.{length-fill}
@@ -218,11 +216,8 @@ module _ {M : Type 1} (𝓤 : URA M) (H : Heap 𝓤) (A : Atoms 𝓤) (W : Given
   abbrev Turn : Type 0
   Turn = (i : ℕ) × ((i ≤ n) × IsK (cur xs ys i))
 
-  abbrev Nearer : Turn → Turn → Type 0
-  Nearer j i = n - j .0 < n - i .0
-
-  Nearer-wf : WellFounded Nearer
-  Nearer-wf = InvImage·wf (λ (i : Turn). n - i .0) (Nat·lt-wfRel .wf)
+  abbrev μ : Turn → ℕ
+  μ i = n - i .0
 
   n-fits : n < 2 ^ 64
   n-fits = let h = stores xs ys in omega (arith, h, room .0)
@@ -260,12 +255,6 @@ module _ {M : Type 1} (𝓤 : URA M) (H : Heap 𝓤) (A : Atoms 𝓤) (W : Given
   module _ (𝓣 : Tables 𝓤 H) (fm : FmC 𝓤 H (W .laws) (𝓣 .C)) (known-span : Triple 𝓤 (𝓣 .C span-at.Symbol.name) SpanAt)
       (known-fill : Triple 𝓤 (𝓣 .C fill.Symbol.name) Fill)
       (known-moved : Triple 𝓤 (𝓣 .C moved.Symbol.name) Moved) (is-ans : IsN) (bs : Blocks (code.function .locals)) where
-    abbrev C : Calls 𝓤 H
-    C = 𝓣 .C
-
-    abbrev Λ : Loops 𝓤 H
-    Λ = 𝓣 .Λ
-
     abbrev En : Env 𝓤 H
     En = envOf (code.function .locals) bs
 
@@ -274,11 +263,7 @@ module _ {M : Type 1} (𝓤 : URA M) (H : Heap 𝓤) (A : Atoms 𝓤) (W : Given
         laid En (empty ∷ full vs ∷ full vo ∷ full (N′.lowered ans) ∷ full (vint w64 n) ∷ full (K′.lowered (cur xs ys (i .0))) ∷
         full (vint w64 (i .0)) ∷ []) []
 
-    abbrev Turned : Turn → Out → SProp 𝓤
-    Turned i = afterTurn 𝓤 H (Below 𝓤 H A Nearer At i)
-        (afterBlock 𝓤 H (afterSeq 𝓤 H (Wp 𝓤 H C Λ En code.Mir.t-7 (atReturn 𝓤 H En Post)) (atReturn 𝓤 H En Post)))
-
-    turns : (i : Turn) → Sq W (At i) (runs C Λ En code.Mir.turn-1 (anyQ (Turned i)))
+    turns : (i : Turn) → Turns W 𝓣 En Post code.Mir.turn-1 code.Mir.t-7 μ At i
     unfolding afterTurn
     turns i =
         sets ! 10 (bin ! (var ! 18 refl) (var ! 22 refl) tt) refl (tt, tt) $
@@ -321,15 +306,15 @@ module _ {M : Type 1} (𝓤 : URA M) (H : Heap 𝓤) (A : Atoms 𝓤) (W : Given
         (left-most (i .0) less)) refl $
         assigns-last ! (bin ! (var ! 18 refl) (var ! 14 refl) (record { fits = omega (arith, count-in (i .0) less, n-fits) })) (from ! (stop !))
         (store ! 18 refl (in64 (omega (arith, count-in (i .0) less, n-fits)))) $
-        clears ! 4 13 refl $ move ! (0 ∷ 3 ∷ 1 ∷ 2 ∷ []) $ again ! Nearer At i (further i less is-c) (nearer i less)))))
+        clears ! 4 13 refl $ move ! (0 ∷ 3 ∷ 1 ∷ 2 ∷ []) $ rounds ! μ At i (further i less is-c) (nearer i less)))))
         -- the loop is left
-        (λ over. exec ! C Λ En code.Mir.t-7 (atRet En Post) $
+        (λ over. exec ! (𝓣 .C) (𝓣 .Λ) En code.Mir.t-7 (atRet En Post) $
         sets ! 30 (of-opd ! (var ! 24 refl)) refl (LL.lawful N.the-type N′.the-laws 𝓤 H A W .typed ans _ is-ans .0) $
         rewrite ! 2 (λ (j : ℕ). ‵ (Units (got xs ys j))) (le-antisymm (i .1 .0) (nltb→le (i .0) n over)) refl $
         returns ! (look ! 30 refl) $ leaves ! 4 refl refl $ (exits is-ans))
 
-    looped : (is : IsK first) → Sq W (At (0, (zero-le, is))) (runs C Λ En code.Mir.t-6 (atRet En Post))
-    looped is = begins ! $ blocks ! $ loops ! 𝓣 Nearer Nearer-wf At turns (0, (zero-le, is))
+    looped : (is : IsK first) → Sq W (At (0, (zero-le, is))) (runs (𝓣 .C) (𝓣 .Λ) En code.Mir.t-6 (atRet En Post))
+    looped is = loop-by W 𝓣 En Post code.Mir.turn-1 code.Mir.t-7 μ At turns (0, (zero-le, is))
 
   -- ---- the code up to the loop
   module _ (𝓣 : Tables 𝓤 H) (fm : FmC 𝓤 H (W .laws) (𝓣 .C)) (known-span : Triple 𝓤 (𝓣 .C span-at.Symbol.name) SpanAt)

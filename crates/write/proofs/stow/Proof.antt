@@ -4,20 +4,17 @@
 -- knows their contracts alone. Assumes nothing.
 use Rattle.walks.proofs.Names.{_≡_, refl, sym, _∙_, ap, subst, ℕ, suc, _+_, _-_, _*_, _≤_, _<_, _^_, zero-le, [], _∷_, List, length, getD, URA}
 use Rattle.walks.proofs.Names.{fullShare, named, w64, Val, vint, vptr, SProp, ent, emp, via, fst∗, id⊢, Lft, Share, GName, Fml, ftrue, flft, Memory}
-use Rattle.walks.proofs.Names.{Routine, Heap, Out, Env, afterSeq, afterBlock, Calls, Loops, Wp, atReturn, WpFn, Tables, Atoms, Fun, givenOf, let-go}
-use Rattle.walks.proofs.Names.{Given, Item, ‵, raw, _⊛_, prop, runs, anyQ, atRet, Sq, _$_, _∵_, !, qed, move, keep, use0, split, join, rewrite}
-use Rattle.walks.proofs.Names.{fsplit, fjoin, suffices, frame, done, look, look-raw, store, forget, stop, hop, from, load, lit, of-opd, bin, no-more}
-use Rattle.walks.proofs.Names.{first, blocks, land, returns, exec, Below, again, loops, FmC, fmOf, owns, Is, shows, uint-makes, uint-vals, uint-tells}
-use Rattle.walks.proofs.Names.{uint-lawful, u8, usize, RefT, sliceVal, ShrSlice, MutSlice, Room, finally, slice-vals, shr-slice-tells}
-use Rattle.walks.proofs.Names.{mut-slice-tells, place-is, elem-out, elem-back, looks-slice, shuts-slice, owned, nothing, plain, yes, onEntry}
-use Rattle.walks.proofs.Names.{tripleOf, Contract, Triple, cited, says, Stays, stay-none-slice, stay-slice, walkOf, goes-none-slice, goes-slice}
-use Rattle.walks.proofs.Names.{ends-at}
+use Rattle.walks.proofs.Names.{Routine, Heap, Env, WpFn, Tables, Atoms, Fun, givenOf, let-go, Given, Item, ‵, raw, _⊛_, prop, runs, atRet, Sq, _$_}
+use Rattle.walks.proofs.Names.{_∵_, !, qed, move, keep, use0, split, join, rewrite, fsplit, fjoin, suffices, frame, done, look, look-raw, store}
+use Rattle.walks.proofs.Names.{forget, stop, hop, from, load, lit, of-opd, bin, no-more, land, returns, exec, FmC, fmOf, owns, Is, shows, uint-makes}
+use Rattle.walks.proofs.Names.{uint-vals, uint-tells, uint-lawful, u8, usize, RefT, sliceVal, ShrSlice, MutSlice, Room, finally, slice-vals}
+use Rattle.walks.proofs.Names.{shr-slice-tells, mut-slice-tells, place-is, elem-out, elem-back, looks-slice, shuts-slice, owned, nothing, plain, yes}
+use Rattle.walks.proofs.Names.{onEntry, tripleOf, Contract, Triple, cited, says, Stays, stay-none-slice, stay-slice, walkOf, goes-none-slice}
+use Rattle.walks.proofs.Names.{goes-slice, ends-at}
 use native.Mathlib.Nat.{le-antisymm}
 use native.Mathlib.Numerals.{add-one}
 use native.Mathlib.Omega.{arith}
-use mathlib.Core.WellFounded.{WellFounded, InvImage·wf}
 use lib.Dec.{T as Holds, ltb, ltb→lt, nltb→le, lit<}
-use lib.WfN.{Nat·lt-wfRel}
 use prog.Wp.{afterTurn}
 use contract.Running.{tablesOf}
 use denote.Enum.Laws as EL
@@ -28,6 +25,7 @@ use Rattle.base.proofs.Unit.Laws as U′
 use Rattle.walks.proofs.Body.{𝓣of, tests, proved-by}
 use Rattle.walks.proofs.Calls.{calls-value, gave-one}
 use Rattle.walks.proofs.Lent.{calls-lent, Beside, back-beside}
+use Rattle.walks.proofs.Loop.{Turns, rounds, loop-by}
 use Rattle.walks.proofs.Frame.{empty, full, Blocks, envOf, laid, enters, clears, leaves}
 use Rattle.walks.proofs.Steps.{var, arg, part, sets, resets, resets-last, lands-in, recasts, behind, resliced, in64, sliced, beside, copies, past}
 use Rattle.walks.proofs.Steps.{front}
@@ -225,11 +223,8 @@ module _ {M : Type 1} (𝓤 : URA M) (H : Heap 𝓤) (A : Atoms 𝓤) (W : Given
   abbrev Going : Type 0
   Going = (i : ℕ) × ((w : List ℕ) × ((i ≤ n) × (Stowed os us i ys w × IsP (at i))))
 
-  abbrev Nearer : Going → Going → Type 0
-  Nearer j i = n - j .0 < n - i .0
-
-  Nearer-wf : WellFounded Nearer
-  Nearer-wf = InvImage·wf (λ (i : Going). n - i .0) (Nat·lt-wfRel .wf)
+  abbrev μ : Going → ℕ
+  μ i = n - i .0
 
   inside : (i : ℕ) → Holds (ltb i n) → i < length us
   inside i less = let h : i < n = ltb→lt i n less in let k : n ≤ length us = looked-most (length us) in omega arith
@@ -268,12 +263,6 @@ module _ {M : Type 1} (𝓤 : URA M) (H : Heap 𝓤) (A : Atoms 𝓤) (W : Given
   module _ (𝓣 : Tables 𝓤 H) (fm : FmC 𝓤 H (W .laws) (𝓣 .C)) (known-turn : Triple 𝓤 (𝓣 .C turn.Symbol.name) Turn)
       (known-quickly : Triple 𝓤 (𝓣 .C quickly.Symbol.name) Quickly)
       (bs : Blocks (code.function .locals)) where
-    abbrev C : Calls 𝓤 H
-    C = 𝓣 .C
-
-    abbrev Λ : Loops 𝓤 H
-    Λ = 𝓣 .Λ
-
     abbrev En : Env 𝓤 H
     En = envOf (code.function .locals) bs
 
@@ -281,11 +270,7 @@ module _ {M : Type 1} (𝓤 : URA M) (H : Heap 𝓤) (A : Atoms 𝓤) (W : Given
     At g = ‵ (flft κ₀ q₀) ∷ ‵ Units ∷ ‵ (flft κ₁ q₁) ∷ ‵ Segments ∷ ‵ (Work (g .1 .0)) ∷ ‵ (flft κ₂ q₂) ∷
         laid En (empty ∷ full vs ∷ full vt ∷ full vw ∷ full (vint w64 n) ∷ full (mach (at (g .0))) ∷ full (vint w64 (g .0)) ∷ []) []
 
-    abbrev Turned : Going → Out → SProp 𝓤
-    Turned g = afterTurn 𝓤 H (Below 𝓤 H A Nearer At g)
-        (afterBlock 𝓤 H (afterSeq 𝓤 H (Wp 𝓤 H C Λ En code.Mir.t-6 (atReturn 𝓤 H En Post)) (atReturn 𝓤 H En Post)))
-
-    turns : (g : Going) → Sq W (At g) (runs C Λ En code.Mir.turn-1 (anyQ (Turned g)))
+    turns : (g : Going) → Turns W 𝓣 En Post code.Mir.turn-1 code.Mir.t-6 μ At g
     unfolding afterTurn
     turns g =
         sets ! 20 (bin ! (var ! 26 refl) (var ! 30 refl) tt) refl (tt, tt) $
@@ -344,16 +329,16 @@ module _ {M : Type 1} (𝓤 : URA M) (H : Heap 𝓤) (A : Atoms 𝓤) (W : Given
         resets-last ! 26 (of-opd ! (var ! 24 refl)) refl (uint-lawful 𝓤 H A W w64 .typed (fin (g .0)) _ is-fin .0) $
         recasts ! 28 mach (sym (k .stays os refl)) refl $
         clears ! 6 19 refl $ move ! (0 ∷ 3 ∷ 4 ∷ 5 ∷ 1 ∷ 2 ∷ []) $
-        again ! Nearer At g (further g less is l′ k) (nearer g less l′ k))))))
-        (λ over. exec ! C Λ En code.Mir.t-6 (atRet En Post) $
+        rounds ! μ At g (further g less is l′ k) (nearer g less l′ k))))))
+        (λ over. exec ! (𝓣 .C) (𝓣 .Λ) En code.Mir.t-6 (atRet En Post) $
         sets ! 38 (of-opd ! (var ! 28 refl)) refl (EL.lawful P.the-type P′.the-laws 𝓤 H A W tt .typed (at (g .0)) _ (g .1 .1 .1 .1) .0) $
         recasts ! 38 (λ (i : ℕ). (mach (at i))) (le-antisymm (g .1 .1 .0) (nltb→le (g .0) n over)) refl $
         returns ! (look ! 38 refl) $ leaves ! 6 refl refl $
         (exits (g .1 .0) (subst (λ (k : ℕ). Stowed os us k ys (g .1 .0)) (le-antisymm (g .1 .1 .0) (nltb→le (g .0) n over)) (g .1 .1 .1 .0))
         (subst (λ (k : ℕ). IsP (at k)) (le-antisymm (g .1 .1 .0) (nltb→le (g .0) n over)) (g .1 .1 .1 .1))))
 
-    looped : (is : IsP (at 0)) → Sq W (At (0, (ys, (zero-le, (stowed-none os us ys, is))))) (runs C Λ En code.Mir.t-5 (atRet En Post))
-    looped is = first ! $ blocks ! $ loops ! 𝓣 Nearer Nearer-wf At turns (0, (ys, (zero-le, (stowed-none os us ys, is))))
+    looped : (is : IsP (at 0)) → Sq W (At (0, (ys, (zero-le, (stowed-none os us ys, is))))) (runs (𝓣 .C) (𝓣 .Λ) En code.Mir.t-5 (atRet En Post))
+    looped is = loop-by W 𝓣 En Post code.Mir.turn-1 code.Mir.t-6 μ At turns (0, (ys, (zero-le, (stowed-none os us ys, is))))
 
   -- ---- the code up to the loop
   module _ (𝓣 : Tables 𝓤 H) (fm : FmC 𝓤 H (W .laws) (𝓣 .C)) (known-looked : Triple 𝓤 (𝓣 .C looked-at.Symbol.name) LookedAt)

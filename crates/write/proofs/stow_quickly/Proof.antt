@@ -4,19 +4,16 @@
 -- it calls the proof knows their contracts alone. Assumes nothing.
 use Rattle.walks.proofs.Names.{_≡_, refl, sym, _∙_, ap, subst, ℕ, suc, _+_, _-_, _*_, _≤_, _<_, _^_, true, false, [], _∷_, List, length, getD, URA}
 use Rattle.walks.proofs.Names.{fullShare, named, w64, Val, vint, vptr, SProp, ent, id⊢, Lft, Share, GName, Fml, ftrue, flft, Memory, Routine, Heap}
-use Rattle.walks.proofs.Names.{Out, Env, afterSeq, afterBlock, Calls, Loops, Wp, atReturn, WpFn, Tables, Atoms, Fun, givenOf, let-go, Given, Item, ‵}
-use Rattle.walks.proofs.Names.{raw, _⊛_, prop, runs, anyQ, atRet, Sq, _$_, _∵_, !, qed, move, keep, use0, split, join, rewrite, fsplit, fjoin}
-use Rattle.walks.proofs.Names.{suffices, frame, done, look, look-raw, stop, hop, from, load, lit, of-opd, bin, no-more, first, blocks, branches}
-use Rattle.walks.proofs.Names.{returns, exec, Below, again, loops, FmC, fmOf, owns, Is, shows, bool-vals, bool-tells, uint-makes, uint-vals}
-use Rattle.walks.proofs.Names.{uint-tells, uint-lawful, u8, usize, RefT, sliceVal, ShrSlice, MutSlice, Room, finally, slice-vals, shr-slice-tells}
-use Rattle.walks.proofs.Names.{mut-slice-tells, place-is, elem-out, elem-back, looks-slice, shuts-slice, owned, nothing, plain, yes, onEntry}
-use Rattle.walks.proofs.Names.{tripleOf, Contract, Triple, cited, says, needs, Stays, stay-none, stay-none-slice, stay-slice, walkOf, goes-none}
-use Rattle.walks.proofs.Names.{goes-none-slice, goes-slice, ends-at}
+use Rattle.walks.proofs.Names.{Env, WpFn, Tables, Atoms, Fun, givenOf, let-go, Given, Item, ‵, raw, _⊛_, prop, runs, atRet, Sq, _$_, _∵_, !, qed}
+use Rattle.walks.proofs.Names.{move, keep, use0, split, join, rewrite, fsplit, fjoin, suffices, frame, done, look, look-raw, stop, hop, from, load}
+use Rattle.walks.proofs.Names.{lit, of-opd, bin, no-more, branches, returns, exec, FmC, fmOf, owns, Is, shows, bool-vals, bool-tells, uint-makes}
+use Rattle.walks.proofs.Names.{uint-vals, uint-tells, uint-lawful, u8, usize, RefT, sliceVal, ShrSlice, MutSlice, Room, finally, slice-vals}
+use Rattle.walks.proofs.Names.{shr-slice-tells, mut-slice-tells, place-is, elem-out, elem-back, looks-slice, shuts-slice, owned, nothing, plain, yes}
+use Rattle.walks.proofs.Names.{onEntry, tripleOf, Contract, Triple, cited, says, needs, Stays, stay-none, stay-none-slice, stay-slice, walkOf}
+use Rattle.walks.proofs.Names.{goes-none, goes-none-slice, goes-slice, ends-at}
 use native.Mathlib.Numerals.{add-one}
 use native.Mathlib.Omega.{arith}
-use mathlib.Core.WellFounded.{WellFounded, InvImage·wf}
 use lib.Dec.{ltb→lt, nltb→le}
-use lib.WfN.{Nat·lt-wfRel}
 use prog.Wp.{afterTurn}
 use contract.Running.{tablesOf}
 use denote.Enum.Laws as EL
@@ -28,6 +25,7 @@ use Rattle.base.proofs.Unit.Laws as U′
 use Rattle.walks.proofs.Body.{𝓣of, tests, holds, fails, proved-by}
 use Rattle.walks.proofs.Calls.{calls-value, gave-one}
 use Rattle.walks.proofs.Lent.{calls-lent, Alone, back-alone}
+use Rattle.walks.proofs.Loop.{Turns, rounds, loop-by}
 use Rattle.walks.proofs.Frame.{empty, full, Blocks, envOf, laid, enters, clears, leaves}
 use Rattle.walks.proofs.Steps.{var, arg, part, sets, resets-last, lands-in, recasts, behind, resliced, in64, sliced, beside, copies, past, front}
 use Rattle.shortest.specs.Offence.{noRecord}
@@ -194,11 +192,8 @@ module _ {M : Type 1} (𝓤 : URA M) (H : Heap 𝓤) (A : Atoms 𝓤) (W : Given
   abbrev known : (g : Going) → Known (g .0) (end g) (got g)
   known g = g .1 .1 .1
 
-  abbrev Nearer : Going → Going → Type 0
-  Nearer h g = end h - h .0 < end g - g .0
-
-  Nearer-wf : WellFounded Nearer
-  Nearer-wf = InvImage·wf (λ (g : Going). end g - g .0) (Nat·lt-wfRel .wf)
+  abbrev μ : Going → ℕ
+  μ g = end g - g .0
 
   inside : (g : Going) → g .0 < end g → g .0 < length us
   inside g less = omega (arith, less, known g .most, n-most)
@@ -255,12 +250,6 @@ module _ {M : Type 1} (𝓤 : URA M) (H : Heap 𝓤) (A : Atoms 𝓤) (W : Given
 
   module _ (𝓣 : Tables 𝓤 H) (fm : FmC 𝓤 H (W .laws) (𝓣 .C)) (known-turn : Triple 𝓤 (𝓣 .C quick-turn.Symbol.name) QuickTurn)
       (bs : Blocks (code.function .locals)) where
-    abbrev C : Calls 𝓤 H
-    C = 𝓣 .C
-
-    abbrev Λ : Loops 𝓤 H
-    Λ = 𝓣 .Λ
-
     abbrev En : Env 𝓤 H
     En = envOf (code.function .locals) bs
 
@@ -269,11 +258,7 @@ module _ {M : Type 1} (𝓤 : URA M) (H : Heap 𝓤) (A : Atoms 𝓤) (W : Given
         laid En (empty ∷ full (mach p) ∷ full vs ∷ full (vint w64 i₀) ∷ full (vint w64 n) ∷ full vw ∷ full (vint w64 (end g)) ∷
         full (vint w64 (g .0)) ∷ []) []
 
-    abbrev Turned : Going → Out → SProp 𝓤
-    Turned g = afterTurn 𝓤 H (Below 𝓤 H A Nearer At g)
-        (afterBlock 𝓤 H (afterSeq 𝓤 H (Wp 𝓤 H C Λ En code.Mir.t-4 (atReturn 𝓤 H En Post)) (atReturn 𝓤 H En Post)))
-
-    turns : (g : Going) → Sq W (At g) (runs C Λ En code.Mir.turn-1 (anyQ (Turned g)))
+    turns : (g : Going) → Turns W 𝓣 En Post code.Mir.turn-1 code.Mir.t-4 μ At g
     unfolding afterTurn
     turns g =
         sets ! 16 (bin ! (var ! 18 refl) (var ! 20 refl) tt) refl (tt, tt) $
@@ -315,17 +300,17 @@ module _ {M : Type 1} (𝓤 : URA M) (H : Heap 𝓤) (A : Atoms 𝓤) (W : Given
         resets-last ! 18 (bin ! (var ! 18 refl) (lit ! tt) (record { fits = next-fits g less })) refl (in64 (next-fits g less)) $
         recasts ! 18 (vint w64) (add-one (g .0)) refl $
         clears ! 4 13 refl $ move ! (2 ∷ 3 ∷ 0 ∷ 1 ∷ []) $
-        again ! Nearer At g (further g less (holds (plainOf (unit (g .0))) yes-b)) (let h : end g - suc (g .0) < end g - g .0 = omega (arith, less) in h))
+        rounds ! μ At g (further g less (holds (plainOf (unit (g .0))) yes-b)) (let h : end g - suc (g .0) < end g - g .0 = omega (arith, less) in h))
         -- it is not: the end is here
         (λ no-b.
         rewrite ! 0 (λ (w : List ℕ). ‵ (Work w)) (left-out g (fails (plainOf (unit (g .0))) no-b)) refl $
         resets-last ! 20 (of-opd ! (var ! 18 refl)) refl (in64 (known g .fits)) $
         clears ! 4 13 refl $ move ! (2 ∷ 3 ∷ 0 ∷ 1 ∷ []) $
-        again ! Nearer At g (stopped g less (fails (plainOf (unit (g .0))) no-b)) (let h : g .0 - g .0 < end g - g .0 = omega (arith, less) in h))))))
+        rounds ! μ At g (stopped g less (fails (plainOf (unit (g .0))) no-b)) (let h : g .0 - g .0 < end g - g .0 = omega (arith, less) in h))))))
         -- the loop is left
         (λ over.
         let at-end : g .0 ≡ fin = run-over us (end g - g .0) (g .0) (omega (arith, nltb→le (g .0) (end g) over)) ∙ known g .ends in
-        exec ! C Λ En code.Mir.t-4 (atRet En Post) $
+        exec ! (𝓣 .C) (𝓣 .Λ) En code.Mir.t-4 (atRet En Post) $
         sets ! 32 (of-opd ! (var ! 18 refl)) refl (in64 (known g .fits)) $
         recasts ! 32 (vint w64) at-end refl $
         returns ! (look ! 32 refl) $ leaves ! 4 refl refl $
@@ -350,8 +335,8 @@ module _ {M : Type 1} (𝓤 : URA M) (H : Heap 𝓤) (A : Atoms 𝓤) (W : Given
       ),
     )
 
-    looped : Sq W (At start-at) (runs C Λ En code.Mir.t-3 (atRet En Post))
-    looped = first ! $ blocks ! $ loops ! 𝓣 Nearer Nearer-wf At turns start-at
+    looped : Sq W (At start-at) (runs (𝓣 .C) (𝓣 .Λ) En code.Mir.t-3 (atRet En Post))
+    looped = loop-by W 𝓣 En Post code.Mir.turn-1 code.Mir.t-4 μ At turns start-at
 
   -- ---- the code up to the loop
   module _ (𝓣 : Tables 𝓤 H) (fm : FmC 𝓤 H (W .laws) (𝓣 .C)) (known-until : Triple 𝓤 (𝓣 .C quick-until.Symbol.name) QuickUntil)
