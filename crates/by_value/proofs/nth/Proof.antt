@@ -4,16 +4,16 @@
 use Rattle.walks.proofs.Names.{let-go, _≡_, refl, subst, ℕ, suc, _+_, _-_, _≤_, _<_, _^_, zero-le, List, [], _∷_, length, drop, take, URA, fullShare}
 use Rattle.walks.proofs.Names.{named, erased, w64, Val, vint, vptr, SProp, ent, emp, sep, guard, via, fst∗, id⊢, Lft, Share, GName, Fml, ftrue, flft}
 use Rattle.walks.proofs.Names.{fat, fdies, Memory, Routine, Heap, Env, WpFn, Tables, Atoms, sem, Fun, fact, givenOf, Given, Item, ‵, raw, _⊛_, prop}
-use Rattle.walks.proofs.Names.{runs, atRet, Sq, _$_, _∵_, !, qed, move, keep, use1, use2, split, join, rewrite, fsplit, fjoin, check, suffices, frame}
-use Rattle.walks.proofs.Names.{done, look, forget, stop, from, lit, of-opd, bin, addr, no-more, returns, exec, FmC, fmOf, RattleType, owns, cellAt}
-use Rattle.walks.proofs.Names.{Is, shows, uint-makes, uint-vals, uint-tells, u8, usize, RefT, NamedLft, MutRef, sliceVal, ShrSlice, slice-vals}
-use Rattle.walks.proofs.Names.{shr-slice-tells, owned, heard, nothing, spelt, Declared, plain, yes, onEntry, tripleOf, Contract, Triple, Lasts, lasts}
-use Rattle.walks.proofs.Names.{cited, says, Stays, stay-none, stay-none-slice, walkOf, goes-none, goes-none-slice, ends-at}
+use Rattle.walks.proofs.Names.{runs, atRet, Sq, _$_, _∵_, !, qed, move, keep, use1, use2, split, rewrite, fsplit, fjoin, check, suffices, frame, done}
+use Rattle.walks.proofs.Names.{look, forget, stop, from, lit, of-opd, bin, addr, no-more, returns, exec, FmC, fmOf, RattleType, owns, cellAt, Is}
+use Rattle.walks.proofs.Names.{shows, uint-vals, uint-tells, u8, usize, RefT, NamedLft, MutRef, sliceVal, ShrSlice, slice-vals, shr-slice-tells}
+use Rattle.walks.proofs.Names.{owned, heard, nothing, spelt, Declared, plain, yes, onEntry, tripleOf, Contract, Triple, Lasts, lasts, cited, says}
+use Rattle.walks.proofs.Names.{Stays, stay-none, stay-none-slice, walkOf, goes-none, goes-none-slice, ends-at}
 use Rattle.walks.proofs.Body.{tests, 𝓣of, proved-by}
 use Rattle.walks.proofs.Calls.{calls-some, gave-value}
 use Rattle.walks.proofs.Loop.{Turns, rounds, loop-by}
 use Rattle.walks.proofs.Frame.{Blocks, envOf, enters, clears, leaves, empty, full, laid}
-use Rattle.walks.proofs.Steps.{var, arg, sets, resets-last, lands-in, recasts, in64, sliced, beside, copies}
+use Rattle.walks.proofs.Steps.{var, arg, sets, resets-last, lands-in, recasts, in64, sliced, copies, number, joins, fjoins}
 use Rattle.walks.proofs.Locals.{calls-local, Tokens}
 use native.Mathlib.Nat.{le-antisymm}
 use native.Mathlib.Numerals.{add-one}
@@ -101,8 +101,8 @@ module _ {M : Type 1} (𝓤 : URA M) (H : Heap 𝓤) (A : Atoms 𝓤) (W : Given
   exits is =
       suffices ! _ (ends-at 𝓤 H A nth.ended stayed (nth.clauses 𝓤 H A at-mem run) W (((κ, tt), (q, tt), tt, a, vals), tt) (item (it k)) (it k)
       (tt, (tt, tt)) (tt, (tt, tt))) $ says ! (opened-items s k) $
-      nothing ! $ move ! (1 ∷ 0 ∷ []) $ join ! $ frame ! $ nothing ! $ beside ! usize (uint-makes 𝓤 H A W w64) k _ (refl, k-fits) $
-      move ! (1 ∷ 0 ∷ []) $ fjoin ! $ frame ! $
+      nothing ! $ joins ! 0 refl $ frame ! $ nothing ! $ number ! k k-fits $
+      fjoins ! 0 refl $ frame ! $
       owned ! I.the-row (Is I.the-row) (EL.makes I.the-type I′.the-plain 𝓤 H A) (it k) _ is $ done !
 
   -- ---- a local reader, as its cell with what it owns and as a part of memory
@@ -129,7 +129,7 @@ module _ {M : Type 1} (𝓤 : URA M) (H : Heap 𝓤) (A : Atoms 𝓤) (W : Given
 
   asks-open : Sq W ((‵ (flft κ q) ⊛ ‵ ftrue) ∷ ‵ Own ∷ []) (prop (Open .pre to-open))
   asks-open =
-      nothing ! $ move ! (2 ∷ 0 ∷ []) $ fjoin ! $ move ! (1 ∷ 0 ∷ []) $ join ! $ frame ! $ done !
+      nothing ! $ fjoins ! 1 refl $ joins ! 0 refl $ frame ! $ done !
 
   -- ---- `next`, on the local at b
   module _ (b : ℕ) (h : Reader) where
@@ -152,8 +152,8 @@ module _ {M : Type 1} (𝓤 : URA M) (H : Heap 𝓤) (A : Atoms 𝓤) (W : Given
     asks-next ν γ =
         qed W (‵ (flft (ν ∷ κ) (PosShare·left q)) ∷ ‵ (flft κ (PosShare·right q)) ∷
         ‵ (MutRef (named 0) (ν ∷ κ) R .own (record { ptr = (b, 0); name = γ; now = h }) (vptr b 0 ∷ [])) ∷ []) ∵
-        nothing ! $ move ! (2 ∷ 0 ∷ []) $ join ! $ move ! (1 ∷ 0 ∷ []) $ join ! $ nothing ! $ move ! (2 ∷ 0 ∷ []) $ fjoin ! $
-        move ! (1 ∷ 0 ∷ []) $ join ! $ frame ! $ done !
+        nothing ! $ joins ! 1 refl $ joins ! 0 refl $ nothing ! $ fjoins ! 1 refl $
+        joins ! 0 refl $ frame ! $ done !
 
     gives-next : (ν : ℕ) (γ : GName) (r : ItemD) (ws : Lasts next.ended (ν ∷ κ, (κ, tt)) (record { ptr = (b, 0); name = γ; now = h }, tt))
         → ent 𝓤 (sep 𝓤 (sem 𝓤 H A (lasts next.ended (ν ∷ κ, (κ, tt)) (record { ptr = (b, 0); name = γ; now = h }, tt) ws))

@@ -4,7 +4,7 @@
 use Rattle.walks.proofs.Names.{_≡_, refl, ℕ, _<_, _^_, [], _∷_, List, length, replicate, URA, fullShare, named, tyArray, Val, SProp, ent, emp, via}
 use Rattle.walks.proofs.Names.{Sq, prop, fst∗, id⊢, ex, guard, Lft, Share, GName, Fml, ftrue, flft, flent, fat, Memory, Routine, Heap, Calls, Loops}
 use Rattle.walks.proofs.Names.{WpFn, Atoms, sem, Fun, fact, givenOf, Given, ‵, raw, _⊛_, some, later, _$_, _∵_, !, qed, move, keep, use1, use2, use3}
-use Rattle.walks.proofs.Names.{split, join, pick, feqL, fsplit, fjoin, check, show, suffices, frame, await, done, look, stop, from, lit, of-opd, addr}
+use Rattle.walks.proofs.Names.{split, join, pick, feqL, fsplit, check, show, suffices, frame, await, done, look, stop, from, lit, of-opd, addr}
 use Rattle.walks.proofs.Names.{and-then, no-more, returns, agg, rep, cells, Arr, lft-new, lft-end, FmC, fmOf, owns, Is, shows, mem, u8, RefT}
 use Rattle.walks.proofs.Names.{sliceVal, ShrSlice, MutSlice, finally, slice-vals, shr-slice-tells, Held, lends-slice, slice-back, only, owned, peeks}
 use Rattle.walks.proofs.Names.{nothing, heard, plain, onEntry, tripleOf, Contract, Triple, Lasts, lasts, cited, says, Stays, stay-none}
@@ -22,7 +22,7 @@ use Rattle.base.proofs.Answer.Laws as N′
 use Rattle.walks.proofs.Body.{𝓣of, proved-by}
 use Rattle.walks.proofs.Calls.{calls-ends}
 use Rattle.walks.proofs.Frame.{enters, leaves}
-use Rattle.walks.proofs.Steps.{var, arg, sets, lands-in, sliced, beside, copies}
+use Rattle.walks.proofs.Steps.{var, arg, sets, lands-in, sliced, beside, copies, joins, fjoins}
 use Rattle.walks.proofs.Locals.{array-out, array-in}
 use Rattle.read.specs.Listing.{readAnswer, listAfter}
 use Rattle.read.proofs.read as read
@@ -80,7 +80,7 @@ module _ {M : Type 1} (𝓤 : URA M) (H : Heap 𝓤) (A : Atoms 𝓤) (W : Given
       suffices ! _ (ends-at 𝓤 H A eight.ended stayed (eight.clauses 𝓤 H A at-mem run) W (((κ, tt), (q, tt), tt, a, vals), tt) (low zs) zs
       (tt, (tt, tt)) (tt, (tt, tt))) $ says ! e $
       move ! (2 ∷ 1 ∷ []) $ join ! $ frame ! $ nothing ! $ beside ! U.the-row (LL.makes U.the-type U′.the-plain 𝓤 H A) mark _ is-mark $
-      move ! (2 ∷ 0 ∷ []) $ fjoin ! $ frame ! $ done !
+      fjoins ! 1 refl $ frame ! $ done !
 
   -- ---- `read`, on the local at l for the lifetime ν
   module _ (l ν : ℕ) (δ : GName) where
@@ -96,8 +96,8 @@ module _ {M : Type 1} (𝓤 : URA M) (H : Heap 𝓤) (A : Atoms 𝓤) (W : Given
     asks : Sq W ((‵ Own ⊛ ‵ Lent) ∷ ((‵ (flft κ q) ⊛ ‵ ftrue) ⊛ ‵ (flft (ν ∷ []) fullShare)) ∷ [])
         (prop (Reads 𝓤 H A at-mem run .pre to))
     asks =
-        split ! $ nothing ! $ move ! (2 ∷ 0 ∷ []) $ fjoin ! $ move ! (1 ∷ 0 ∷ []) $ fjoin ! $
-        move ! (1 ∷ []) $ split ! $ split ! $ move ! (2 ∷ 1 ∷ []) $ join ! $ move ! (1 ∷ 0 ∷ []) $ join ! $ join ! $ frame ! $ done !
+        split ! $ nothing ! $ fjoins ! 1 refl $ fjoins ! 0 refl $
+        move ! (1 ∷ []) $ split ! $ split ! $ move ! (2 ∷ 1 ∷ []) $ join ! $ joins ! 0 refl $ join ! $ frame ! $ done !
 
     -- what the contract of `read` says of its answer m and of the list after it
     abbrev Said : Answer → List UnitRecord → Type 0

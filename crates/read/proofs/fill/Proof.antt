@@ -25,7 +25,7 @@ use Rattle.walks.proofs.Body.{𝓣of, tests, holds, fails, proved-by}
 use Rattle.walks.proofs.Calls.{calls-value}
 use Rattle.walks.proofs.Loop.{Turns, rounds, loop-by}
 use Rattle.walks.proofs.Frame.{empty, full, Blocks, envOf, laid, enters, clears, leaves}
-use Rattle.walks.proofs.Steps.{var, arg, part, sets, resets-last, lands-in, recasts, in64, sliced, beside, copies}
+use Rattle.walks.proofs.Steps.{var, arg, part, sets, resets-last, lands-in, recasts, in64, sliced, beside, copies, number, joins, fjoins}
 use Rattle.read.specs.Spans.{Fits, stands, nthOf, countFrom, storedFrom}
 use Rattle.read.specs.declared.spans.Span.{Span}
 use Rattle.read.proofs.Fills.{count-over, count-stops, count-goes, count-most, stored-over, stored-stops, stored-goes}
@@ -103,16 +103,16 @@ module _ {M : Type 1} (𝓤 : URA M) (H : Heap 𝓤) (A : Atoms 𝓤) (W : Given
       (vint w64 n) n (tt, (tt, (l, (tt, tt)))) (tt, (tt, (same, (tt, tt))))) $
       says ! (refl, e) $
       -- the tokens
-      move ! (3 ∷ []) $ split ! $ move ! (1 ∷ []) $ let-go ! $ move ! (3 ∷ []) $ nothing ! $ move ! (1 ∷ 0 ∷ []) $ join ! $
-      move ! (1 ∷ 0 ∷ []) $ join ! $ frame ! $
+      move ! (3 ∷ []) $ split ! $ move ! (1 ∷ []) $ let-go ! $ move ! (3 ∷ []) $ nothing ! $ joins ! 0 refl $
+      joins ! 0 refl $ frame ! $
       -- [obs; the borrow; what s owns]: what the list owns, and the span and the place beside it
       fjoin ! $ pureI ! (at-slice U.the-row (x l) (vo ∷ [])) (tt, (tt, tt)) (
         ap (λ (m : ℕ). sliceVal (b, o) m ∷ []) (sym same),
         subst (Room U.the-row)
             (sym same) room,
       ) $ fjoin ! $
-      nothing ! $ beside ! usize (uint-makes 𝓤 H A W w64) start _ (refl, start-fits) $ move ! (1 ∷ 0 ∷ []) $ fjoin ! $
-      beside ! R.the-row (LL.makes R.the-type R′.the-plain 𝓤 H A) r _ is-r $ move ! (1 ∷ 0 ∷ []) $ fjoin ! $
+      nothing ! $ number ! start start-fits $ fjoins ! 0 refl $
+      beside ! R.the-row (LL.makes R.the-type R′.the-plain 𝓤 H A) r _ is-r $ fjoins ! 0 refl $
       frame ! $ owned ! usize (Is usize) (uint-makes 𝓤 H A W w64) n _ (refl, n-fits) $ done !
 
   -- ---- what the callees ask
@@ -121,16 +121,16 @@ module _ {M : Type 1} (𝓤 : URA M) (H : Heap 𝓤) (A : Atoms 𝓤) (W : Given
 
   asks-stands : (j : ℕ) → j < r .most → Sq W ((‵ (flft κ q) ⊛ ‵ ftrue) ∷ ‵ Own ∷ []) (prop (StandsAt .pre (to-stands j)))
   asks-stands j less =
-      says ! (fits, less) $ frame ! $ nothing ! $ beside ! usize (uint-makes 𝓤 H A W w64) j _ (refl, omega (arith, less, most-fits)) $
-      beside ! R.the-row (LL.makes R.the-type R′.the-plain 𝓤 H A) r _ is-r $ move ! (1 ∷ 0 ∷ []) $ fjoin ! $ done !
+      says ! (fits, less) $ frame ! $ nothing ! $ number ! j (omega (arith, less, most-fits)) $
+      beside ! R.the-row (LL.makes R.the-type R′.the-plain 𝓤 H A) r _ is-r $ fjoins ! 0 refl $ done !
 
   abbrev to-nth : ℕ → Nth .Ghost
   to-nth j = (((κ, tt), (q, tt), tt, (s, (r, (j, tt))), (vs ∷ [], (R′.lowered r ∷ [], (vint w64 j ∷ [], tt)))), tt)
 
   asks-nth : (j : ℕ) → j < r .most → Sq W ((‵ (flft κ q) ⊛ ‵ ftrue) ∷ ‵ Own ∷ []) (prop (Nth .pre (to-nth j)))
   asks-nth j less =
-      says ! (fits, less) $ frame ! $ nothing ! $ beside ! usize (uint-makes 𝓤 H A W w64) j _ (refl, omega (arith, less, most-fits)) $
-      beside ! R.the-row (LL.makes R.the-type R′.the-plain 𝓤 H A) r _ is-r $ move ! (1 ∷ 0 ∷ []) $ fjoin ! $ done !
+      says ! (fits, less) $ frame ! $ nothing ! $ number ! j (omega (arith, less, most-fits)) $
+      beside ! R.the-row (LL.makes R.the-type R′.the-plain 𝓤 H A) r _ is-r $ fjoins ! 0 refl $ done !
 
   -- ---- the loop: its variant is how many units are passed, how many may follow, the list, and what is known of them
   record Known (j m : ℕ) (l : List UnitRecord) : Type 0 where

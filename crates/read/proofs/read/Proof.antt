@@ -5,11 +5,11 @@
 use Rattle.walks.proofs.Names.{_≡_, refl, sym, _∙_, ap, subst, ℕ, _+_, _-_, _*_, _≤_, _<_, _^_, zero-le, [], _∷_, List, length, URA, fullShare, named}
 use Rattle.walks.proofs.Names.{w64, Val, vint, SProp, ent, emp, via, fst∗, id⊢, Lft, Share, GName, Fml, ftrue, flft, Memory, Routine, Heap, Env, WpFn}
 use Rattle.walks.proofs.Names.{Tables, Atoms, Fun, givenOf, Given, Item, ‵, raw, _⊛_, prop, runs, atRet, Sq, _$_, _∵_, !, qed, move, keep, let-go}
-use Rattle.walks.proofs.Names.{use0, use1, use2, split, join, rewrite, fsplit, fjoin, suffices, frame, done, look, store, forget, stop, from, lit}
-use Rattle.walks.proofs.Names.{of-opd, bin, no-more, assigns-last, land, returns, exec, FmC, fmOf, owns, Is, uint-makes, uint-vals, uint-tells}
-use Rattle.walks.proofs.Names.{uint-lawful, u8, usize, RefT, sliceVal, ShrSlice, MutSlice, Room, finally, slice-vals, shr-slice-tells}
-use Rattle.walks.proofs.Names.{mut-slice-tells, owned, nothing, plain, onEntry, tripleOf, Contract, Triple, cited, says, Stays, stay-none-slice}
-use Rattle.walks.proofs.Names.{stay-slice, walkOf, goes-none-slice, goes-slice, ends-at, yes}
+use Rattle.walks.proofs.Names.{use0, use1, use2, split, join, rewrite, fsplit, suffices, frame, done, look, store, forget, stop, from, lit, of-opd}
+use Rattle.walks.proofs.Names.{bin, no-more, assigns-last, land, returns, exec, FmC, fmOf, owns, Is, uint-vals, uint-tells, uint-lawful, u8, usize}
+use Rattle.walks.proofs.Names.{RefT, sliceVal, ShrSlice, MutSlice, Room, finally, slice-vals, shr-slice-tells, mut-slice-tells, owned, nothing, plain}
+use Rattle.walks.proofs.Names.{onEntry, tripleOf, Contract, Triple, cited, says, Stays, stay-none-slice, stay-slice, walkOf, goes-none-slice}
+use Rattle.walks.proofs.Names.{goes-slice, ends-at, yes}
 use native.Mathlib.Nat.{le-antisymm}
 use native.Mathlib.Omega.{arith}
 use lib.Dec.{ltb→lt, nltb→le, lit<}
@@ -26,7 +26,8 @@ use Rattle.walks.proofs.Calls.{calls-value, gave-one}
 use Rattle.walks.proofs.Lent.{calls-lent, Beside, back-beside}
 use Rattle.walks.proofs.Loop.{Turns, rounds, loop-by}
 use Rattle.walks.proofs.Frame.{empty, full, Blocks, envOf, laid, enters, clears, leaves}
-use Rattle.walks.proofs.Steps.{var, arg, part, sets, lands-in, recasts, behind, resliced, in64, sliced, beside, copies, past, front}
+use Rattle.walks.proofs.Steps.{var, arg, part, sets, lands-in, recasts, behind, resliced, in64, sliced, beside, copies, past, front, number, joins}
+use Rattle.walks.proofs.Steps.{fjoins}
 use Rattle.walks.proofs.Filling.{length-fill}
 use Rattle.cursor.specs.Cursor.{first}
 use Rattle.read.specs.Spans.{ones, spanOf, movedOf, countFrom, storedFrom}
@@ -125,9 +126,9 @@ module _ {M : Type 1} (𝓤 : URA M) (H : Heap 𝓤) (A : Atoms 𝓤) (W : Given
       (N′.lowered ans) ans (tt, (got xs ys n, tt)) (tt, (same n, tt))) $
       says ! (refl, filled xs ys) $
       -- the tokens
-      nothing ! $ move ! (4 ∷ 0 ∷ []) $ join ! $ move ! (1 ∷ 0 ∷ []) $ join ! $ frame ! $
+      nothing ! $ joins ! 3 refl $ joins ! 0 refl $ frame ! $
       -- [what s owns; the list]
-      nothing ! $ move ! (2 ∷ 0 ∷ []) $ fjoin ! $ move ! (1 ∷ 0 ∷ []) $ fjoin ! $
+      nothing ! $ fjoins ! 1 refl $ fjoins ! 0 refl $
       frame ! $ owned ! N.the-row (Is N.the-row) (LL.makes N.the-type N′.the-plain 𝓤 H A) ans _ is $ done !
 
   -- ---- what the callees ask and give
@@ -142,8 +143,8 @@ module _ {M : Type 1} (𝓤 : URA M) (H : Heap 𝓤) (A : Atoms 𝓤) (W : Given
 
   asks-answer : Sq W (‵ (flft κ q) ∷ ‵ Own ∷ []) (prop (Answers .pre to-answer))
   asks-answer =
-      nothing ! $ move ! (1 ∷ 0 ∷ []) $ join ! $ move ! (1 ∷ []) $ nothing ! $ beside ! usize (uint-makes 𝓤 H A W w64) (length ys) _ (refl, room .0) $
-      move ! (1 ∷ 0 ∷ []) $ fjoin ! $ move ! (1 ∷ 0 ∷ []) $ join ! $ frame ! $ done !
+      nothing ! $ joins ! 0 refl $ move ! (1 ∷ []) $ nothing ! $ number ! (length ys) (room .0) $
+      fjoins ! 0 refl $ joins ! 0 refl $ frame ! $ done !
 
   abbrev to-stored : Stored .Ghost
   to-stored = ((tt, tt, tt, (ans, tt), (N′.lowered ans ∷ [], tt)), tt)
@@ -168,9 +169,8 @@ module _ {M : Type 1} (𝓤 : URA M) (H : Heap 𝓤) (A : Atoms 𝓤) (W : Given
 
   asks-span : (i : ℕ) → IsK (cur xs ys i) → n - i < 2 ^ 64 → Sq W (‵ (flft κ q) ∷ ‵ Own ∷ []) (prop (SpanAt .pre (to-span i)))
   asks-span i is fits =
-      nothing ! $ move ! (1 ∷ 0 ∷ []) $ join ! $ move ! (1 ∷ []) $ nothing ! $ beside ! usize (uint-makes 𝓤 H A W w64) (n - i) _ (refl, fits) $
-      beside ! K.the-row (LL.makes K.the-type K′.the-plain 𝓤 H A) (cur xs ys i) _ is $ move ! (1 ∷ 0 ∷ []) $ fjoin ! $ move ! (1 ∷ 0 ∷ []) $
-      join ! $ frame ! $ done !
+      nothing ! $ joins ! 0 refl $ move ! (1 ∷ []) $ nothing ! $ number ! (n - i) fits $
+      beside ! K.the-row (LL.makes K.the-type K′.the-plain 𝓤 H A) (cur xs ys i) _ is $ fjoins ! 0 refl $ joins ! 0 refl $ frame ! $ done !
 
   abbrev Left : ℕ → List UnitRecord → Type 0
   Left i l = l ≡ storedFrom xs (span i) i (span i .most) 0 (got xs ys i)
@@ -192,10 +192,10 @@ module _ {M : Type 1} (𝓤 : URA M) (H : Heap 𝓤) (A : Atoms 𝓤) (W : Given
       (vo ∷ [])) ∷ []) (prop (Fill .pre (to-fill i ν δ)))
   asks-fill i is fits left ν δ =
       says ! (span-fits xs (cur xs ys i) (n - i), left) $
-      split ! $ nothing ! $ move ! (3 ∷ 0 ∷ []) $ join ! $ move ! (1 ∷ 0 ∷ []) $ join ! $
+      split ! $ nothing ! $ joins ! 2 refl $ joins ! 0 refl $
       -- [the tokens; what s owns; the list]
-      frame ! $ nothing ! $ beside ! usize (uint-makes 𝓤 H A W w64) i _ (refl, fits) $ move ! (2 ∷ 0 ∷ []) $ fjoin ! $
-      beside ! R.the-row (LL.makes R.the-type R′.the-plain 𝓤 H A) (span i) _ is $ move ! (1 ∷ 0 ∷ []) $ fjoin ! $ done !
+      frame ! $ nothing ! $ number ! i fits $ fjoins ! 1 refl $
+      beside ! R.the-row (LL.makes R.the-type R′.the-plain 𝓤 H A) (span i) _ is $ fjoins ! 0 refl $ done !
 
   abbrev to-moved : ℕ → Moved .Ghost
   to-moved i = ((tt, tt, tt, (span i, (count i, tt)), (R′.lowered (span i) ∷ [], (vint w64 (count i) ∷ [], tt))), tt)
@@ -209,7 +209,7 @@ module _ {M : Type 1} (𝓤 : URA M) (H : Heap 𝓤) (A : Atoms 𝓤) (W : Given
 
   asks-moved : (i : ℕ) → IsR (span i) → count i < 2 ^ 64 → Sq W [] (prop (Moved .pre (to-moved i)))
   asks-moved i is fits =
-      says ! (place-fits i) $ nothing ! $ beside ! usize (uint-makes 𝓤 H A W w64) (count i) _ (refl, fits) $
+      says ! (place-fits i) $ nothing ! $ number ! (count i) fits $
       beside ! R.the-row (LL.makes R.the-type R′.the-plain 𝓤 H A) (span i) _ is $ nothing ! $ frame ! $ done !
 
   -- ---- the loop: its variant is a turn's number with what is known there
@@ -282,7 +282,7 @@ module _ {M : Type 1} (𝓤 : URA M) (H : Heap 𝓤) (A : Atoms 𝓤) (W : Given
         -- the list is borrowed again, and `fill` stores the units
         sets ! 6 (behind ! 26 refl refl) refl (tt, tt) $
         sets ! 4 (resliced ! 6 26 refl refl refl) refl (sliced (room .0)) $
-        move ! (1 ∷ []) $ copies ! (named 0) κ u8 s (vs ∷ []) $ move ! (2 ∷ 0 ∷ []) $ join ! $ move ! (0 ∷ 2 ∷ 3 ∷ []) $
+        move ! (1 ∷ []) $ copies ! (named 0) κ u8 s (vs ∷ []) $ joins ! 1 refl $ move ! (0 ∷ 2 ∷ 3 ∷ []) $
         calls-lent ! fm Fill known-fill U.the-row κ′ q′ (named 1) γ b o (length ys) (got xs ys (i .0)) room (same (i .0))
         (to-fill (i .0)) (‵ (flft κ q) ⊛ ‵ Own) (‵ (flft κ q)) (vint w64 (count (i .0))) (Left (i .0))
         (λ l e. ap length (e ∙ list-next xs ys (short (i .0) less) (i .0) (n - i .0) (left-most (i .0) less)) ∙ same (i .0 + count (i .0)))

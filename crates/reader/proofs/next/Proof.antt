@@ -18,7 +18,7 @@ use Rattle.state.proofs.State.Laws as S′
 use Rattle.walks.proofs.Body.{𝓣of, proved-by}
 use Rattle.walks.proofs.Calls.{calls-value}
 use Rattle.walks.proofs.Frame.{enters, leaves}
-use Rattle.walks.proofs.Steps.{arg, part, sets, lands-in, beside}
+use Rattle.walks.proofs.Steps.{arg, part, sets, lands-in, beside, number, joins, fjoins}
 use Rattle.reader.specs.Reader.{stepOf, moved}
 use Rattle.reader.specs.declared.Reader.{Reader}
 use Rattle.reader.specs.declared.Stepped.{Stepped}
@@ -102,10 +102,10 @@ module _ {M : Type 1} (𝓤 : URA M) (H : Heap 𝓤) (A : Atoms 𝓤) (W : Given
     asks : h .place < 2 ^ 64 → h .count < 2 ^ 64 → Is S.the-row (h .state) (S′.lowered (h .state) ∷ [])
         → Sq W (‵ (flft κ′ q′) ∷ ‵ Octets ∷ []) (prop (Steps 𝓤 H A at-mem run .pre to))
     asks place-fits count-fits is =
-        nothing ! $ move ! (1 ∷ 0 ∷ []) $ join ! $ move ! (1 ∷ []) $
+        nothing ! $ joins ! 0 refl $ move ! (1 ∷ []) $
         nothing ! $ beside ! S.the-row (LL.makes S.the-type S′.the-plain 𝓤 H A) (h .state) _ is $
-        beside ! usize (uint-makes 𝓤 H A W w64) (h .count) _ (refl, count-fits) $
-        beside ! usize (uint-makes 𝓤 H A W w64) (h .place) _ (refl, place-fits) $ move ! (1 ∷ 0 ∷ []) $ fjoin ! $ move ! (1 ∷ 0 ∷ []) $ join ! $
+        number ! (h .count) count-fits $
+        number ! (h .place) place-fits $ fjoins ! 0 refl $ joins ! 0 refl $
         frame ! $ done !
 
     exits : Is I.the-row (g .item) (item ∷ [])
@@ -115,7 +115,7 @@ module _ {M : Type 1} (𝓤 : URA M) (H : Heap 𝓤) (A : Atoms 𝓤) (W : Given
         suffices ! _ (ends-at 𝓤 H A next.ended stayed (next.clauses 𝓤 H A at-mem run) W (((κ, (κ′, tt)), (q, (q′, tt)), bounds, a, vals), tt) item
         (g .item) (h′, tt) (tt, tt)) $ says ! (refl, refl) $
         move ! (2 ∷ 3 ∷ []) $ join ! $ frame ! $ feqI ! (List Val) (vptr b o ∷ []) (vptr b o ∷ []) refl $ fjoin3 ! $ nothing ! $
-        move ! (1 ∷ 0 ∷ []) $ fjoin ! $ frame ! $
+        fjoins ! 0 refl $ frame ! $
         owned ! I.the-row (Is I.the-row) (EL.makes I.the-type I′.the-plain 𝓤 H A) (g .item) _ is $ done !
 
     module _ (C : Calls 𝓤 H) (Λ : Loops 𝓤 H) (fm : FmC 𝓤 H (W .laws) C) (known : Triple 𝓤 (C step.Symbol.name) (Steps 𝓤 H A at-mem run)) where
@@ -164,7 +164,7 @@ module _ {M : Type 1} (𝓤 : URA M) (H : Heap 𝓤) (A : Atoms 𝓤) (W : Given
           owned ! S.the-row (Is S.the-row) (LL.makes S.the-type S′.the-plain 𝓤 H A) (g .state) _ (LL.owed G.the-type G′.the-laws g _ is .1 .1 .0) $
           fjoin ! $
           beside ! usize (uint-makes 𝓤 H A W w64) (g .count) _ (LL.owed G.the-type G′.the-laws g _ is .1 .0) $
-          beside ! usize (uint-makes 𝓤 H A W w64) (g .place) _ (LL.owed G.the-type G′.the-laws g _ is .0) $ move ! (1 ∷ 0 ∷ []) $ fjoin ! $
+          beside ! usize (uint-makes 𝓤 H A W w64) (g .place) _ (LL.owed G.the-type G′.the-laws g _ is .0) $ fjoins ! 0 refl $
           use1 W (‵ (R .own h′ (T′.lowered h′ ∷ []))) (own-shut 𝓤 H A W D L (h .octets, (g .place, (g .count, (g .state, tt))))) $
           move ! (2 ∷ []) $ use1 W (‵ (cellAt fullShare (R .mir) (T′.lowered h′ ∷ []) b o)) (W .laws .at-raw fullShare (T′.mir erased) b o
           (T′.lowered h′)) $

@@ -1,11 +1,11 @@
 -- `reader::open` meets its contract: its code is followed by hand, for it makes a struct that holds a reference. The string can be had
 -- twice, once for the parameter at exit and once inside the reader.
 -- Assumes nothing.
-use Rattle.walks.proofs.Names.{refl, ℕ, List, [], _∷_, length, URA, named, w64, Val, SProp, ent, emp, via, fst∗, Lft, Share, ftrue, flft, Memory, Sq}
-use Rattle.walks.proofs.Names.{prop, Routine, Heap, Calls, Loops, WpFn, Atoms, Fun, givenOf, Given, ‵, raw, _⊛_, _$_, _∵_, !, qed, by, move, fsplit}
-use Rattle.walks.proofs.Names.{fjoin, suffices, frame, agg, look, init, stop, from, lit, false-lit, and-then, no-more, assigns, returns, owns, Is}
-use Rattle.walks.proofs.Names.{uint-makes, u8, usize, RefT, NamedLft, plain, namedLft, sliceVal, ShrSlice, slice-vals, shr-slice-tells}
-use Rattle.walks.proofs.Names.{shr-slice-lawful, nothing, own-shut, onEntry, says, Stays, stay-none-slice, walkOf, goes-none-slice, ends-at, yes}
+use Rattle.walks.proofs.Names.{refl, ℕ, List, [], _∷_, length, URA, named, Val, SProp, ent, emp, via, fst∗, Lft, Share, ftrue, flft, Memory, Sq, prop}
+use Rattle.walks.proofs.Names.{Routine, Heap, Calls, Loops, WpFn, Atoms, Fun, givenOf, Given, ‵, raw, _⊛_, _$_, _∵_, !, qed, by, move, fsplit, fjoin}
+use Rattle.walks.proofs.Names.{suffices, frame, agg, look, init, stop, from, lit, false-lit, and-then, no-more, assigns, returns, owns, Is, u8, RefT}
+use Rattle.walks.proofs.Names.{NamedLft, plain, namedLft, sliceVal, ShrSlice, slice-vals, shr-slice-tells, shr-slice-lawful, nothing, own-shut}
+use Rattle.walks.proofs.Names.{onEntry, says, Stays, stay-none-slice, walkOf, goes-none-slice, ends-at, yes}
 use lib.Dec.{lit<}
 use contract.Running.{tablesOf}
 use denote.Struct.Laws as LL
@@ -19,7 +19,7 @@ use Rattle.state.proofs.directions.Directions as Q
 use Rattle.state.proofs.directions.Directions.Laws as Q′
 use Rattle.walks.proofs.Body.{𝓣of, proved-by}
 use Rattle.walks.proofs.Frame.{enters, leaves}
-use Rattle.walks.proofs.Steps.{arg, sets as puts, beside, copies}
+use Rattle.walks.proofs.Steps.{arg, sets as puts, beside, copies, number, fjoins}
 use Rattle.reader.specs.declared.Reader.{Reader}
 use Rattle.reader.specs.Reader.{opened}
 use Rattle.reader.proofs.Reader as T
@@ -65,8 +65,8 @@ module _ {M : Type 1} (𝓤 : URA M) (H : Heap 𝓤) (A : Atoms 𝓤) (W : Given
       frame ! $ fsplit ! $ copies ! (named 0) κ u8 s (v ∷ []) $ move ! (0 ∷ 2 ∷ []) $ fjoin ! $ frame ! $
       -- [what the string owns]: with what the other fields own it is what the reader owns
       nothing ! $ beside ! S.the-row (LL.makes S.the-type S′.the-plain 𝓤 H A) fresh _ fresh-is $
-      beside ! usize (uint-makes 𝓤 H A W w64) 0 _ (refl, lit< tt) $ beside ! usize (uint-makes 𝓤 H A W w64) 0 _ (refl, lit< tt) $
-      move ! (1 ∷ 0 ∷ []) $ fjoin ! $ by ! (own-shut 𝓤 H A W (T.the-type α) (T′.the-laws α) (s, (0, (0, (fresh, tt)))))
+      number ! 0 (lit< tt) $ number ! 0 (lit< tt) $
+      fjoins ! 0 refl $ by ! (own-shut 𝓤 H A W (T.the-type α) (T′.the-laws α) (s, (0, (0, (fresh, tt)))))
 
   module _ (C : Calls 𝓤 H) (Λ : Loops 𝓤 H) where
     walk : Is (ShrSlice (named 0) κ u8) s (v ∷ [])

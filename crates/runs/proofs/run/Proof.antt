@@ -2,18 +2,18 @@
 -- and the struct is made of them.
 use Rattle.walks.proofs.Names.{_≡_, refl, ℕ, _-_, _<_, _^_, [], _∷_, List, length, take, drop, URA, named, w64, w8, Val, vint, SProp, ent, emp, via}
 use Rattle.walks.proofs.Names.{Sq, prop, fst∗, id⊢, Lft, Share, Fml, ftrue, flft, Memory, Routine, Heap, Calls, Loops, WpFn, Atoms, Fun, givenOf}
-use Rattle.walks.proofs.Names.{Given, ‵, raw, _⊛_, ⋆, _$_, _∵_, !, qed, by, move, keep, use1, use2, split, join, fsplit, fjoin, suffices, frame, done}
-use Rattle.walks.proofs.Names.{look, init, stop, from, and-then, no-more, assigns, returns, agg, FmC, fmOf, owns, Is, uint-makes, uint-vals}
-use Rattle.walks.proofs.Names.{uint-tells, u8, usize, RefT, NamedLft, sliceVal, ShrSlice, slice-vals, shr-slice-tells, shr-slice-lawful}
-use Rattle.walks.proofs.Names.{shr-slice-copy, owned, nothing, Declared, own-shut, onEntry, tripleOf, Contract, Triple, cited, says, Stays, stay-none}
-use Rattle.walks.proofs.Names.{stay-none-slice, walkOf, goes-none, goes-none-slice, Walks, ends-at, walked, yes, plain, namedLft}
+use Rattle.walks.proofs.Names.{Given, ‵, raw, _⊛_, ⋆, _$_, _∵_, !, qed, by, move, keep, use1, use2, split, fsplit, fjoin, suffices, frame, done, look}
+use Rattle.walks.proofs.Names.{init, stop, from, and-then, no-more, assigns, returns, agg, FmC, fmOf, owns, Is, uint-makes, uint-vals, uint-tells, u8}
+use Rattle.walks.proofs.Names.{usize, RefT, NamedLft, sliceVal, ShrSlice, slice-vals, shr-slice-tells, shr-slice-lawful, shr-slice-copy, owned}
+use Rattle.walks.proofs.Names.{nothing, Declared, own-shut, onEntry, tripleOf, Contract, Triple, cited, says, Stays, stay-none, stay-none-slice}
+use Rattle.walks.proofs.Names.{walkOf, goes-none, goes-none-slice, Walks, ends-at, walked, yes, plain, namedLft}
 use contract.Running.{tablesOf}
 use denote.Ref.{now}
 use denote.Struct.Laws as LL
 use Rattle.walks.proofs.Body.{𝓣of, proved}
 use Rattle.walks.proofs.Calls.{calls-value, calls-some}
 use Rattle.walks.proofs.Frame.{enters, leaves}
-use Rattle.walks.proofs.Steps.{arg, part, lands-in, in64, sliced, beside}
+use Rattle.walks.proofs.Steps.{arg, part, lands-in, in64, sliced, beside, number, joins, fjoins}
 use Rattle.base.proofs.Answer as N
 use Rattle.base.proofs.Answer.Laws as N′
 use Rattle.runs.specs.Runs.{runAt, startsAt}
@@ -84,8 +84,8 @@ module _ {M : Type 1} (𝓤 : URA M) (H : Heap 𝓤) (A : Atoms 𝓤) (W : Given
 
   asks-run-at : Sq W ((‵ (flft κ q) ⊛ ‵ ftrue) ∷ ‵ (Own s) ∷ []) (prop (RunAt 𝓤 H A mem run .pre to-run-at))
   asks-run-at =
-      move ! (1 ∷ []) $ nothing ! $ beside ! usize (uint-makes 𝓤 H A W w64) k _ (refl, k-fits) $ move ! (1 ∷ 0 ∷ []) $ fjoin ! $
-      move ! (1 ∷ 0 ∷ []) $ join ! $ frame ! $ done !
+      move ! (1 ∷ []) $ nothing ! $ number ! k k-fits $ fjoins ! 0 refl $
+      joins ! 0 refl $ frame ! $ done !
 
   abbrev to-part : Part 𝓤 H A mem run .Ghost
   to-part = (((κ, tt), (q, tt), tt, (s, (g .start, (g .end, tt))), (v ∷ [], (vint w64 (g .start) ∷ [], (vint w64 (g .end) ∷ [], tt)))), tt)
@@ -94,7 +94,7 @@ module _ {M : Type 1} (𝓤 : URA M) (H : Heap 𝓤) (A : Atoms 𝓤) (W : Given
   asks-part is =
       says ! (run-lies (s .now) k) $ frame ! $ nothing ! $
       beside ! usize (uint-makes 𝓤 H A W w64) (g .end) _ (LL.owed B.the-type B′.the-laws g _ is .1 .0) $
-      beside ! usize (uint-makes 𝓤 H A W w64) (g .start) _ (LL.owed B.the-type B′.the-laws g _ is .0) $ move ! (1 ∷ 0 ∷ []) $ fjoin ! $ done !
+      beside ! usize (uint-makes 𝓤 H A W w64) (g .start) _ (LL.owed B.the-type B′.the-laws g _ is .0) $ fjoins ! 0 refl $ done !
 
   exits : IsG → (r : RefT (List ℕ)) → Is-part r
       → ent 𝓤 (⋆ 𝓤 H A ((‵ (flft κ q) ⊛ ‵ ftrue) ∷ ‵ (Own r) ∷ ‵ (Own s) ∷ [])) (Post (T′.lowered (made r)))
@@ -104,13 +104,12 @@ module _ {M : Type 1} (𝓤 : URA M) (H : Heap 𝓤) (A : Atoms 𝓤) (W : Given
       suffices ! _ (ends-at 𝓤 H A this.ended stayed (this.clauses 𝓤 H A mem run) W (((κ, tt), (q, tt), tt, a, vals), tt) (T′.lowered (made r))
       (made r) (tt, (tt, tt)) (tt, (tt, tt))) $
       says ! (record { part = e .0; place = e .1; answer = refl; set = refl; width = refl; direction = refl }) $ frame ! $
-      nothing ! $ beside ! usize (uint-makes 𝓤 H A W w64) k _ (refl, k-fits) $ move ! (2 ∷ 0 ∷ []) $ fjoin ! $ frame ! $
+      nothing ! $ number ! k k-fits $ fjoins ! 1 refl $ frame ! $
       -- [what the part owns]: with the numbers' facts it is what the struct owns
       nothing ! $ owned ! u8 (Is u8) (uint-makes 𝓤 H A W w8) (g .direction) _ (is-g .1 .1 .1 .1 .1 .0) $ fjoin ! $
       owned ! u8 (Is u8) (uint-makes 𝓤 H A W w8) (g .width) _ (is-g .1 .1 .1 .1 .0) $ fjoin ! $
       owned ! u8 (Is u8) (uint-makes 𝓤 H A W w8) (g .set) _ (is-g .1 .1 .1 .0) $ fjoin ! $
-      owned ! N.the-row (Is N.the-row) (LL.makes N.the-type N′.the-plain 𝓤 H A) (g .answer) _ (is-g .1 .1 .0) $ fjoin ! $ move ! (1 ∷ 0 ∷ []) $
-      fjoin ! $
+      owned ! N.the-row (Is N.the-row) (LL.makes N.the-type N′.the-plain 𝓤 H A) (g .answer) _ (is-g .1 .1 .0) $ fjoin ! $ fjoins ! 0 refl $
       by ! (own-shut 𝓤 H A W D (T′.the-laws α) (r, (g .answer, (g .set, (g .width, (g .direction, tt))))))
 
   module _ (C : Calls 𝓤 H) (Λ : Loops 𝓤 H) (fm : FmC 𝓤 H (W .laws) C) (known-run-at : Triple 𝓤 (C run-at.Symbol.name) (RunAt 𝓤 H A mem run))

@@ -1,17 +1,17 @@
 -- `runs::run_octet` meets its contract: a walk of its code by hand. A local holds the run, and its part is lent to `octet`.
 use Rattle.walks.proofs.Names.{_≡_, refl, ap, ℕ, _<_, _^_, [], _∷_, List, length, getD, URA, named, erased, w64, w8, Val, vint, SProp, ent, emp, via}
 use Rattle.walks.proofs.Names.{Sq, prop, fst∗, id⊢, Lft, Share, Fml, ftrue, flft, Memory, Routine, Heap, Calls, Loops, WpFn, Atoms, Fun, givenOf}
-use Rattle.walks.proofs.Names.{Given, ‵, raw, given, _⊛_, _$_, _∵_, !, qed, move, keep, let-go, use1, use2, split, join, learn, fsplit, fjoin}
-use Rattle.walks.proofs.Names.{suffices, frame, done, look, of-opd, no-more, returns, FmC, fmOf, owns, Is, uint-makes, uint-vals, uint-tells, u8}
-use Rattle.walks.proofs.Names.{usize, RefT, NamedLft, sliceVal, ShrSlice, slice-vals, shr-slice-tells, shr-slice-copy, owned, nothing, Declared}
-use Rattle.walks.proofs.Names.{all-own, ownAt, rest, own-open, own-out, Values, onEntry, tripleOf, Contract, Triple, cited, says, Stays, stay-none}
-use Rattle.walks.proofs.Names.{stay-none-slice, walkOf, goes-none, goes-none-slice, Walks, ends-at, walked, yes, plain, namedLft}
+use Rattle.walks.proofs.Names.{Given, ‵, raw, given, _⊛_, _$_, _∵_, !, qed, move, keep, let-go, use1, use2, split, learn, fsplit, suffices, frame}
+use Rattle.walks.proofs.Names.{done, look, of-opd, no-more, returns, FmC, fmOf, owns, Is, uint-makes, uint-vals, uint-tells, u8, usize, RefT}
+use Rattle.walks.proofs.Names.{NamedLft, sliceVal, ShrSlice, slice-vals, shr-slice-tells, shr-slice-copy, owned, nothing, Declared, all-own, ownAt}
+use Rattle.walks.proofs.Names.{rest, own-open, own-out, Values, onEntry, tripleOf, Contract, Triple, cited, says, Stays, stay-none, stay-none-slice}
+use Rattle.walks.proofs.Names.{walkOf, goes-none, goes-none-slice, Walks, ends-at, walked, yes, plain, namedLft}
 use contract.Running.{tablesOf}
 use denote.Struct.Laws as LL
 use Rattle.walks.proofs.Body.{𝓣of, proved}
 use Rattle.walks.proofs.Calls.{calls-value, calls-some}
 use Rattle.walks.proofs.Frame.{enters, leaves}
-use Rattle.walks.proofs.Steps.{arg, part, sets, lands-in, in64, sliced, beside}
+use Rattle.walks.proofs.Steps.{arg, part, sets, lands-in, in64, sliced, number, joins, fjoins}
 use Rattle.runs.specs.Runs.{Shown}
 use Rattle.runs.specs.declared.view.Run.{Run}
 use Rattle.runs.proofs.view.Run as T
@@ -67,8 +67,8 @@ module _ {M : Type 1} (𝓤 : URA M) (H : Heap 𝓤) (A : Atoms 𝓤) (W : Given
 
   asks-run : Sq W ((‵ (flft κ q) ⊛ ‵ ftrue) ∷ ‵ (Own s) ∷ []) (prop (Asked 𝓤 H A mem run .pre to-run))
   asks-run =
-      move ! (1 ∷ []) $ nothing ! $ beside ! usize (uint-makes 𝓤 H A W w64) k _ (refl, k-fits) $ move ! (1 ∷ 0 ∷ []) $ fjoin ! $
-      move ! (1 ∷ 0 ∷ []) $ join ! $ frame ! $ done !
+      move ! (1 ∷ []) $ nothing ! $ number ! k k-fits $ fjoins ! 0 refl $
+      joins ! 0 refl $ frame ! $ done !
 
   module _ (r : Run) where
     -- the fields' values, and the octet
@@ -86,16 +86,16 @@ module _ {M : Type 1} (𝓤 : URA M) (H : Heap 𝓤) (A : Atoms 𝓤) (W : Given
 
     asks-octet : Sq W ((‵ (flft κ q) ⊛ ‵ ftrue) ∷ ‵ (Own (r .part)) ∷ []) (prop (Octet 𝓤 H A mem run .pre to-octet))
     asks-octet =
-        move ! (1 ∷ []) $ nothing ! $ beside ! usize (uint-makes 𝓤 H A W w64) i _ (refl, i-fits) $ move ! (1 ∷ 0 ∷ []) $ fjoin ! $
-        move ! (1 ∷ 0 ∷ []) $ join ! $ frame ! $ done !
+        move ! (1 ∷ []) $ nothing ! $ number ! i i-fits $ fjoins ! 0 refl $
+        joins ! 0 refl $ frame ! $ done !
 
     exits : Shown s k r → Is u8 x (vint w8 x ∷ []) → Sq W ((‵ (flft κ q) ⊛ ‵ ftrue) ∷ ‵ (Own s) ∷ []) (prop (Post (vint w8 x)))
     exits e is =
         suffices ! _ (ends-at 𝓤 H A this.ended stayed (this.clauses 𝓤 H A mem run) W (((κ, tt), (q, tt), tt, a, vals), tt) (vint w8 x) x
         (tt, (tt, (tt, tt))) (tt, (tt, (tt, tt)))) $
         says ! (ap (λ (l : List ℕ). getD l i 0) (e .part)) $ frame ! $
-        nothing ! $ beside ! usize (uint-makes 𝓤 H A W w64) i _ (refl, i-fits) $ beside ! usize (uint-makes 𝓤 H A W w64) k _ (refl, k-fits) $
-        move ! (1 ∷ 0 ∷ []) $ fjoin ! $ frame ! $
+        nothing ! $ number ! i i-fits $ number ! k k-fits $
+        fjoins ! 0 refl $ frame ! $
         owned ! u8 (Is u8) (uint-makes 𝓤 H A W w8) x _ is $ done !
 
   module _ (C : Calls 𝓤 H) (Λ : Loops 𝓤 H) (fm : FmC 𝓤 H (W .laws) C) (known-run : Triple 𝓤 (C asked.Symbol.name) (Asked 𝓤 H A mem run))

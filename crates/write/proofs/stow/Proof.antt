@@ -6,11 +6,11 @@ use Rattle.walks.proofs.Names.{_≡_, refl, sym, _∙_, ap, subst, ℕ, suc, _+
 use Rattle.walks.proofs.Names.{fullShare, named, w64, Val, vint, vptr, SProp, ent, emp, via, fst∗, id⊢, Lft, Share, GName, Fml, ftrue, flft, Memory}
 use Rattle.walks.proofs.Names.{Routine, Heap, Env, WpFn, Tables, Atoms, Fun, givenOf, let-go, Given, Item, ‵, raw, _⊛_, prop, runs, atRet, Sq, _$_}
 use Rattle.walks.proofs.Names.{_∵_, !, qed, move, keep, use0, split, join, rewrite, fsplit, fjoin, suffices, frame, done, look, look-raw, store}
-use Rattle.walks.proofs.Names.{forget, stop, hop, from, load, lit, of-opd, bin, no-more, land, returns, exec, FmC, fmOf, owns, Is, shows, uint-makes}
-use Rattle.walks.proofs.Names.{uint-vals, uint-tells, uint-lawful, u8, usize, RefT, sliceVal, ShrSlice, MutSlice, Room, finally, slice-vals}
-use Rattle.walks.proofs.Names.{shr-slice-tells, mut-slice-tells, place-is, elem-out, elem-back, looks-slice, shuts-slice, owned, nothing, plain, yes}
-use Rattle.walks.proofs.Names.{onEntry, tripleOf, Contract, Triple, cited, says, Stays, stay-none-slice, stay-slice, walkOf, goes-none-slice}
-use Rattle.walks.proofs.Names.{goes-slice, ends-at}
+use Rattle.walks.proofs.Names.{forget, stop, hop, from, load, lit, of-opd, bin, no-more, land, returns, exec, FmC, fmOf, owns, Is, shows, uint-vals}
+use Rattle.walks.proofs.Names.{uint-tells, uint-lawful, u8, RefT, sliceVal, ShrSlice, MutSlice, Room, finally, slice-vals, shr-slice-tells}
+use Rattle.walks.proofs.Names.{mut-slice-tells, place-is, elem-out, elem-back, looks-slice, shuts-slice, owned, nothing, plain, yes, onEntry}
+use Rattle.walks.proofs.Names.{tripleOf, Contract, Triple, cited, says, Stays, stay-none-slice, stay-slice, walkOf, goes-none-slice, goes-slice}
+use Rattle.walks.proofs.Names.{ends-at}
 use native.Mathlib.Nat.{le-antisymm}
 use native.Mathlib.Numerals.{add-one}
 use native.Mathlib.Omega.{arith}
@@ -28,7 +28,7 @@ use Rattle.walks.proofs.Lent.{calls-lent, Beside, back-beside}
 use Rattle.walks.proofs.Loop.{Turns, rounds, loop-by}
 use Rattle.walks.proofs.Frame.{empty, full, Blocks, envOf, laid, enters, clears, leaves}
 use Rattle.walks.proofs.Steps.{var, arg, part, sets, resets, resets-last, lands-in, recasts, behind, resliced, in64, sliced, beside, copies, past}
-use Rattle.walks.proofs.Steps.{front}
+use Rattle.walks.proofs.Steps.{front, number, joins, fjoins}
 use Rattle.shortest.specs.Offence.{noRecord}
 use Rattle.check_list.specs.Turn.{begun, turnOf, roomAfter, quickUntil, lookedAt}
 use Rattle.check_list.specs.declared.Progress.{Progress}
@@ -141,9 +141,9 @@ module _ {M : Type 1} (𝓤 : URA M) (H : Heap 𝓤) (A : Atoms 𝓤) (W : Given
       (((κ₀, (κ₁, (κ₂, tt))), (q₀, (q₁, (q₂, tt))), tt, a, vals), tt) (mach (at n)) (at n) (tt, (tt, (w, tt))) (tt, (tt, (st .same, tt)))) $
       says ! (refl, st) $
       -- the tokens
-      nothing ! $ move ! (6 ∷ 0 ∷ []) $ join ! $ move ! (3 ∷ 0 ∷ []) $ join ! $ move ! (1 ∷ 0 ∷ []) $ join ! $ frame ! $
+      nothing ! $ joins ! 5 refl $ joins ! 2 refl $ joins ! 0 refl $ frame ! $
       -- [what the units own; what the segments own; the room]
-      nothing ! $ move ! (3 ∷ 0 ∷ []) $ fjoin ! $ move ! (2 ∷ 0 ∷ []) $ fjoin ! $ move ! (1 ∷ 0 ∷ []) $ fjoin ! $ frame ! $
+      nothing ! $ fjoins ! 2 refl $ fjoins ! 1 refl $ fjoins ! 0 refl $ frame ! $
       owned ! P.the-row (Is P.the-row) (EL.makes P.the-type P′.the-plain 𝓤 H A) (at n) _ is $ done !
 
   -- ---- what the callees ask and give
@@ -152,7 +152,7 @@ module _ {M : Type 1} (𝓤 : URA M) (H : Heap 𝓤) (A : Atoms 𝓤) (W : Given
 
   asks-looked : Sq W [] (prop (LookedAt .pre to-looked))
   asks-looked =
-      nothing ! $ beside ! usize (uint-makes 𝓤 H A W w64) (length us) _ (refl, s-room .0) $ nothing ! $ join ! $ frame ! $ done !
+      nothing ! $ number ! (length us) (s-room .0) $ nothing ! $ join ! $ frame ! $ done !
 
   asks-begin : Sq W [] (prop (Begin .pre ((tt, tt, tt, tt, tt), tt)))
   asks-begin =
@@ -184,11 +184,11 @@ module _ {M : Type 1} (𝓤 : URA M) (H : Heap 𝓤) (A : Atoms 𝓤) (W : Given
       → Sq W ((‵ (flft κ₁ q₁) ⊛ ‵ Segments) ∷ ‵ (flft (ν ∷ []) fullShare) ∷
       ‵ (MutSlice (named 0) (ν ∷ []) u8 .own (x δ w) (vw ∷ [])) ∷ []) (prop (Turn .pre (to-turn i w ν δ)))
   asks-turn i w fits is-p is-u ν δ =
-      split ! $ nothing ! $ move ! (3 ∷ 0 ∷ []) $ join ! $ move ! (1 ∷ 0 ∷ []) $ join ! $
+      split ! $ nothing ! $ joins ! 2 refl $ joins ! 0 refl $
       -- [the tokens; what the segments own; the room]
-      nothing ! $ move ! (3 ∷ 0 ∷ []) $ fjoin ! $ move ! (2 ∷ 0 ∷ []) $ fjoin ! $ beside ! usize (uint-makes 𝓤 H A W w64) i _ (refl, fits) $
+      nothing ! $ fjoins ! 2 refl $ fjoins ! 1 refl $ number ! i fits $
       beside ! U.the-row (LL.makes U.the-type U′.the-plain 𝓤 H A) (unit i) _ is-u $
-      beside ! P.the-row (EL.makes P.the-type P′.the-plain 𝓤 H A) (at i) _ is-p $ move ! (1 ∷ 0 ∷ []) $ join ! $ frame ! $ done !
+      beside ! P.the-row (EL.makes P.the-type P′.the-plain 𝓤 H A) (at i) _ is-p $ joins ! 0 refl $ frame ! $ done !
 
   -- where the next turn begins, after record i and the records that then pass quickly, and the room then
   abbrev fin : ℕ → ℕ
@@ -213,11 +213,11 @@ module _ {M : Type 1} (𝓤 : URA M) (H : Heap 𝓤) (A : Atoms 𝓤) (W : Given
       → Sq W ((‵ (flft κ₀ q₀) ⊛ ‵ Units) ∷ ‵ (flft (ν ∷ []) fullShare) ∷
       ‵ (MutSlice (named 0) (ν ∷ []) u8 .own (x δ w) (vw ∷ [])) ∷ []) (prop (Quickly .pre (to-quickly i w ν δ)))
   asks-quickly i w less is-p ν δ =
-      says ! (less, looked-most (length us)) $ split ! $ nothing ! $ move ! (3 ∷ 0 ∷ []) $ join ! $ move ! (1 ∷ 0 ∷ []) $ join ! $ frame ! $
+      says ! (less, looked-most (length us)) $ split ! $ nothing ! $ joins ! 2 refl $ joins ! 0 refl $ frame ! $
       -- [what the units own; the room]
-      nothing ! $ move ! (2 ∷ 0 ∷ []) $ fjoin ! $ beside ! usize (uint-makes 𝓤 H A W w64) n _ (refl, n-fits) $
-      beside ! usize (uint-makes 𝓤 H A W w64) (suc i) _ (refl, omega (arith, less, n-fits)) $
-      move ! (1 ∷ 0 ∷ []) $ fjoin ! $ owned ! P.the-row (Is P.the-row) (EL.makes P.the-type P′.the-plain 𝓤 H A) (at (suc i)) _ is-p $ fjoin ! $ done !
+      nothing ! $ fjoins ! 1 refl $ number ! n n-fits $
+      number ! (suc i) (omega (arith, less, n-fits)) $
+      fjoins ! 0 refl $ owned ! P.the-row (Is P.the-row) (EL.makes P.the-type P′.the-plain 𝓤 H A) (at (suc i)) _ is-p $ fjoin ! $ done !
 
   -- ---- the loop: its variant is a turn's number, the room, and what is known of them
   abbrev Going : Type 0
@@ -293,7 +293,7 @@ module _ {M : Type 1} (𝓤 : URA M) (H : Heap 𝓤) (A : Atoms 𝓤) (W : Given
         sets ! 12 (behind ! 32 refl refl) refl (tt, tt) $
         sets ! 10 (resliced ! 12 32 refl refl refl) refl (sliced (room .0)) $
         -- the call of `turn`
-        move ! (3 ∷ []) $ copies ! (named 1) κ₁ u8 t (vt ∷ []) $ move ! (4 ∷ 0 ∷ []) $ join ! $ move ! (0 ∷ 4 ∷ 5 ∷ []) $
+        move ! (3 ∷ []) $ copies ! (named 1) κ₁ u8 t (vt ∷ []) $ joins ! 3 refl $ move ! (0 ∷ 4 ∷ 5 ∷ []) $
         calls-lent ! fm Turn known-turn u8 κ₂ q₂ (named 2) γ b o (length ys) (g .1 .0) room (g .1 .1 .1 .0 .same)
         (to-turn (g .0) (g .1 .0)) (‵ (flft κ₁ q₁) ⊛ ‵ Segments) (‵ (flft κ₁ q₁)) (mach (next (g .0))) (Left (g .0) (g .1 .0)) (λ l e.
         ap length e ∙ length-room (next (g .0)) (unit (g .0)) (g .0) (g .1 .0) ∙ g .1 .1 .1 .0 .same)
@@ -313,7 +313,7 @@ module _ {M : Type 1} (𝓤 : URA M) (H : Heap 𝓤) (A : Atoms 𝓤) (W : Given
         sets ! 8 (behind ! 32 refl refl) refl (tt, tt) $
         sets ! 6 (resliced ! 8 32 refl refl refl) refl (sliced (room .0)) $
         -- the call of `stow_quickly`
-        move ! (5 ∷ []) $ copies ! (named 0) κ₀ U.the-row s (vs ∷ []) $ move ! (6 ∷ 0 ∷ []) $ join ! $ move ! (0 ∷ 3 ∷ 4 ∷ []) $
+        move ! (5 ∷ []) $ copies ! (named 0) κ₀ U.the-row s (vs ∷ []) $ joins ! 5 refl $ move ! (0 ∷ 3 ∷ 4 ∷ []) $
         calls-lent ! fm Quickly known-quickly u8 κ₂ q₂ (named 2) γ b o (length ys) (turned g) room (length-room (next (g .0)) (unit (g .0)) (g .0)
         (g .1 .0) ∙ g .1 .1 .1 .0 .same)
         (to-quickly (g .0) (turned g)) (‵ (flft κ₀ q₀) ⊛ ‵ Units) (‵ (flft κ₀ q₀)) (vint w64 (fin (g .0))) (Kept (g .0) (turned g)) (λ l k.

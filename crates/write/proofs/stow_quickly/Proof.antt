@@ -5,8 +5,8 @@
 use Rattle.walks.proofs.Names.{_≡_, refl, sym, _∙_, ap, subst, ℕ, suc, _+_, _-_, _*_, _≤_, _<_, _^_, true, false, [], _∷_, List, length, getD, URA}
 use Rattle.walks.proofs.Names.{fullShare, named, w64, Val, vint, vptr, SProp, ent, id⊢, Lft, Share, GName, Fml, ftrue, flft, Memory, Routine, Heap}
 use Rattle.walks.proofs.Names.{Env, WpFn, Tables, Atoms, Fun, givenOf, let-go, Given, Item, ‵, raw, _⊛_, prop, runs, atRet, Sq, _$_, _∵_, !, qed}
-use Rattle.walks.proofs.Names.{move, keep, use0, split, join, rewrite, fsplit, fjoin, suffices, frame, done, look, look-raw, stop, hop, from, load}
-use Rattle.walks.proofs.Names.{lit, of-opd, bin, no-more, branches, returns, exec, FmC, fmOf, owns, Is, shows, bool-vals, bool-tells, uint-makes}
+use Rattle.walks.proofs.Names.{move, keep, use0, split, join, rewrite, fsplit, suffices, frame, done, look, look-raw, stop, hop, from, load, lit}
+use Rattle.walks.proofs.Names.{of-opd, bin, no-more, branches, returns, exec, FmC, fmOf, owns, Is, shows, bool-vals, bool-tells, uint-makes}
 use Rattle.walks.proofs.Names.{uint-vals, uint-tells, uint-lawful, u8, usize, RefT, sliceVal, ShrSlice, MutSlice, Room, finally, slice-vals}
 use Rattle.walks.proofs.Names.{shr-slice-tells, mut-slice-tells, place-is, elem-out, elem-back, looks-slice, shuts-slice, owned, nothing, plain, yes}
 use Rattle.walks.proofs.Names.{onEntry, tripleOf, Contract, Triple, cited, says, needs, Stays, stay-none, stay-none-slice, stay-slice, walkOf}
@@ -28,6 +28,7 @@ use Rattle.walks.proofs.Lent.{calls-lent, Alone, back-alone}
 use Rattle.walks.proofs.Loop.{Turns, rounds, loop-by}
 use Rattle.walks.proofs.Frame.{empty, full, Blocks, envOf, laid, enters, clears, leaves}
 use Rattle.walks.proofs.Steps.{var, arg, part, sets, resets-last, lands-in, recasts, behind, resliced, in64, sliced, beside, copies, past, front}
+use Rattle.walks.proofs.Steps.{number, joins, fjoins}
 use Rattle.shortest.specs.Offence.{noRecord}
 use Rattle.rows.specs.Rows.{withRecord}
 use Rattle.check_list.specs.Plain.{plainOf}
@@ -128,11 +129,11 @@ module _ {M : Type 1} (𝓤 : URA M) (H : Heap 𝓤) (A : Atoms 𝓤) (W : Given
       (((κ₀, (κ₁, tt)), (q₀, (q₁, tt)), tt, a, vals), tt) (vint w64 fin) fin (tt, (tt, (tt, (tt, (w, tt))))) (tt, (tt, (tt, (tt, (st .same, tt)))))) $
       says ! (refl, st) $
       -- the tokens
-      nothing ! $ move ! (4 ∷ 0 ∷ []) $ join ! $ move ! (1 ∷ 0 ∷ []) $ join ! $ frame ! $
+      nothing ! $ joins ! 3 refl $ joins ! 0 refl $ frame ! $
       -- [what the units own; the room]
-      nothing ! $ move ! (2 ∷ 0 ∷ []) $ fjoin ! $ beside ! usize (uint-makes 𝓤 H A W w64) n _ (refl, n-fits) $
-      beside ! usize (uint-makes 𝓤 H A W w64) i₀ _ (refl, i₀-fits) $
-      move ! (1 ∷ 0 ∷ []) $ fjoin ! $ beside ! P.the-row (EL.makes P.the-type P′.the-plain 𝓤 H A) p _ is-p $ frame ! $
+      nothing ! $ fjoins ! 1 refl $ number ! n n-fits $
+      number ! i₀ i₀-fits $
+      fjoins ! 0 refl $ beside ! P.the-row (EL.makes P.the-type P′.the-plain 𝓤 H A) p _ is-p $ frame ! $
       owned ! usize (Is usize) (uint-makes 𝓤 H A W w64) fin _ (refl, fin-fits) $ done !
 
   -- ---- what the callees ask and give
@@ -141,7 +142,7 @@ module _ {M : Type 1} (𝓤 : URA M) (H : Heap 𝓤) (A : Atoms 𝓤) (W : Given
 
   asks-until : Sq W [] (prop (QuickUntil .pre to-until))
   asks-until =
-      nothing ! $ beside ! usize (uint-makes 𝓤 H A W w64) n _ (refl, n-fits) $ beside ! usize (uint-makes 𝓤 H A W w64) i₀ _ (refl, i₀-fits) $
+      nothing ! $ number ! n n-fits $ number ! i₀ i₀-fits $
       beside ! P.the-row (EL.makes P.the-type P′.the-plain 𝓤 H A) p _ is-p $ nothing ! $ join ! $ frame ! $ done !
 
   abbrev IsU : ℕ → Type 0
@@ -167,10 +168,10 @@ module _ {M : Type 1} (𝓤 : URA M) (H : Heap 𝓤) (A : Atoms 𝓤) (W : Given
       → Sq W (‵ ftrue ∷ ‵ (flft (ν ∷ []) fullShare) ∷ ‵ (MutSlice (named 0) (ν ∷ []) u8 .own (x δ w) (vw ∷ [])) ∷ [])
       (prop (QuickTurn .pre (to-turn i w ν δ)))
   asks-turn i w fits is-u ν δ =
-      let-go ! $ nothing ! $ move ! (1 ∷ 0 ∷ []) $ join ! $
+      let-go ! $ nothing ! $ joins ! 0 refl $
       -- [the token; the room]
-      nothing ! $ move ! (2 ∷ 0 ∷ []) $ fjoin ! $ beside ! usize (uint-makes 𝓤 H A W w64) i _ (refl, fits) $
-      beside ! U.the-row (LL.makes U.the-type U′.the-plain 𝓤 H A) (unit i) _ is-u $ move ! (1 ∷ 0 ∷ []) $ join ! $ frame ! $ done !
+      nothing ! $ fjoins ! 1 refl $ number ! i fits $
+      beside ! U.the-row (LL.makes U.the-type U′.the-plain 𝓤 H A) (unit i) _ is-u $ joins ! 0 refl $ frame ! $ done !
 
   -- ---- the loop: its variant is a turn's number, the end, the room, and what is known of them
   record Known (i end : ℕ) (w : List ℕ) : Type 0 where

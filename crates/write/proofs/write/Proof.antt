@@ -4,10 +4,10 @@
 use Rattle.walks.proofs.Names.{_≡_, refl, _∙_, ℕ, [], _∷_, List, length, URA, fullShare, named, w64, Val, vint, SProp, ent, emp, sep, ex, guard, via}
 use Rattle.walks.proofs.Names.{Sq, prop, fst∗, id⊢, Lft, Share, GName, Fml, ftrue, fsep, flft, Memory, Routine, Heap, Calls, Loops, WpFn, Atoms, sem}
 use Rattle.walks.proofs.Names.{Fun, fact, givenOf, Given, ‵, raw, _⊛_, _$_, _∵_, !, qed, move, keep, use1, use2, split, join, feqL, fsplit, fjoin}
-use Rattle.walks.proofs.Names.{check, show, suffices, frame, done, look, of-opd, no-more, returns, FmC, fmOf, owns, Is, uint-makes, u8, usize, RefT}
-use Rattle.walks.proofs.Names.{sliceVal, ShrSlice, MutSlice, Room, finally, slice-vals, shr-slice-tells, mut-slice-tells, owned, heard, nothing}
-use Rattle.walks.proofs.Names.{plain, yes, onEntry, tripleOf, Contract, Triple, Lasts, lasts, cited, says, Stays, stay-none-slice, gave-slice, walkOf}
-use Rattle.walks.proofs.Names.{goes-none-slice, goes-gave-slice, ends-at}
+use Rattle.walks.proofs.Names.{check, show, suffices, frame, done, look, of-opd, no-more, returns, FmC, fmOf, owns, Is, u8, RefT, sliceVal, ShrSlice}
+use Rattle.walks.proofs.Names.{MutSlice, Room, finally, slice-vals, shr-slice-tells, mut-slice-tells, owned, heard, nothing, plain, yes, onEntry}
+use Rattle.walks.proofs.Names.{tripleOf, Contract, Triple, Lasts, lasts, cited, says, Stays, stay-none-slice, gave-slice, walkOf, goes-none-slice}
+use Rattle.walks.proofs.Names.{goes-gave-slice, ends-at}
 use contract.Running.{tablesOf}
 use denote.Enum.Laws as EL
 use denote.Struct.Laws as LL
@@ -20,7 +20,7 @@ use Rattle.walks.proofs.Body.{𝓣of, proved-by}
 use Rattle.walks.proofs.Calls.{calls-ends, gave-one}
 use Rattle.walks.proofs.Lent.{calls-lent, Beside, back-beside}
 use Rattle.walks.proofs.Frame.{enters, leaves}
-use Rattle.walks.proofs.Steps.{arg, part, sets, lands-in, behind, resliced, in64, sliced, beside, copies, past, front}
+use Rattle.walks.proofs.Steps.{arg, part, sets, lands-in, behind, resliced, in64, sliced, beside, copies, past, front, number, joins, fjoins}
 use Rattle.shortest.specs.Records.{writerAnswer, writerOutput}
 use Rattle.check_list.specs.Turn.{lookedAt}
 use Rattle.check_list.specs.declared.Progress.{Progress}
@@ -144,8 +144,8 @@ module _ {M : Type 1} (𝓤 : URA M) (H : Heap 𝓤) (A : Atoms 𝓤) (W : Given
       -- the tokens
       move ! (1 ∷ 4 ∷ []) $ join ! $ frame ! $
       -- [the last lists; what the units own; what the segments own]
-      fsplit ! $ move ! (1 ∷ []) $ nothing ! $ move ! (1 ∷ 0 ∷ []) $ fjoin ! $ move ! (1 ∷ 0 ∷ []) $ fjoin ! $ move ! (2 ∷ 0 ∷ []) $ fjoin ! $
-      move ! (1 ∷ 0 ∷ []) $ fjoin ! $ frame ! $
+      fsplit ! $ move ! (1 ∷ []) $ nothing ! $ fjoins ! 0 refl $ fjoins ! 0 refl $ fjoins ! 1 refl $
+      fjoins ! 0 refl $ frame ! $
       owned ! N.the-row (Is N.the-row) (LL.makes N.the-type N′.the-plain 𝓤 H A) ans _ is $ done !
 
   -- ---- `stow`
@@ -167,9 +167,8 @@ module _ {M : Type 1} (𝓤 : URA M) (H : Heap 𝓤) (A : Atoms 𝓤) (W : Given
   asks-stow ν δ =
       split ! $ split ! $ move ! (2 ∷ []) $ split ! $
       -- [the token of the segments; what they own; the token of the units; what they own; the room's token; the room]
-      nothing ! $ move ! (5 ∷ 0 ∷ []) $ join ! $ move ! (1 ∷ 0 ∷ []) $ join ! $ move ! (2 ∷ 0 ∷ []) $ join ! $
-      nothing ! $ move ! (4 ∷ 0 ∷ []) $ fjoin ! $ move ! (2 ∷ 0 ∷ []) $ fjoin ! $ move ! (2 ∷ 0 ∷ []) $ fjoin ! $ move ! (1 ∷ 0 ∷ []) $
-      join ! $ frame ! $ done !
+      nothing ! $ joins ! 4 refl $ joins ! 0 refl $ joins ! 1 refl $
+      nothing ! $ fjoins ! 3 refl $ fjoins ! 1 refl $ fjoins ! 1 refl $ joins ! 0 refl $ frame ! $ done !
 
   abbrev Back : ℕ → SProp 𝓤
   Back ν = sep 𝓤 (A .lft κ₀ q₀) (Beside W κ₁ q₁ ν)
@@ -178,7 +177,7 @@ module _ {M : Type 1} (𝓤 : URA M) (H : Heap 𝓤) (A : Atoms 𝓤) (W : Given
       (prop (sep 𝓤 (sep 𝓤 (A .lft κ₀ q₀) (A .lft κ₁ q₁)) (A .lft (ν ∷ []) fullShare)))
   back-stow ν =
       move ! (1 ∷ []) $
-      use1 W (‵ (flft κ₁ q₁) ⊛ ‵ (flft (ν ∷ []) fullShare)) (back-beside W κ₁ q₁ ν) $ split ! $ move ! (2 ∷ 0 ∷ []) $ join ! $ done !
+      use1 W (‵ (flft κ₁ q₁) ⊛ ‵ (flft (ν ∷ []) fullShare)) (back-beside W κ₁ q₁ ν) $ split ! $ joins ! 1 refl $ done !
 
   -- ---- `finish`
   abbrev to-finish : List ℕ → Finish .Ghost
@@ -199,9 +198,9 @@ module _ {M : Type 1} (𝓤 : URA M) (H : Heap 𝓤) (A : Atoms 𝓤) (W : Given
   asks-finish w is =
       move ! (1 ∷ []) $ split ! $ move ! (1 ∷ []) $ split ! $
       -- [the room; the output; what the segments own; the tokens]
-      nothing ! $ move ! (2 ∷ 0 ∷ []) $ fjoin ! $ move ! (1 ∷ 0 ∷ []) $ fjoin ! $ move ! (1 ∷ 0 ∷ []) $ fjoin ! $
-      beside ! usize (uint-makes 𝓤 H A W w64) (length us) _ (refl, s-room .0) $
-      beside ! P.the-row (EL.makes P.the-type P′.the-plain 𝓤 H A) p _ is $ move ! (1 ∷ 0 ∷ []) $ join ! $ frame ! $ done !
+      nothing ! $ fjoins ! 1 refl $ fjoins ! 0 refl $ fjoins ! 0 refl $
+      number ! (length us) (s-room .0) $
+      beside ! P.the-row (EL.makes P.the-type P′.the-plain 𝓤 H A) p _ is $ joins ! 0 refl $ frame ! $ done !
 
   abbrev Finished : List ℕ → Answer → Z → Type 0
   Finished w m z = (m ≡ finishAnswer p (length us) os w (length zs)) × (z .1 ≡ finishOutput p (length us) os w zs) × (length (z .0) ≡ length w)
@@ -235,8 +234,8 @@ module _ {M : Type 1} (𝓤 : URA M) (H : Heap 𝓤) (A : Atoms 𝓤) (W : Given
         sets ! 12 (behind ! 18 refl refl) refl (tt, tt) $
         sets ! 10 (resliced ! 12 18 refl refl refl) refl (sliced (room .0)) $
         -- [the locals; the units' token; what they own; the segments' token; what they own; the room; its token; the output; its token]
-        move ! (27 ∷ []) $ copies ! (named 0) κ₀ U.the-row s (vs ∷ []) $ move ! (28 ∷ 0 ∷ []) $ join ! $
-        move ! (29 ∷ []) $ copies ! (named 1) κ₁ u8 t (vt ∷ []) $ move ! (30 ∷ 0 ∷ []) $ join ! $ move ! (2 ∷ 0 ∷ []) $ join ! $
+        move ! (27 ∷ []) $ copies ! (named 0) κ₀ U.the-row s (vs ∷ []) $ joins ! 27 refl $
+        move ! (29 ∷ []) $ copies ! (named 1) κ₁ u8 t (vt ∷ []) $ joins ! 29 refl $ joins ! 1 refl $
         move ! (0 ∷ 29 ∷ 30 ∷ []) $
         -- [what goes to `stow`; the room; its token; what the segments own; what the units own; the locals; the output; its token]
         calls-lent ! fm Stow known-stow u8 κ₂ q₂ (named 2) γ b o (length ys) ys room refl to-stow
@@ -255,8 +254,8 @@ module _ {M : Type 1} (𝓤 : URA M) (H : Heap 𝓤) (A : Atoms 𝓤) (W : Given
         sets ! 7 (behind ! 21 refl refl) refl (tt, tt) $
         sets ! 5 (resliced ! 7 21 refl refl refl) refl (sliced (r-room .0)) $
         -- the tokens together, then what goes to `finish`
-        split ! $ move ! (3 ∷ 33 ∷ []) $ join ! $ move ! (2 ∷ 0 ∷ []) $ join ! $
-        move ! (3 ∷ []) $ copies ! (named 1) κ₁ u8 t (vt ∷ []) $ move ! (4 ∷ 32 ∷ []) $ join ! $ move ! (1 ∷ 0 ∷ []) $ join ! $
+        split ! $ move ! (3 ∷ 33 ∷ []) $ join ! $ joins ! 1 refl $
+        move ! (3 ∷ []) $ copies ! (named 1) κ₁ u8 t (vt ∷ []) $ move ! (4 ∷ 32 ∷ []) $ join ! $ joins ! 0 refl $
         move ! (2 ∷ 0 ∷ []) $ use2 W (raw (Finish .pre (to-finish w))) (asks-finish w is .prf) $
         -- [what `finish` asks; what the segments own; the units' token; what they own; the locals]
         calls-ends ! fm finish.ended (finish.clauses 𝓤 H A at-mem run) known-finish (to-finish w) ans Known Said (λ m ws.
