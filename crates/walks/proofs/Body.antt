@@ -31,14 +31,17 @@ use denote.Triple.Table.{entered}
 use denote.Triple.Walked.{Stays, AllGo, Walks, walk-meets, walkOf, walked}
 use denote.Triple.Clauses.{Ended, Clauses, closing}
 
-module _ {M : Type 1} {𝓤 : URA M} {H : Heap 𝓤} {A : Atoms 𝓤} {K : Type 0} {W : Given 𝓤 H A} {Γ : List (Item 𝓤)} {E : Env 𝓤 H} {C : Calls 𝓤 H} {Λ : Loops 𝓤 H} {q : Post 𝓤 H} where
+module _ {M : Type 1} {𝓤 : URA M} {H : Heap 𝓤} {A : Atoms 𝓤} {K : Type 0} {W : Given 𝓤 H A} {Γ : List (Item 𝓤)} {E : Env 𝓤 H}
+    {C : Calls 𝓤 H} {Λ : Loops 𝓤 H} {q : Post 𝓤 H} where
   pub tests : K → {c : Operand} {n : ℕ} {b : Body} {y : Bool} → Opd K W Γ E c (vbool y)
-      → (T y → Seq K W Γ (runs C Λ E b q)) → (T (not y) → Seq K W Γ (prop (post 𝓤 H q (exits n)))) → Seq K W Γ (runs C Λ E (seq (cond c skip (exit n)) b) q)
+      → (T y → Seq K W Γ (runs C Λ E b q)) → (T (not y) → Seq K W Γ (prop (post 𝓤 H q (exits n))))
+      → Seq K W Γ (runs C Λ E (seq (cond c skip (exit n)) b) q)
   tests t o held failed = first t $ branches t o (λ z. skips t $ record { prf = held z .prf }) (λ z. jumps t $ record { prf = failed z .prf })
 
   -- an `if` whose first arm leaves, as by a `return` (`returns-within`), and that has no second: the rest runs where the test fails
   pub tests-if : K → {c : Operand} {a rest : Body} {y : Bool} → Opd K W Γ E c (vbool y)
-      → (T y → Seq K W Γ (runs C Λ E a (anyQ (afterSeq 𝓤 H (Wp 𝓤 H C Λ E rest (post 𝓤 H q)) (post 𝓤 H q))))) → (T (not y) → Seq K W Γ (runs C Λ E rest q)) → Seq K W Γ (runs C Λ E (seq (cond c a skip) rest) q)
+      → (T y → Seq K W Γ (runs C Λ E a (anyQ (afterSeq 𝓤 H (Wp 𝓤 H C Λ E rest (post 𝓤 H q)) (post 𝓤 H q)))))
+      → (T (not y) → Seq K W Γ (runs C Λ E rest q)) → Seq K W Γ (runs C Λ E (seq (cond c a skip) rest) q)
   tests-if t o held failed = first t $ branches t o held (λ z. skips t $ record { prf = failed z .prf })
 
 -- ---- what a test says of the value tested
@@ -57,12 +60,16 @@ module _ {M : Type 1} (𝓤 : URA M) (H : Heap 𝓤) (𝓜 : Model 𝓤 H) (𝓖
   𝓣of env = tablesOf 𝓤 H 𝓜 (tables 𝓤 H 𝓜 𝓡 env)
 
   pub proved : (env : REnv) (key : Name) (f : Fn) → Closed 𝓤 H (tables 𝓤 H 𝓜 𝓡 env .C) (tables 𝓤 H 𝓜 𝓡 env .Λ) key f
-      → (D : Ended) (hs : Stays (D .signature .params) (D .kept)) (c : Clauses 𝓤 D) → AllGo 𝓤 H (𝓖 .A) (givenOf 𝓤 H 𝓜 𝓖) (D .signature .lifetimes) (D .signature .params) (D .kept) hs
-      → Walks 𝓤 H (𝓖 .A) D hs (WpFn 𝓤 H (𝓣of env .C) (𝓣of env .Λ) f) c → Meets 𝓤 H (𝓖 .A) (D .signature) (tables 𝓤 H 𝓜 𝓡 env .C key) (closing 𝓤 H (𝓖 .A) D c)
+      → (D : Ended) (hs : Stays (D .signature .params) (D .kept)) (c : Clauses 𝓤 D) → AllGo 𝓤 H (𝓖 .A) (givenOf 𝓤 H 𝓜 𝓖)
+      (D .signature .lifetimes) (D .signature .params) (D .kept) hs
+      → Walks 𝓤 H (𝓖 .A) D hs (WpFn 𝓤 H (𝓣of env .C) (𝓣of env .Λ) f) c → Meets 𝓤 H (𝓖 .A) (D .signature)
+      (tables 𝓤 H 𝓜 𝓡 env .C key) (closing 𝓤 H (𝓖 .A) D c)
   unfolding tablesOf
   proved env key f closed D hs c goes w =
-      entered 𝓤 H (tripleOf 𝓤 H (𝓖 .A) (D .signature) (closing 𝓤 H (𝓖 .A) D c)) (tables 𝓤 H 𝓜 𝓡 env .C) (tables 𝓤 H 𝓜 𝓡 env .Λ) key f closed
-      (walk-meets 𝓤 H (𝓖 .A) D hs (givenOf 𝓤 H 𝓜 𝓖) goes c (WpFn 𝓤 H (𝓣of env .C) (𝓣of env .Λ) f) (WpFn-mono 𝓤 H (givenOf 𝓤 H 𝓜 𝓖 .laws) (𝓣of env) f) w)
+      entered 𝓤 H (tripleOf 𝓤 H (𝓖 .A) (D .signature) (closing 𝓤 H (𝓖 .A) D c)) (tables 𝓤 H 𝓜 𝓡 env .C)
+      (tables 𝓤 H 𝓜 𝓡 env .Λ) key f closed
+      (walk-meets 𝓤 H (𝓖 .A) D hs (givenOf 𝓤 H 𝓜 𝓖) goes c (WpFn 𝓤 H (𝓣of env .C) (𝓣of env .Λ) f)
+      (WpFn-mono 𝓤 H (givenOf 𝓤 H 𝓜 𝓖 .laws) (𝓣of env) f) w)
 
   -- the same from the walk at each choice of lifetimes, shares, arguments and ghost value, where the parameters' machine values are written out
   pub proved-by : (env : REnv) (key : Name) (f : Fn) → Closed 𝓤 H (tables 𝓤 H 𝓜 𝓡 env .C) (tables 𝓤 H 𝓜 𝓡 env .Λ) key f
@@ -70,7 +77,8 @@ module _ {M : Type 1} (𝓤 : URA M) (H : Heap 𝓤) (𝓜 : Model 𝓤 H) (𝓖
       → AllGo 𝓤 H (𝓖 .A) (givenOf 𝓤 H 𝓜 𝓖) (D .signature .lifetimes) (D .signature .params) (D .kept) hs
       → (sp : (κs : Lfts (D .signature .lifetimes)) → Spells (typesAt (D .signature .params) κs))
       → ((κs : Lfts (D .signature .lifetimes)) → Tellss (typesAt (D .signature .params) κs) (Ises (typesAt (D .signature .params) κs)) (sp κs))
-      → ((κs : Lfts (D .signature .lifetimes)) (qs : Shares (D .signature .lifetimes)) (bounds : AllOutlive (D .signature .lifetimes) (D .signature .outlives) κs)
+      → ((κs : Lfts (D .signature .lifetimes)) (qs : Shares (D .signature .lifetimes)) (bounds : AllOutlive (D .signature .lifetimes)
+      (D .signature .outlives) κs)
       (a : Args (D .signature) κs) (g : c κs a .ghost)
       → Are (typesAt (D .signature .params) κs) (Ises (typesAt (D .signature .params) κs)) a (valss (typesAt (D .signature .params) κs) (sp κs) a)
       → ent 𝓤 (sep 𝓤 (onEntry 𝓤 H (𝓖 .A) (D .signature) κs qs a (valss (typesAt (D .signature .params) κs) (sp κs) a)) (c κs a .requires g))

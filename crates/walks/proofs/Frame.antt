@@ -126,7 +126,8 @@ module _ {M : Type 1} {𝓤 : URA M} where
     out E i Γ =
         let Δ : List (Item 𝓤) = laid E [] (i ∷ Γ) in
         subst (λ (j : Item 𝓤). ent 𝓤 (∗∗ Δ) (j ∗ ∗∗ (laid E [] Γ))) (nth-deep E zero (i ∷ Γ))
-        (subst (λ (Θ : List (Item 𝓤)). ent 𝓤 (∗∗ Δ) (nth 𝓤 H A (deep E zero) Δ ∗ ∗∗ Θ)) (del-deep E zero (i ∷ Γ)) (pull 𝓤 H A (deep E zero) Δ))
+        (subst (λ (Θ : List (Item 𝓤)). ent 𝓤 (∗∗ Δ) (nth 𝓤 H A (deep E zero) Δ ∗ ∗∗ Θ)) (del-deep E zero (i ∷ Γ))
+        (pull 𝓤 H A (deep E zero) Δ))
 
     -- what stands before the locals stands after them
     under : (E : Locals) (Γ : List (Item 𝓤)) → ent 𝓤 (∗∗ (Γ ++ laid E [] [])) (∗∗ (laid E [] Γ))
@@ -221,18 +222,21 @@ module _ {M : Type 1} {𝓤 : URA M} where
       shares-from zero zero (i ∷ Γ) = []
       shares-from zero (suc n) (i ∷ Γ) = shares-of i ++ shares-from zero n Γ
 
-      both : (i j : Item 𝓤) (Γ Δ : List (Item 𝓤)) → ent 𝓤 (mean 𝓤 H A i) (mean 𝓤 H A j) → ent 𝓤 (∗∗ Γ) (∗∗ Δ) → ent 𝓤 (∗∗ (i ∷ Γ)) (∗∗ (j ∷ Δ))
+      both : (i j : Item 𝓤) (Γ Δ : List (Item 𝓤)) → ent 𝓤 (mean 𝓤 H A i) (mean 𝓤 H A j) → ent 𝓤 (∗∗ Γ) (∗∗ Δ)
+          → ent 𝓤 (∗∗ (i ∷ Γ)) (∗∗ (j ∷ Δ))
       both i j Γ Δ h k =
           via 𝓤 (i ∗ ∗∗ Γ) (pop 𝓤 H A i Γ)
           (via 𝓤 (j ∗ ∗∗ Γ) (monoL 𝓤 (∗∗ Γ) h)
           (via 𝓤 (j ∗ ∗∗ Δ) (monoR 𝓤 (mean 𝓤 H A j) k) (push 𝓤 H A j Δ)))
 
-      clear-from⊢ : (k n : ℕ) (Γ : List (Item 𝓤)) → shares-from k n Γ ≡ wholes (shares-from k n Γ) → ent 𝓤 (∗∗ Γ) (∗∗ (clear-from k n Γ))
+      clear-from⊢ : (k n : ℕ) (Γ : List (Item 𝓤)) → shares-from k n Γ ≡ wholes (shares-from k n Γ)
+          → ent 𝓤 (∗∗ Γ) (∗∗ (clear-from k n Γ))
       clear-from⊢ k n [] e = id⊢ 𝓤 (∗∗ [])
       clear-from⊢ (suc k) n (i ∷ Γ) e = both i i Γ (clear-from k n Γ) (id⊢ 𝓤 (mean 𝓤 H A i)) (clear-from⊢ k n Γ e)
       clear-from⊢ zero zero (i ∷ Γ) e = id⊢ 𝓤 (∗∗ (i ∷ Γ))
       clear-from⊢ zero (suc n) (i ∷ Γ) e =
-          let es : (shares-of i ≡ wholes (shares-of i)) × (shares-from zero n Γ ≡ wholes (shares-from zero n Γ)) = wholes-split (shares-of i) (shares-from zero n Γ) e in
+          let es : (shares-of i ≡ wholes (shares-of i)) × (shares-from zero n Γ ≡ wholes (shares-from zero n Γ)) = wholes-split (shares-of i)
+          (shares-from zero n Γ) e in
           both i (clear i) Γ (clear-from zero n Γ) (clear⊢ i (es .0)) (clear-from⊢ zero n Γ (es .1))
 
 module _ {M : Type 1} {𝓤 : URA M} {H : Heap 𝓤} {A : Atoms 𝓤} {K : Type 0} {W : Given 𝓤 H A} {Γ : List (Item 𝓤)} where
@@ -251,26 +255,31 @@ module _ {M : Type 1} {𝓤 : URA M} {H : Heap 𝓤} {A : Atoms 𝓤} {K : Type 
 
 -- ---- into a function
 module _ {M : Type 1} {𝓤 : URA M} {H : Heap 𝓤} {A : Atoms 𝓤} {K : Type 0} {W : Given 𝓤 H A} where
-  allocs-all : K → (ls : List Local) {Kt : Locals → Goal 𝓤 H} (Δ : List (Item 𝓤)) → ((bs : Blocks ls) → Seq K W (laid (envOf ls bs) [] Δ) (Kt (envOf ls bs))) → Seq K W Δ (allocs ls Kt)
+  allocs-all : K → (ls : List Local) {Kt : Locals → Goal 𝓤 H} (Δ : List (Item 𝓤))
+      → ((bs : Blocks ls) → Seq K W (laid (envOf ls bs) [] Δ) (Kt (envOf ls bs))) → Seq K W Δ (allocs ls Kt)
   allocs-all t [] Δ k = alloc0 t $ k tt
   allocs-all t (local τ h ∷ ls) Δ k = alloc1 t (λ b. allocs-all t ls (‵ (froom τ b zero) ∷ ‵ (fdies τ b) ∷ Δ) (λ bs. k (b, bs)))
 
-  passes-all : K → (E : Locals) (vs : List Val) {g : Goal 𝓤 H} (Δ : List (Item 𝓤)) → Fit E vs → Seq K W (laid E (each-full vs) Δ) g → Seq K W (laid E [] Δ) (passes E vs g)
+  passes-all : K → (E : Locals) (vs : List Val) {g : Goal 𝓤 H} (Δ : List (Item 𝓤)) → Fit E vs → Seq K W (laid E (each-full vs) Δ) g
+      → Seq K W (laid E [] Δ) (passes E vs g)
   passes-all t E [] Δ f s = pass0 t $ s
   passes-all t [] (v ∷ vs) Δ f s = absurd f
   passes-all t (e ∷ E) (v ∷ vs) Δ f s =
       let R : Item 𝓤 = ‵ (froom (e .0) (e .1) zero) in
       let D : Item 𝓤 = ‵ (fdies (e .0) (e .1)) in
       let F : Item 𝓤 = ‵ (fat fullShare (e .0) (e .1) zero v) in
-      pass1 t (subst (λ (Γ′ : List (Item 𝓤)). Writes K W (laid E [] (R ∷ D ∷ Δ)) (e .0) (e .1) zero v Γ′) (put-deep H A E zero F (R ∷ D ∷ Δ))
+      pass1 t (subst (λ (Γ′ : List (Item 𝓤)). Writes K W (laid E [] (R ∷ D ∷ Δ)) (e .0) (e .1) zero v Γ′)
+      (put-deep H A E zero F (R ∷ D ∷ Δ))
       (init t (deep E zero) (nth-deep H A E zero (R ∷ D ∷ Δ)) (f .0))) $ passes-all t E vs (F ∷ D ∷ Δ) (f .1) s
 
-  params-all : K → (E : Locals) (vs : List Val) {g : Goal 𝓤 H} (Γ : List (Item 𝓤)) → FitAfter E vs → Seq K W (laid E (empty ∷ each-full vs) Γ) g → Seq K W (laid E [] Γ) (params′ E vs g)
+  params-all : K → (E : Locals) (vs : List Val) {g : Goal 𝓤 H} (Γ : List (Item 𝓤)) → FitAfter E vs
+      → Seq K W (laid E (empty ∷ each-full vs) Γ) g → Seq K W (laid E [] Γ) (params′ E vs g)
   params-all t [] vs Γ f s = absurd f
   params-all t (e ∷ E) vs Γ f s = params1 t $ passes-all t E vs (one e empty Γ) f s
 
   pub enters : K → {Γ : List (Item 𝓤)} (C : Calls 𝓤 H) (Λ : Loops 𝓤 H) (f : Fn) (vs : List Val) (Kf : Val → SProp 𝓤)
       → ((bs : Blocks (f .locals)) → FitAfter (envOf (f .locals) bs) vs)
-      → ((bs : Blocks (f .locals)) → Seq K W (laid (envOf (f .locals) bs) (empty ∷ each-full vs) Γ) (runs C Λ (envOf (f .locals) bs) (f .body) (atRet (envOf (f .locals) bs) Kf)))
+      → ((bs : Blocks (f .locals)) → Seq K W (laid (envOf (f .locals) bs) (empty ∷ each-full vs) Γ)
+      (runs C Λ (envOf (f .locals) bs) (f .body) (atRet (envOf (f .locals) bs) Kf)))
       → Seq K W Γ (prop (WpFn 𝓤 H C Λ f vs Kf))
   enters t {Γ} C Λ f vs Kf fit k = enter t C Λ f vs Kf $ allocs-all t (f .locals) Γ (λ bs. params-all t (envOf (f .locals) bs) vs Γ (fit bs) (k bs))

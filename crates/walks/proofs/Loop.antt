@@ -20,7 +20,8 @@ module _ {M : Type 1} {𝓤 : URA M} {H : Heap 𝓤} {A : Atoms 𝓤} where
       → Seq K W (At h) (prop (Below 𝓤 H A (λ h g. μ h < μ g) At g))
   rounds t μ At g h less = again t (λ h g. μ h < μ g) At g h less
 
-  module _ (W : Given 𝓤 H A) (𝓣 : Tables 𝓤 H) (E : Env 𝓤 H) (Post : Val → SProp 𝓤) (turn rest : Body) {G : Type 0} (μ : G → ℕ) (At : G → List (Item 𝓤)) where
+  module _ (W : Given 𝓤 H A) (𝓣 : Tables 𝓤 H) (E : Env 𝓤 H) (Post : Val → SProp 𝓤) (turn rest : Body) {G : Type 0} (μ : G → ℕ)
+      (At : G → List (Item 𝓤)) where
     abbrev pub Turns : G → Type 1
     Turns g =
         Sq W (At g) (runs (𝓣 .C) (𝓣 .Λ) E turn (anyQ (afterTurn 𝓤 H (Below 𝓤 H A (λ h g. μ h < μ g) At g)

@@ -16,8 +16,12 @@ pub use prog.Wp.{Heap, Out, Env, afterSeq, afterBlock, Calls, Loops, Wp, atRetur
 pub use ghost.Atoms.{Atoms, sem}
 pub use contract.Monad.{Fun, fact}
 pub use contract.Running.{givenOf, tables}
-pub use types.Kit.{drop as let-go, Given, Item, ‵, raw, given, some, later, _⊛_, ⋆, prop, runs, anyQ, atRet, Sq, _$_, _∵_, !, qed, by, move, keep, use0, use1, use2, use3, split, join, pick, learn, rewrite, fsplit, fsplit3, fjoin, fjoin3, feqL, feqI, check, show, suffices, frame, await, done}
-pub use types.Run.{look, look-raw, init, store, store-raw, forget, stop, hop, fld, from, load, lit, unit-lit, true-lit, false-lit, of-opd, bin, un, addr, and-then, no-more, assigns, assigns-last, first, blocks, branches, skips, jumps, land, returns, returns-within, enter, alloc1, alloc0, params1, pass1, pass0, exec, Below, again, loops}
+pub use types.Kit.{drop as let-go, Given, Item, ‵, raw, given, some, later, _⊛_, ⋆, prop, runs, anyQ, atRet, Sq, _$_, _∵_, !, qed, by, move, keep}
+pub use types.Kit.{use0, use1, use2, use3, split, join, pick, learn, rewrite, fsplit, fsplit3, fjoin, fjoin3, feqL, feqI, check, show, suffices, frame, await}
+pub use types.Kit.{done}
+pub use types.Run.{look, look-raw, init, store, store-raw, forget, stop, hop, fld, from, load, lit, unit-lit, true-lit, false-lit, of-opd, bin, un, addr}
+pub use types.Run.{and-then, no-more, assigns, assigns-last, first, blocks, branches, skips, jumps, land, returns, returns-within, enter, alloc1, alloc0}
+pub use types.Run.{params1, pass1, pass0, exec, Below, again, loops}
 pub use types.Part.{agg, rep, whole, sub, look-in, store-in}
 pub use types.SemTy.{Body, cells, Arr}
 pub use types.Tokens.{lft-new, lft-end}
@@ -26,10 +30,12 @@ pub use denote.RattleType.{RattleType, owns}
 pub use denote.Memory.{mem, cellAt, pointee}
 pub use denote.Shadow.{pureI}
 pub use denote.Laws.{Is, shows}
-pub use denote.Plain.{Nothing, nothing-vals, nothing-tells, Boolean, bool-vals, bool-tells, bool-makes, uint-makes, uint-vals, uint-tells, uint-lawful, uint-copy}
+pub use denote.Plain.{Nothing, nothing-vals, nothing-tells, Boolean, bool-vals, bool-tells, bool-makes, uint-makes, uint-vals, uint-tells, uint-lawful}
+pub use denote.Plain.{uint-copy}
 pub use denote.Builtin.{u8, u16, u32, u64, usize}
 pub use denote.Ref.{RefT, NamedLft, MutRef, ptr-vals, mut-tells}
-pub use denote.Slice.{sliceVal, sliceTy, ShrSlice, MutSlice, Room, finally, heres, codedHoleys, at-slice, slice-vals, shr-slice-tells, mut-slice-tells, shr-slice-lawful, shr-slice-copy}
+pub use denote.Slice.{sliceVal, sliceTy, ShrSlice, MutSlice, Room, finally, heres, codedHoleys, at-slice, slice-vals, shr-slice-tells, mut-slice-tells}
+pub use denote.Slice.{shr-slice-lawful, shr-slice-copy}
 pub use denote.Lend.{Held, lends-slice, slice-back}
 pub use denote.Index.{row, place-is, elem-out, elem-back, elem-put, opens-slice, closes-slice, looks-slice, shuts-slice}
 pub use denote.Steps.{only, opens, closes, owned, peeks, heard, nothing}
@@ -44,4 +50,5 @@ pub use denote.Triple.Spec.{Meets, tripleOf}
 pub use denote.Triple.Statement.{Contract, Triple}
 pub use denote.Triple.Clauses.{Lasts, lasts}
 pub use denote.Triple.Table.{cited}
-pub use denote.Triple.Walked.{says, needs, Stays, stay-none, stay-none-slice, stay-slice, stay-ref, gave-slice, walkOf, AllGo, goes-none, goes-none-slice, goes-slice, goes-ref, goes-gave-slice, Walks, ends-at, walked}
+pub use denote.Triple.Walked.{says, needs, Stays, stay-none, stay-none-slice, stay-slice, stay-ref, gave-slice, walkOf, AllGo, goes-none, goes-none-slice}
+pub use denote.Triple.Walked.{goes-slice, goes-ref, goes-gave-slice, Walks, ends-at, walked}

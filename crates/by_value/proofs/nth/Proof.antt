@@ -1,14 +1,11 @@
 -- `by_value::nth` meets its contract: its code is followed by hand, for it has a reader in a local. The reader is lent by `&mut` to `next` in each
 -- turn of a loop and once more after it; what `next` then hands out is item k of the string (`opened-items`).
 -- Assumes nothing.
-use Rattle.walks.proofs.Names.{let-go, _≡_, refl, subst, ℕ, suc, _+_, _-_, _≤_, _<_, _^_, zero-le, List, [], _∷_, length, drop, take, URA, fullShare}
-use Rattle.walks.proofs.Names.{named, erased, w64, Val, vint, vptr, SProp, ent, emp, sep, guard, via, fst∗, id⊢, Lft, Share, GName, Fml, ftrue, flft}
-use Rattle.walks.proofs.Names.{fat, fdies, Memory, Routine, Heap, Env, WpFn, Tables, Atoms, sem, Fun, fact, givenOf, Given, Item, ‵, raw, _⊛_, prop}
-use Rattle.walks.proofs.Names.{runs, atRet, Sq, _$_, _∵_, !, qed, move, keep, use1, use2, split, rewrite, fsplit, fjoin, check, suffices, frame, done}
-use Rattle.walks.proofs.Names.{look, forget, stop, from, lit, of-opd, bin, addr, no-more, returns, exec, FmC, fmOf, RattleType, owns, cellAt, Is}
-use Rattle.walks.proofs.Names.{shows, uint-vals, uint-tells, u8, usize, RefT, NamedLft, MutRef, sliceVal, ShrSlice, slice-vals, shr-slice-tells}
-use Rattle.walks.proofs.Names.{owned, heard, nothing, spelt, Declared, plain, yes, onEntry, tripleOf, Contract, Triple, Lasts, lasts, cited, says}
-use Rattle.walks.proofs.Names.{Stays, stay-none, stay-none-slice, walkOf, goes-none, goes-none-slice, ends-at}
+use Rattle.walks.proofs.Names.{_≡_, refl, ℕ, suc, _+_, _-_, _≤_, _<_, _^_, List, [], _∷_, length, fullShare, named, erased, w64, Val, vint, vptr}
+use Rattle.walks.proofs.Names.{SProp, ent, sep, guard, id⊢, GName, ftrue, flft, fat, Tables, sem, fact, givenOf, ‵, raw, _⊛_, prop, atRet, Sq, _$_}
+use Rattle.walks.proofs.Names.{_∵_, !, qed, move, keep, use1, use2, rewrite, fsplit, frame, done, stop, from, lit, of-opd, bin, addr, no-more, FmC}
+use Rattle.walks.proofs.Names.{cellAt, Is, u8, usize, RefT, MutRef, nothing, plain, yes, Triple, lasts, cited}
+use Rattle.walks.proofs.Names as kit
 use Rattle.walks.proofs.Body.{tests, 𝓣of, proved-by}
 use Rattle.walks.proofs.Calls.{calls-some, gave-value}
 use Rattle.walks.proofs.Loop.{Turns, rounds, loop-by}
@@ -41,32 +38,33 @@ use Rattle.reader.proofs.next as next
 use Rattle.by_value.proofs.nth as nth
 use Rattle.by_value.proofs.nth.Code as code
 
-abbrev stayed : Stays (nth.ended .signature .params) (nth.ended .kept)
-stayed = (stay-none-slice (0 ∷ []) tt (plain (λ _. u8)) yes, (stay-none (λ _. usize) yes, tt))
+abbrev stayed : kit.Stays (nth.ended .signature .params) (nth.ended .kept)
+stayed = (kit.stay-none-slice (0 ∷ []) tt (plain (λ _. u8)) yes, (kit.stay-none (λ _. usize) yes, tt))
 
-module _ {M : Type 1} (𝓤 : URA M) (H : Heap 𝓤) (A : Atoms 𝓤) (W : Given 𝓤 H A) (at-mem : Memory → SProp 𝓤) (run : Routine → Fun 𝓤)
-    (κ : Lft) (q : Share) (s : RefT (List ℕ)) (k : ℕ) (s-fits : length (s .now) < 2 ^ 64) (k-fits : k < 2 ^ 64) where
+module _ {M : Type 1} (𝓤 : kit.URA M) (H : kit.Heap 𝓤) (A : kit.Atoms 𝓤) (W : kit.Given 𝓤 H A) (at-mem : kit.Memory → SProp 𝓤)
+    (run : kit.Routine → kit.Fun 𝓤)
+    (κ : kit.Lft) (q : kit.Share) (s : RefT (List ℕ)) (k : ℕ) (s-fits : length (s .now) < 2 ^ 64) (k-fits : k < 2 ^ 64) where
   -- the contracts that the proof cites
-  abbrev Open : Contract 𝓤
-  Open = tripleOf 𝓤 H A opn.signature (opn.spec 𝓤 H A at-mem run)
+  abbrev Open : kit.Contract 𝓤
+  Open = kit.tripleOf 𝓤 H A opn.signature (opn.spec 𝓤 H A at-mem run)
 
-  abbrev Next : Contract 𝓤
-  Next = tripleOf 𝓤 H A next.signature (next.spec 𝓤 H A at-mem run)
+  abbrev Next : kit.Contract 𝓤
+  Next = kit.tripleOf 𝓤 H A next.signature (next.spec 𝓤 H A at-mem run)
 
-  abbrev α : NamedLft
+  abbrev α : kit.NamedLft
   α = record { mir = erased; lft = κ }
 
-  abbrev D : Declared
+  abbrev D : kit.Declared
   D = T.the-type α
 
   abbrev L : LL.Laws D
   L = T′.the-laws α
 
-  abbrev R : RattleType
+  abbrev R : kit.RattleType
   R = T.the-row α
 
   abbrev v : Val
-  v = sliceVal (s .ptr) (length (s .now))
+  v = kit.sliceVal (s .ptr) (length (s .now))
 
   abbrev Arg : Type 0
   Arg = RefT (List ℕ) × (ℕ × Unit {0})
@@ -85,10 +83,10 @@ module _ {M : Type 1} (𝓤 : URA M) (H : Heap 𝓤) (A : Atoms 𝓤) (W : Given
   it i = itemAt (rd i)
 
   abbrev Post : Val → SProp 𝓤
-  Post = walkOf 𝓤 H A nth.ended stayed (nth.clauses 𝓤 H A at-mem run) .post (((κ, tt), (q, tt), tt, a, vals), tt)
+  Post = kit.walkOf 𝓤 H A nth.ended stayed (nth.clauses 𝓤 H A at-mem run) .post (((κ, tt), (q, tt), tt, a, vals), tt)
 
-  abbrev Own : Fml
-  Own = ShrSlice (named 0) κ u8 .own s (v ∷ [])
+  abbrev Own : kit.Fml
+  Own = kit.ShrSlice (named 0) κ u8 .own s (v ∷ [])
 
   -- the machine value of an item
   abbrev item : ItemD → Val
@@ -99,11 +97,11 @@ module _ {M : Type 1} (𝓤 : URA M) (H : Heap 𝓤) (A : Atoms 𝓤) (W : Given
 
   exits : IsI (it k) → Sq W (‵ (flft κ q) ∷ ‵ Own ∷ []) (prop (Post (item (it k))))
   exits is =
-      suffices ! _ (ends-at 𝓤 H A nth.ended stayed (nth.clauses 𝓤 H A at-mem run) W (((κ, tt), (q, tt), tt, a, vals), tt) (item (it k)) (it k)
-      (tt, (tt, tt)) (tt, (tt, tt))) $ says ! (opened-items s k) $
+      kit.suffices ! _ (kit.ends-at 𝓤 H A nth.ended stayed (nth.clauses 𝓤 H A at-mem run) W (((κ, tt), (q, tt), tt, a, vals), tt) (item (it k)) (it k)
+      (tt, (tt, tt)) (tt, (tt, tt))) $ kit.says ! (opened-items s k) $
       nothing ! $ joins ! 0 refl $ frame ! $ nothing ! $ number ! k k-fits $
       fjoins ! 0 refl $ frame ! $
-      owned ! I.the-row (Is I.the-row) (EL.makes I.the-type I′.the-plain 𝓤 H A) (it k) _ is $ done !
+      kit.owned ! I.the-row (Is I.the-row) (EL.makes I.the-type I′.the-plain 𝓤 H A) (it k) _ is $ done !
 
   -- ---- a local reader, as its cell with what it owns and as a part of memory
   lie-in : (h : Reader) (b : ℕ)
@@ -112,14 +110,14 @@ module _ {M : Type 1} (𝓤 : URA M) (H : Heap 𝓤) (A : Atoms 𝓤) (W : Given
   unfolding partOf
   lie-in h b =
       qed W (‵ (fat fullShare (T′.mir erased) b 0 (T′.lowered h)) ∷ ‵ (R .own h (T′.lowered h ∷ [])) ∷ []) ∵
-      use1 W (‵ (cellAt fullShare (R .mir) (T′.lowered h ∷ []) b 0)) (W .laws .at-raw fullShare (T′.mir erased) b 0 (T′.lowered h)) $ fjoin ! $
+      use1 W (‵ (cellAt fullShare (R .mir) (T′.lowered h ∷ []) b 0)) (W .laws .at-raw fullShare (T′.mir erased) b 0 (T′.lowered h)) $ kit.fjoin ! $
       fpack ! (List Val) (λ us. fsep (cellAt fullShare (R .mir) us b 0) (R .own h us)) (T′.lowered h ∷ []) $ done !
 
   lie-out : (h : Reader) (b : ℕ) → ent 𝓤 (sem 𝓤 H A (partAt R fullShare h b 0)) (H .at fullShare (T′.mir erased) b 0 (T′.lowered h))
   unfolding partOf
   lie-out h b =
       qed W (‵ (partAt R fullShare h b 0) ∷ []) ∵
-      fpick ! (λ vs. fsplit ! $ spelt ! R (Is R) (shows 𝓤 H A R) (LL.vals D L) (LL.tells D L) fullShare h vs b 0 $
+      fpick ! (λ vs. fsplit ! $ kit.spelt ! R (Is R) (kit.shows 𝓤 H A R) (LL.vals D L) (LL.tells D L) fullShare h vs b 0 $
       use1 W (‵ (fat fullShare (T′.mir erased) b 0 (T′.lowered h))) (W .laws .raw-at fullShare (T′.mir erased) b 0 (T′.lowered h)) $
       keep ! (0 ∷ []) $ done !)
 
@@ -155,13 +153,13 @@ module _ {M : Type 1} (𝓤 : URA M) (H : Heap 𝓤) (A : Atoms 𝓤) (W : Given
         nothing ! $ joins ! 1 refl $ joins ! 0 refl $ nothing ! $ fjoins ! 1 refl $
         joins ! 0 refl $ frame ! $ done !
 
-    gives-next : (ν : ℕ) (γ : GName) (r : ItemD) (ws : Lasts next.ended (ν ∷ κ, (κ, tt)) (record { ptr = (b, 0); name = γ; now = h }, tt))
+    gives-next : (ν : ℕ) (γ : GName) (r : ItemD) (ws : kit.Lasts next.ended (ν ∷ κ, (κ, tt)) (record { ptr = (b, 0); name = γ; now = h }, tt))
         → ent 𝓤 (sep 𝓤 (sem 𝓤 H A (lasts next.ended (ν ∷ κ, (κ, tt)) (record { ptr = (b, 0); name = γ; now = h }, tt) ws))
         (fact 𝓤 ((r ≡ itemAt h) × (ws .0 ≡ moved h)))) (guard 𝓤 (r ≡ itemAt h) (sem 𝓤 H A (fres γ (R .coded .code (moved h)))))
     gives-next ν γ r ws =
         qed W (‵ (lasts next.ended (ν ∷ κ, (κ, tt)) (record { ptr = (b, 0); name = γ; now = h }, tt) ws) ∷
-        raw (fact 𝓤 ((r ≡ itemAt h) × (ws .0 ≡ moved h))) ∷ []) ∵ move ! (1 ∷ []) $ heard ! ((r ≡ itemAt h) × (ws .0 ≡ moved h)) (λ e.
-        fsplit ! $ rewrite ! 0 (λ (z : Reader). ‵ (fres γ (R .coded .code z))) (e .1) refl $ keep ! (0 ∷ []) $ check ! (e .0) $ done !)
+        raw (fact 𝓤 ((r ≡ itemAt h) × (ws .0 ≡ moved h))) ∷ []) ∵ move ! (1 ∷ []) $ kit.heard ! ((r ≡ itemAt h) × (ws .0 ≡ moved h)) (λ e.
+        fsplit ! $ rewrite ! 0 (λ (z : Reader). ‵ (fres γ (R .coded .code z))) (e .1) refl $ keep ! (0 ∷ []) $ kit.check ! (e .0) $ done !)
 
     gave-next : (ν : ℕ) (γ : GName) (u : Val)
         → ent 𝓤 (Next .post (to-next ν γ) u)
@@ -182,18 +180,19 @@ module _ {M : Type 1} (𝓤 : URA M) (H : Heap 𝓤) (A : Atoms 𝓤) (W : Given
   nearer : (i : ℕ) → Holds (ltb i k) → k - suc i < k - i
   nearer i less = let h : i < k = ltb→lt i k less in omega arith
 
-  module _ (𝓣 : Tables 𝓤 H) (fm : FmC 𝓤 H (W .laws) (𝓣 .C)) (known : Triple 𝓤 (𝓣 .C next.Symbol.name) Next) (bs : Blocks (code.function .locals)) where
+  module _ (𝓣 : Tables 𝓤 H) (fm : FmC 𝓤 H (W .laws) (𝓣 .C)) (known : Triple 𝓤 (𝓣 .C next.Symbol.name) Next)
+      (bs : Blocks (code.function .locals)) where
     -- the block of the reader
     abbrev reader : ℕ
     reader = bs .1 .1 .1 .0
 
-    abbrev En : Env 𝓤 H
+    abbrev En : kit.Env 𝓤 H
     En = envOf (code.function .locals) bs
 
-    abbrev At : Turn → List (Item 𝓤)
+    abbrev At : Turn → List (kit.Item 𝓤)
     At i = ‵ (partAt R fullShare (rd (i .0)) reader 0) ∷ ‵ (flft κ q) ∷ ‵ Own ∷
-        laid (drop 4 En) (full (vint w64 (i .0)) ∷ []) (‵ (fdies (T′.mir erased) reader) ∷
-        laid (take 3 En) (empty ∷ full v ∷ full (vint w64 k) ∷ []) [])
+        laid (kit.drop 4 En) (full (vint w64 (i .0)) ∷ []) (‵ (kit.fdies (T′.mir erased) reader) ∷
+        laid (kit.take 3 En) (empty ∷ full v ∷ full (vint w64 k) ∷ []) [])
 
     turns : (i : Turn) → Turns W 𝓣 En Post code.Mir.turn-1 code.Mir.t-5 μ At i
     unfolding afterTurn readerAfter
@@ -207,25 +206,27 @@ module _ {M : Type 1} (𝓤 : URA M) (H : Heap 𝓤) (A : Atoms 𝓤) (W : Given
         lands-in ! 7 refl (EL.lawful I.the-type I′.the-laws 𝓤 H A W tt .typed (it (i .0)) _ is .0) $
         resets-last ! 13 (bin ! (var ! 13 refl) (lit ! tt) (record { fits = next-fits (i .0) less })) refl (in64 (next-fits (i .0) less)) $
         recasts ! 13 (vint w64) (add-one (i .0)) refl $ clears ! 5 5 refl $ rounds ! μ At i (suc (i .0), ltb→lt (i .0) k less) (nearer (i .0) less)))
-        (λ over. exec ! (𝓣 .C) (𝓣 .Λ) En code.Mir.t-5 (atRet En Post) $ sets ! 3 (addr ! (from ! (stop !))) refl (tt, tt) $
+        (λ over. kit.exec ! (𝓣 .C) (𝓣 .Λ) En code.Mir.t-5 (atRet En Post) $ sets ! 3 (addr ! (from ! (stop !))) refl (tt, tt) $
         rewrite ! 0 (λ (j : ℕ). ‵ (partAt R fullShare (rd j) reader 0)) (le-antisymm (i .1) (nltb→le (i .0) k over)) refl $
         calls-local ! fm Next known R κ q reader (rd k) (moved (rd k)) (to-next reader (rd k)) (item (it k)) (IsI (it k)) (asks-next reader (rd k))
         (gave-next reader (rd k))
         (λ ν γ. arg ! 4 refl (no-more !)) (λ is.
         lands-in ! 20 refl (EL.lawful I.the-type I′.the-laws 𝓤 H A W tt .typed (it k) _ is .0) $
         use1 W (‵ (fat fullShare (T′.mir erased) reader 0 (T′.lowered (moved (rd k))))) (lie-out (moved (rd k)) reader) $
-        returns ! (look ! 20 refl) $ move ! (1 ∷ 2 ∷ 3 ∷ 4 ∷ 5 ∷ 6 ∷ 7 ∷ 8 ∷ 9 ∷ 10 ∷ 11 ∷ 12 ∷ 13 ∷ 14 ∷ 0 ∷ []) $
+        kit.returns ! (kit.look ! 20 refl) $ move ! (1 ∷ 2 ∷ 3 ∷ 4 ∷ 5 ∷ 6 ∷ 7 ∷ 8 ∷ 9 ∷ 10 ∷ 11 ∷ 12 ∷ 13 ∷ 14 ∷ 0 ∷ []) $
         leaves ! 2 refl refl $ (exits is)))
 
-    looped : Sq W (At (0, zero-le)) (runs (𝓣 .C) (𝓣 .Λ) En code.Mir.t-4 (atRet En Post))
-    looped = loop-by W 𝓣 En Post code.Mir.turn-1 code.Mir.t-5 μ At turns (0, zero-le)
+    looped : Sq W (At (0, kit.zero-le)) (kit.runs (𝓣 .C) (𝓣 .Λ) En code.Mir.t-4 (atRet En Post))
+    looped = loop-by W 𝓣 En Post code.Mir.turn-1 code.Mir.t-5 μ At turns (0, kit.zero-le)
 
   module _ (𝓣 : Tables 𝓤 H) (fm : FmC 𝓤 H (W .laws) (𝓣 .C)) (known-next : Triple 𝓤 (𝓣 .C next.Symbol.name) Next)
       (known-open : Triple 𝓤 (𝓣 .C opn.Symbol.name) Open) where
-    walk : ent 𝓤 (onEntry 𝓤 H A nth.signature (κ, tt) (q, tt) a vals) (WpFn 𝓤 H (𝓣 .C) (𝓣 .Λ) code.function (v ∷ vint w64 k ∷ []) Post)
+    walk : ent 𝓤 (kit.onEntry 𝓤 H A nth.signature (κ, tt) (q, tt) a vals)
+        (kit.WpFn 𝓤 H (𝓣 .C) (𝓣 .Λ) code.function (v ∷ vint w64 k ∷ []) Post)
     unfolding readerAfter
     walk =
-        qed W ((‵ (flft κ q) ⊛ ‵ ftrue) ∷ ‵ (owns (ShrSlice (named 0) κ u8 ∷ usize ∷ []) a vals) ∷ []) ∵ move ! (1 ∷ []) $ fsplit ! $
+        qed W ((‵ (flft κ q) ⊛ ‵ ftrue) ∷ ‵ (kit.owns (kit.ShrSlice (named 0) κ u8 ∷ usize ∷ []) a vals) ∷ []) ∵ move ! (1 ∷ []) $
+        fsplit ! $
         keep ! (2 ∷ 0 ∷ []) $
         enters ! (𝓣 .C) (𝓣 .Λ) code.function (v ∷ vint w64 k ∷ []) _ (λ bs. (sliced s-fits, (in64 k-fits, tt))) (λ bs.
         -- [the locals; the token; what s owns]
@@ -235,11 +236,12 @@ module _ {M : Type 1} (𝓤 : URA M) (H : Heap 𝓤) (A : Atoms 𝓤) (W : Given
         -- [the token; what the reader owns; what s owns; the locals]
         lands-in ! 11 refl (LL.lawful D L 𝓤 H A W .typed r _ is .0) $ recasts ! 11 T′.lowered e refl $
         rewrite ! 1 (λ (z : Reader). ‵ (R .own z (T′.lowered z ∷ []))) e refl $
-        sets ! 15 (of-opd ! (var ! 11 refl)) refl (LL.lawful D L 𝓤 H A W .typed (opened s) _ (subst (λ (z : Reader). Is R z (T′.lowered z ∷ [])) e is)
+        sets ! 15 (of-opd ! (var ! 11 refl)) refl
+        (LL.lawful D L 𝓤 H A W .typed (opened s) _ (kit.subst (λ (z : Reader). Is R z (T′.lowered z ∷ [])) e is)
         .0) $
-        sets ! 13 (of-opd ! (lit ! tt)) refl (in64 (lit< tt)) $ forget ! 11 refl $
+        sets ! 13 (of-opd ! (lit ! tt)) refl (in64 (lit< tt)) $ kit.forget ! 11 refl $
         move ! (15 ∷ 1 ∷ []) $ use2 W (‵ (partAt R fullShare (opened s) (bs .1 .1 .1 .0) 0)) (lie-in (opened s) (bs .1 .1 .1 .0)) $ move ! (1 ∷ []) $
-        use1 W (‵ (flft κ q) ⊛ ‵ ftrue) (id⊢ 𝓤 _) $ split ! $ move ! (1 ∷ []) $ let-go ! $ move ! (1 ∷ 0 ∷ []) $
+        use1 W (‵ (flft κ q) ⊛ ‵ ftrue) (id⊢ 𝓤 _) $ kit.split ! $ move ! (1 ∷ []) $ kit.let-go ! $ move ! (1 ∷ 0 ∷ []) $
         looped 𝓣 fm known-next bs))
 
 pub nth-spec : {M : Type 1} → nth.Statement.statement M
@@ -247,12 +249,13 @@ unfolding code.routine tablesOf
 nth-spec 𝓤 H 𝓜 𝓖 𝓡 =
     proved-by 𝓤 H 𝓜 𝓖 𝓡 code.env nth.Key.name code.function (code.unfolded 𝓤 H 𝓜 𝓡) nth.ended stayed
     (nth.clauses 𝓤 H (𝓖 .A) (𝓜 .mem) (𝓡 .run)) (
-      goes-none-slice 𝓤 H (𝓖 .A) (givenOf 𝓤 H 𝓜 𝓖) 1 (0 ∷ []) tt (plain (λ _. u8)) yes,
-      (goes-none 𝓤 H (𝓖 .A) (givenOf 𝓤 H 𝓜 𝓖) 1 (λ _. usize) yes (λ κs x f. refl), tt),
+      kit.goes-none-slice 𝓤 H (𝓖 .A) (givenOf 𝓤 H 𝓜 𝓖) 1 (0 ∷ []) tt (plain (λ _. u8)) yes,
+      (kit.goes-none 𝓤 H (𝓖 .A) (givenOf 𝓤 H 𝓜 𝓖) 1 (λ _. usize) yes (λ κs x f. refl), tt),
     )
-    (λ κs. (slice-vals, (uint-vals w64, tt))) (λ κs. (shr-slice-tells (named 0) (κs .0) u8, (uint-tells w64, tt)))
-    (λ κs qs bounds a g are. via 𝓤 _ (fst∗ 𝓤 _ (emp 𝓤)) (walk 𝓤 H (𝓖 .A) (givenOf 𝓤 H 𝓜 𝓖) (𝓜 .mem) (𝓡 .run) (κs .0)
+    (λ κs. (kit.slice-vals, (kit.uint-vals w64, tt))) (λ κs. (kit.shr-slice-tells (named 0) (κs .0) u8, (kit.uint-tells w64, tt)))
+    (λ κs qs bounds a g are. kit.via 𝓤 _ (kit.fst∗ 𝓤 _ (kit.emp 𝓤)) (walk 𝓤 H (𝓖 .A) (givenOf 𝓤 H 𝓜 𝓖) (𝓜 .mem) (𝓡 .run)
+    (κs .0)
     (qs .0) (a .0) (a .1 .0) (are .0 .0 .1 .0) (are .1 .0 .1) (𝓣of 𝓤 H 𝓜 𝓖 𝓡 code.env)
-    (fmOf 𝓤 H (givenOf 𝓤 H 𝓜 𝓖 .laws) (𝓣of 𝓤 H 𝓜 𝓖 𝓡 code.env))
+    (kit.fmOf 𝓤 H (givenOf 𝓤 H 𝓜 𝓖 .laws) (𝓣of 𝓤 H 𝓜 𝓖 𝓡 code.env))
     (cited 𝓤 H _ 𝓜 𝓡 code.env next.Symbol.name next.Symbol.routine code.calls-reader·next (next.Met.met 𝓤 H 𝓜 𝓖 𝓡))
     (cited 𝓤 H _ 𝓜 𝓡 code.env opn.Symbol.name opn.Symbol.routine code.calls-reader·open (opn.Met.met 𝓤 H 𝓜 𝓖 𝓡))))

@@ -2,14 +2,11 @@
 -- which stores the units of the span at the cursor; that they are those of as many single steps is shown of the definitions (`Spanned`). Of the
 -- functions that it calls the proof knows their contracts alone.
 -- Assumes nothing.
-use Rattle.walks.proofs.Names.{_≡_, refl, sym, _∙_, ap, subst, ℕ, _+_, _-_, _*_, _≤_, _<_, _^_, zero-le, [], _∷_, List, length, URA, fullShare, named}
-use Rattle.walks.proofs.Names.{w64, Val, vint, SProp, ent, emp, via, fst∗, id⊢, Lft, Share, GName, Fml, ftrue, flft, Memory, Routine, Heap, Env, WpFn}
-use Rattle.walks.proofs.Names.{Tables, Atoms, Fun, givenOf, Given, Item, ‵, raw, _⊛_, prop, runs, atRet, Sq, _$_, _∵_, !, qed, move, keep, let-go}
-use Rattle.walks.proofs.Names.{use0, use1, use2, split, join, rewrite, fsplit, suffices, frame, done, look, store, forget, stop, from, lit, of-opd}
-use Rattle.walks.proofs.Names.{bin, no-more, assigns-last, land, returns, exec, FmC, fmOf, owns, Is, uint-vals, uint-tells, uint-lawful, u8, usize}
-use Rattle.walks.proofs.Names.{RefT, sliceVal, ShrSlice, MutSlice, Room, finally, slice-vals, shr-slice-tells, mut-slice-tells, owned, nothing, plain}
-use Rattle.walks.proofs.Names.{onEntry, tripleOf, Contract, Triple, cited, says, Stays, stay-none-slice, stay-slice, walkOf, goes-none-slice}
-use Rattle.walks.proofs.Names.{goes-slice, ends-at, yes}
+use Rattle.walks.proofs.Names.{_≡_, refl, _∙_, ap, subst, ℕ, _+_, _-_, _*_, _≤_, _<_, _^_, [], _∷_, List, length, named, w64, Val, vint, SProp, id⊢}
+use Rattle.walks.proofs.Names.{GName, Fml, ftrue, flft, Tables, givenOf, ‵, raw, _⊛_, prop, atRet, Sq, _$_, _∵_, !, qed, move, let-go, use0, use1}
+use Rattle.walks.proofs.Names.{use2, split, join, fsplit, frame, done, store, stop, from, lit, of-opd, bin, no-more, FmC, Is, u8, RefT, MutSlice}
+use Rattle.walks.proofs.Names.{nothing, plain, tripleOf, Contract, Triple, cited, says, yes}
+use Rattle.walks.proofs.Names as kit
 use native.Mathlib.Nat.{le-antisymm}
 use native.Mathlib.Omega.{arith}
 use lib.Dec.{ltb→lt, nltb→le, lit<}
@@ -51,12 +48,13 @@ use Rattle.cursor.proofs.Cursor.first as first-fn
 use Rattle.read.proofs.read as read
 use Rattle.read.proofs.read.Code as code
 
-abbrev stayed : Stays (read.ended .signature .params) (read.ended .kept)
-stayed = (stay-none-slice (0 ∷ []) tt (plain (λ _. u8)) yes, (stay-slice (1 ∷ []) tt (plain (λ _. U.the-row)), tt))
+abbrev stayed : kit.Stays (read.ended .signature .params) (read.ended .kept)
+stayed = (kit.stay-none-slice (0 ∷ []) tt (plain (λ _. u8)) yes, (kit.stay-slice (1 ∷ []) tt (plain (λ _. U.the-row)), tt))
 
-module _ {M : Type 1} (𝓤 : URA M) (H : Heap 𝓤) (A : Atoms 𝓤) (W : Given 𝓤 H A) (at-mem : Memory → SProp 𝓤) (run : Routine → Fun 𝓤)
-    (κ κ′ : Lft) (q q′ : Share) (s : RefT (List ℕ)) (b o : ℕ) (γ : GName) (ys : List UnitRecord)
-    (s-fits : length (s .now) < 2 ^ 64) (room : Room U.the-row (length ys)) where
+module _ {M : Type 1} (𝓤 : kit.URA M) (H : kit.Heap 𝓤) (A : kit.Atoms 𝓤) (W : kit.Given 𝓤 H A) (at-mem : kit.Memory → SProp 𝓤)
+    (run : kit.Routine → kit.Fun 𝓤)
+    (κ κ′ : kit.Lft) (q q′ : kit.Share) (s : RefT (List ℕ)) (b o : ℕ) (γ : GName) (ys : List UnitRecord)
+    (s-fits : length (s .now) < 2 ^ 64) (room : kit.Room U.the-row (length ys)) where
   -- the contracts that the proof cites
   abbrev SpanAt : Contract 𝓤
   SpanAt = tripleOf 𝓤 H A span-at.signature (span-at.spec 𝓤 H A at-mem run)
@@ -84,10 +82,10 @@ module _ {M : Type 1} (𝓤 : URA M) (H : Heap 𝓤) (A : Atoms 𝓤) (W : Given
 
   -- the machine values passed
   abbrev vs : Val
-  vs = sliceVal (s .ptr) (length xs)
+  vs = kit.sliceVal (s .ptr) (length xs)
 
   abbrev vo : Val
-  vo = sliceVal (b, o) (length ys)
+  vo = kit.sliceVal (b, o) (length ys)
 
   abbrev Arg : Type 0
   Arg = RefT (List ℕ) × (RefT (List UnitRecord) × Unit {0})
@@ -109,10 +107,10 @@ module _ {M : Type 1} (𝓤 : URA M) (H : Heap 𝓤) (A : Atoms 𝓤) (W : Given
   same i = length-fill (unitAt xs) (after xs) i first ys
 
   abbrev Post : Val → SProp 𝓤
-  Post = walkOf 𝓤 H A read.ended stayed (read.clauses 𝓤 H A at-mem run) .post (((κ, (κ′, tt)), (q, (q′, tt)), tt, a, vals), tt)
+  Post = kit.walkOf 𝓤 H A read.ended stayed (read.clauses 𝓤 H A at-mem run) .post (((κ, (κ′, tt)), (q, (q′, tt)), tt, a, vals), tt)
 
   abbrev Own : Fml
-  Own = ShrSlice (named 0) κ u8 .own s (vs ∷ [])
+  Own = kit.ShrSlice (named 0) κ u8 .own s (vs ∷ [])
 
   abbrev Units : List UnitRecord → Fml
   Units l = MutSlice (named 1) κ′ U.the-row .own (x γ l) (vo ∷ [])
@@ -122,14 +120,14 @@ module _ {M : Type 1} (𝓤 : URA M) (H : Heap 𝓤) (A : Atoms 𝓤) (W : Given
 
   exits : IsN → Sq W (‵ (flft κ q) ∷ ‵ Own ∷ ‵ (Units (got xs ys n)) ∷ ‵ (flft κ′ q′) ∷ []) (prop (Post (N′.lowered ans)))
   exits is =
-      suffices ! _ (ends-at 𝓤 H A read.ended stayed (read.clauses 𝓤 H A at-mem run) W (((κ, (κ′, tt)), (q, (q′, tt)), tt, a, vals), tt)
+      kit.suffices ! _ (kit.ends-at 𝓤 H A read.ended stayed (read.clauses 𝓤 H A at-mem run) W (((κ, (κ′, tt)), (q, (q′, tt)), tt, a, vals), tt)
       (N′.lowered ans) ans (tt, (got xs ys n, tt)) (tt, (same n, tt))) $
       says ! (refl, filled xs ys) $
       -- the tokens
       nothing ! $ joins ! 3 refl $ joins ! 0 refl $ frame ! $
       -- [what s owns; the list]
       nothing ! $ fjoins ! 1 refl $ fjoins ! 0 refl $
-      frame ! $ owned ! N.the-row (Is N.the-row) (LL.makes N.the-type N′.the-plain 𝓤 H A) ans _ is $ done !
+      frame ! $ kit.owned ! N.the-row (Is N.the-row) (LL.makes N.the-type N′.the-plain 𝓤 H A) ans _ is $ done !
 
   -- ---- what the callees ask and give
   abbrev IsK : Cursor → Type 0
@@ -179,7 +177,7 @@ module _ {M : Type 1} (𝓤 : URA M) (H : Heap 𝓤) (A : Atoms 𝓤) (W : Given
   to-fill i ν δ = (
     (
       (κ, (ν ∷ [], tt)),
-      (q, (fullShare, tt)),
+      (q, (kit.fullShare, tt)),
       tt,
       (s, (span i, (x δ (got xs ys i), (i, tt)))),
       (vs ∷ [], (R′.lowered (span i) ∷ [], (vo ∷ [], (vint w64 i ∷ [], tt)))),
@@ -188,7 +186,8 @@ module _ {M : Type 1} (𝓤 : URA M) (H : Heap 𝓤) (A : Atoms 𝓤) (W : Given
   )
 
   asks-fill : (i : ℕ) → IsR (span i) → i < 2 ^ 64 → i + span i .most ≤ length (got xs ys i) → (ν : ℕ) (δ : GName)
-      → Sq W ((‵ (flft κ q) ⊛ ‵ Own) ∷ ‵ (flft (ν ∷ []) fullShare) ∷ ‵ (MutSlice (named 0) (ν ∷ []) U.the-row .own (x δ (got xs ys i))
+      → Sq W ((‵ (flft κ q) ⊛ ‵ Own) ∷ ‵ (flft (ν ∷ []) kit.fullShare) ∷
+      ‵ (MutSlice (named 0) (ν ∷ []) U.the-row .own (x δ (got xs ys i))
       (vo ∷ [])) ∷ []) (prop (Fill .pre (to-fill i ν δ)))
   asks-fill i is fits left ν δ =
       says ! (span-fits xs (cur xs ys i) (n - i), left) $
@@ -229,7 +228,7 @@ module _ {M : Type 1} (𝓤 : URA M) (H : Heap 𝓤) (A : Atoms 𝓤) (W : Given
       omega (arith, h, k, less)
 
   left-got : (i : ℕ) → i < n → i + span i .most ≤ length (got xs ys i)
-  left-got i less = subst (λ (m : ℕ). i + span i .most ≤ m) (sym (same i)) (left-most i less)
+  left-got i less = subst (λ (m : ℕ). i + span i .most ≤ m) (kit.sym (same i)) (left-most i less)
 
   count-in : (i : ℕ) → i < n → i + count i ≤ n
   count-in i less =
@@ -255,10 +254,10 @@ module _ {M : Type 1} (𝓤 : URA M) (H : Heap 𝓤) (A : Atoms 𝓤) (W : Given
   module _ (𝓣 : Tables 𝓤 H) (fm : FmC 𝓤 H (W .laws) (𝓣 .C)) (known-span : Triple 𝓤 (𝓣 .C span-at.Symbol.name) SpanAt)
       (known-fill : Triple 𝓤 (𝓣 .C fill.Symbol.name) Fill)
       (known-moved : Triple 𝓤 (𝓣 .C moved.Symbol.name) Moved) (is-ans : IsN) (bs : Blocks (code.function .locals)) where
-    abbrev En : Env 𝓤 H
+    abbrev En : kit.Env 𝓤 H
     En = envOf (code.function .locals) bs
 
-    abbrev At : Turn → List (Item 𝓤)
+    abbrev At : Turn → List (kit.Item 𝓤)
     At i = ‵ (flft κ q) ∷ ‵ Own ∷ ‵ (Units (got xs ys (i .0))) ∷ ‵ (flft κ′ q′) ∷
         laid En (empty ∷ full vs ∷ full vo ∷ full (N′.lowered ans) ∷ full (vint w64 n) ∷ full (K′.lowered (cur xs ys (i .0))) ∷
         full (vint w64 (i .0)) ∷ []) []
@@ -287,46 +286,46 @@ module _ {M : Type 1} (𝓤 : URA M) (H : Heap 𝓤) (A : Atoms 𝓤) (W : Given
         (to-fill (i .0)) (‵ (flft κ q) ⊛ ‵ Own) (‵ (flft κ q)) (vint w64 (count (i .0))) (Left (i .0))
         (λ l e. ap length (e ∙ list-next xs ys (short (i .0) less) (i .0) (n - i .0) (left-most (i .0) less)) ∙ same (i .0 + count (i .0)))
         (Beside W κ q) (back-beside W κ q) (λ ν δ. asks-fill (i .0) is-r (omega (arith, less, n-fits)) (left-got (i .0) less) ν δ .prf)
-        (Is usize (count (i .0)) (vint w64 (count (i .0)) ∷ []))
+        (Is kit.usize (count (i .0)) (vint w64 (count (i .0)) ∷ []))
         (λ ν δ u. gave-one 𝓤 H A W fill.ended (fill.clauses 𝓤 H A at-mem run) (to-fill (i .0) ν δ) (count (i .0)) (Left (i .0))
-        (finally U.the-row δ) (λ ws. ws .1 .1 .0) (λ r ws. id⊢ 𝓤 _)
-        (λ ws. past ! $ past ! $ front ! $ front ! $ done !) (uint-vals w64) (uint-tells w64) u)
+        (kit.finally U.the-row δ) (λ ws. ws .1 .1 .0) (λ r ws. id⊢ 𝓤 _)
+        (λ ws. past ! $ past ! $ front ! $ front ! $ done !) (kit.uint-vals w64) (kit.uint-tells w64) u)
         (λ ν δ. arg ! 27 refl (arg ! 15 refl (arg ! 3 refl (arg ! 17 refl (no-more !))))) (λ l is-k e.
         -- [the token of s; the list; its token; what s owns; the locals]
-        rewrite ! 1 (λ (w : List UnitRecord). ‵ (Units w)) (e ∙ list-next xs ys (short (i .0) less) (i .0) (n - i .0) (left-most (i .0) less)) refl $
-        lands-in ! 14 refl (uint-lawful 𝓤 H A W w64 .typed (count (i .0)) _ is-k .0) $
+        kit.rewrite ! 1 (λ (w : List UnitRecord). ‵ (Units w)) (e ∙ list-next xs ys (short (i .0) less) (i .0) (n - i .0) (left-most (i .0) less)) refl $
+        lands-in ! 14 refl (kit.uint-lawful 𝓤 H A W w64 .typed (count (i .0)) _ is-k .0) $
         -- the cursor and the number move on
         use0 W (raw (Moved .pre (to-moved (i .0)))) (asks-moved (i .0) is-r (is-k .1) .prf) $
         calls-value ! fm moved.ended (moved.clauses 𝓤 H A at-mem run) known-moved (to-moved (i .0)) (movedOf (span (i .0)) (count (i .0))) (λ r e.
         id⊢ 𝓤 _) (LL.vals K.the-type K′.the-laws) (LL.tells K.the-type K′.the-laws)
         (arg ! 17 refl (arg ! 15 refl (no-more !))) (λ is-c.
-        let-go ! $ land ! (from ! (stop !)) (store ! 20 refl (LL.lawful K.the-type K′.the-laws 𝓤 H A W .typed (movedOf (span (i .0)) (count (i .0)))
+        let-go ! $ kit.land ! (from ! (stop !)) (store ! 20 refl (LL.lawful K.the-type K′.the-laws 𝓤 H A W .typed (movedOf (span (i .0)) (count (i .0)))
         _ is-c .0)) $
         recasts ! 20 (λ (c : Cursor). (K′.lowered c)) (cursor-next xs ys (short (i .0) less) (i .0) (n - i .0) (omega (arith, less))
         (left-most (i .0) less)) refl $
-        assigns-last ! (bin ! (var ! 18 refl) (var ! 14 refl) (record { fits = omega (arith, count-in (i .0) less, n-fits) })) (from ! (stop !))
+        kit.assigns-last ! (bin ! (var ! 18 refl) (var ! 14 refl) (record { fits = omega (arith, count-in (i .0) less, n-fits) })) (from ! (stop !))
         (store ! 18 refl (in64 (omega (arith, count-in (i .0) less, n-fits)))) $
         clears ! 4 13 refl $ move ! (0 ∷ 3 ∷ 1 ∷ 2 ∷ []) $ rounds ! μ At i (further i less is-c) (nearer i less)))))
         -- the loop is left
-        (λ over. exec ! (𝓣 .C) (𝓣 .Λ) En code.Mir.t-7 (atRet En Post) $
+        (λ over. kit.exec ! (𝓣 .C) (𝓣 .Λ) En code.Mir.t-7 (atRet En Post) $
         sets ! 30 (of-opd ! (var ! 24 refl)) refl (LL.lawful N.the-type N′.the-laws 𝓤 H A W .typed ans _ is-ans .0) $
-        rewrite ! 2 (λ (j : ℕ). ‵ (Units (got xs ys j))) (le-antisymm (i .1 .0) (nltb→le (i .0) n over)) refl $
-        returns ! (look ! 30 refl) $ leaves ! 4 refl refl $ (exits is-ans))
+        kit.rewrite ! 2 (λ (j : ℕ). ‵ (Units (got xs ys j))) (le-antisymm (i .1 .0) (nltb→le (i .0) n over)) refl $
+        kit.returns ! (kit.look ! 30 refl) $ leaves ! 4 refl refl $ (exits is-ans))
 
-    looped : (is : IsK first) → Sq W (At (0, (zero-le, is))) (runs (𝓣 .C) (𝓣 .Λ) En code.Mir.t-6 (atRet En Post))
-    looped is = loop-by W 𝓣 En Post code.Mir.turn-1 code.Mir.t-7 μ At turns (0, (zero-le, is))
+    looped : (is : IsK first) → Sq W (At (0, (kit.zero-le, is))) (kit.runs (𝓣 .C) (𝓣 .Λ) En code.Mir.t-6 (atRet En Post))
+    looped is = loop-by W 𝓣 En Post code.Mir.turn-1 code.Mir.t-7 μ At turns (0, (kit.zero-le, is))
 
   -- ---- the code up to the loop
   module _ (𝓣 : Tables 𝓤 H) (fm : FmC 𝓤 H (W .laws) (𝓣 .C)) (known-span : Triple 𝓤 (𝓣 .C span-at.Symbol.name) SpanAt)
       (known-fill : Triple 𝓤 (𝓣 .C fill.Symbol.name) Fill)
       (known-moved : Triple 𝓤 (𝓣 .C moved.Symbol.name) Moved) (known-answer : Triple 𝓤 (𝓣 .C answer.Symbol.name) Answers)
       (known-stored : Triple 𝓤 (𝓣 .C stored.Symbol.name) Stored) (known-first : Triple 𝓤 (𝓣 .C first-fn.Symbol.name) First) where
-    walk : ent 𝓤 (onEntry 𝓤 H A read.signature (κ, (κ′, tt)) (q, (q′, tt)) a vals)
-        (WpFn 𝓤 H (𝓣 .C) (𝓣 .Λ) code.function (vs ∷ vo ∷ []) Post)
+    walk : kit.ent 𝓤 (kit.onEntry 𝓤 H A read.signature (κ, (κ′, tt)) (q, (q′, tt)) a vals)
+        (kit.WpFn 𝓤 H (𝓣 .C) (𝓣 .Λ) code.function (vs ∷ vo ∷ []) Post)
     walk =
         qed W ((‵ (flft κ q) ⊛ ‵ (flft κ′ q′) ⊛ ‵ ftrue) ∷
-        ‵ (owns (ShrSlice (named 0) κ u8 ∷ MutSlice (named 1) κ′ U.the-row ∷ []) a vals) ∷ []) ∵
-        split ! $ move ! (1 ∷ []) $ split ! $ move ! (3 ∷ []) $ fsplit ! $ move ! (1 ∷ []) $ fsplit ! $ keep ! (5 ∷ 2 ∷ 0 ∷ 3 ∷ []) $
+        ‵ (kit.owns (kit.ShrSlice (named 0) κ u8 ∷ MutSlice (named 1) κ′ U.the-row ∷ []) a vals) ∷ []) ∵
+        split ! $ move ! (1 ∷ []) $ split ! $ move ! (3 ∷ []) $ fsplit ! $ move ! (1 ∷ []) $ fsplit ! $ kit.keep ! (5 ∷ 2 ∷ 0 ∷ 3 ∷ []) $
         enters ! (𝓣 .C) (𝓣 .Λ) code.function (vs ∷ vo ∷ []) _ (λ bs. (sliced s-fits, (sliced (room .0), tt))) (λ bs.
         -- [the locals; the token of s; what s owns; the list; its token]
         sets ! 8 (of-opd ! (part ! 22 1 refl refl refl)) refl (in64 (room .0)) $
@@ -337,14 +336,15 @@ module _ {M : Type 1} (𝓤 : URA M) (H : Heap 𝓤) (A : Atoms 𝓤) (W : Given
         use1 W (‵ (flft κ q) ⊛ ‵ ftrue) (id⊢ 𝓤 _) $ split ! $ move ! (1 ∷ []) $ let-go ! $
         lands-in ! 22 refl (LL.lawful N.the-type N′.the-laws 𝓤 H A W .typed ans _ is-ans .0) $
         use0 W (raw (Stored .pre to-stored)) (asks-stored is-ans .prf) $
-        calls-value ! fm stored.ended (stored.clauses 𝓤 H A at-mem run) known-stored to-stored n (λ r e. id⊢ 𝓤 _) (uint-vals w64) (uint-tells w64)
+        calls-value ! fm stored.ended (stored.clauses 𝓤 H A at-mem run) known-stored to-stored n (λ r e. id⊢ 𝓤 _) (kit.uint-vals w64)
+        (kit.uint-tells w64)
         (arg ! 23 refl (no-more !)) (λ is-n.
-        let-go ! $ lands-in ! 20 refl (uint-lawful 𝓤 H A W w64 .typed n _ is-n .0) $
+        let-go ! $ lands-in ! 20 refl (kit.uint-lawful 𝓤 H A W w64 .typed n _ is-n .0) $
         use0 W (raw (First .pre ((tt, tt, tt, tt, tt), tt))) (asks-first .prf) $
         calls-value ! fm first-fn.ended (first-fn.clauses 𝓤 H A at-mem run) known-first ((tt, tt, tt, tt, tt), tt) first (λ r e.
         id⊢ 𝓤 _) (LL.vals K.the-type K′.the-laws) (LL.tells K.the-type K′.the-laws) (no-more !) (λ is-first.
         let-go ! $ lands-in ! 18 refl (LL.lawful K.the-type K′.the-laws 𝓤 H A W .typed first _ is-first .0) $
-        sets ! 16 (of-opd ! (lit ! tt)) refl (in64 (lit< tt)) $ forget ! 10 refl $ move ! (0 ∷ 1 ∷ 30 ∷ 31 ∷ []) $
+        sets ! 16 (of-opd ! (lit ! tt)) refl (in64 (lit< tt)) $ kit.forget ! 10 refl $ move ! (0 ∷ 1 ∷ 30 ∷ 31 ∷ []) $
         looped 𝓣 fm known-span known-fill known-moved is-ans bs is-first))))
 
 pub read-spec : {M : Type 1} → read.Statement.statement M
@@ -352,13 +352,15 @@ unfolding code.routine tablesOf
 read-spec 𝓤 H 𝓜 𝓖 𝓡 =
     proved-by 𝓤 H 𝓜 𝓖 𝓡 code.env read.Key.name code.function (code.unfolded 𝓤 H 𝓜 𝓡) read.ended stayed
     (read.clauses 𝓤 H (𝓖 .A) (𝓜 .mem) (𝓡 .run)) (
-      goes-none-slice 𝓤 H (𝓖 .A) (givenOf 𝓤 H 𝓜 𝓖) 2 (0 ∷ []) tt (plain (λ _. u8)) yes,
-      (goes-slice 𝓤 H (𝓖 .A) (givenOf 𝓤 H 𝓜 𝓖) 2 1 tt (plain (λ _. U.the-row)), tt),
+      kit.goes-none-slice 𝓤 H (𝓖 .A) (givenOf 𝓤 H 𝓜 𝓖) 2 (0 ∷ []) tt (plain (λ _. u8)) yes,
+      (kit.goes-slice 𝓤 H (𝓖 .A) (givenOf 𝓤 H 𝓜 𝓖) 2 1 tt (plain (λ _. U.the-row)), tt),
     )
-    (λ κs. (slice-vals, (slice-vals, tt))) (λ κs. (shr-slice-tells (named 0) (κs .0) u8, (mut-slice-tells (named 1) (κs .1 .0) U.the-row, tt)))
-    (λ κs qs bounds a g are. via 𝓤 _ (fst∗ 𝓤 _ (emp 𝓤)) (walk 𝓤 H (𝓖 .A) (givenOf 𝓤 H 𝓜 𝓖) (𝓜 .mem) (𝓡 .run) (κs .0)
+    (λ κs. (kit.slice-vals, (kit.slice-vals, tt)))
+    (λ κs. (kit.shr-slice-tells (named 0) (κs .0) u8, (kit.mut-slice-tells (named 1) (κs .1 .0) U.the-row, tt)))
+    (λ κs qs bounds a g are. kit.via 𝓤 _ (kit.fst∗ 𝓤 _ (kit.emp 𝓤)) (walk 𝓤 H (𝓖 .A) (givenOf 𝓤 H 𝓜 𝓖) (𝓜 .mem) (𝓡 .run)
+    (κs .0)
     (κs .1 .0) (qs .0) (qs .1 .0) (a .0) (a .1 .0 .ptr .0) (a .1 .0 .ptr .1) (a .1 .0 .name) (a .1 .0 .now) (are .0 .0 .1 .0) (are .1 .0 .0 .1)
-    (𝓣of 𝓤 H 𝓜 𝓖 𝓡 code.env) (fmOf 𝓤 H (givenOf 𝓤 H 𝓜 𝓖 .laws) (𝓣of 𝓤 H 𝓜 𝓖 𝓡 code.env))
+    (𝓣of 𝓤 H 𝓜 𝓖 𝓡 code.env) (kit.fmOf 𝓤 H (givenOf 𝓤 H 𝓜 𝓖 .laws) (𝓣of 𝓤 H 𝓜 𝓖 𝓡 code.env))
     (cited 𝓤 H _ 𝓜 𝓡 code.env span-at.Symbol.name span-at.Symbol.routine code.calls-read·spans·span-at (span-at.Met.met 𝓤 H 𝓜 𝓖 𝓡))
     (cited 𝓤 H _ 𝓜 𝓡 code.env fill.Symbol.name fill.Symbol.routine code.calls-read·fill (fill.Met.met 𝓤 H 𝓜 𝓖 𝓡))
     (cited 𝓤 H _ 𝓜 𝓡 code.env moved.Symbol.name moved.Symbol.routine code.calls-read·spans·moved (moved.Met.met 𝓤 H 𝓜 𝓖 𝓡))

@@ -2,15 +2,11 @@
 -- list, and the work room is lent to `turn`, which checks the record and puts it into its row, and then with the list to `stow_quickly`, which
 -- does so for records that the quick check lets through and answers where the next turn begins. Of the functions that it calls the proof
 -- knows their contracts alone. Assumes nothing.
-use Rattle.walks.proofs.Names.{_≡_, refl, sym, _∙_, ap, subst, ℕ, suc, _+_, _-_, _*_, _≤_, _<_, _^_, zero-le, [], _∷_, List, length, getD, URA}
-use Rattle.walks.proofs.Names.{fullShare, named, w64, Val, vint, vptr, SProp, ent, emp, via, fst∗, id⊢, Lft, Share, GName, Fml, ftrue, flft, Memory}
-use Rattle.walks.proofs.Names.{Routine, Heap, Env, WpFn, Tables, Atoms, Fun, givenOf, let-go, Given, Item, ‵, raw, _⊛_, prop, runs, atRet, Sq, _$_}
-use Rattle.walks.proofs.Names.{_∵_, !, qed, move, keep, use0, split, join, rewrite, fsplit, fjoin, suffices, frame, done, look, look-raw, store}
-use Rattle.walks.proofs.Names.{forget, stop, hop, from, load, lit, of-opd, bin, no-more, land, returns, exec, FmC, fmOf, owns, Is, shows, uint-vals}
-use Rattle.walks.proofs.Names.{uint-tells, uint-lawful, u8, RefT, sliceVal, ShrSlice, MutSlice, Room, finally, slice-vals, shr-slice-tells}
-use Rattle.walks.proofs.Names.{mut-slice-tells, place-is, elem-out, elem-back, looks-slice, shuts-slice, owned, nothing, plain, yes, onEntry}
-use Rattle.walks.proofs.Names.{tripleOf, Contract, Triple, cited, says, Stays, stay-none-slice, stay-slice, walkOf, goes-none-slice, goes-slice}
-use Rattle.walks.proofs.Names.{ends-at}
+use Rattle.walks.proofs.Names.{_≡_, refl, sym, _∙_, ap, subst, ℕ, suc, _+_, _-_, _*_, _≤_, _<_, _^_, [], _∷_, List, length, fullShare, named, w64}
+use Rattle.walks.proofs.Names.{Val, vint, SProp, id⊢, GName, Fml, flft, Tables, givenOf, let-go, ‵, raw, _⊛_, prop, atRet, Sq, _$_, _∵_, !, qed, move}
+use Rattle.walks.proofs.Names.{use0, split, join, fsplit, frame, done, look, stop, from, lit, of-opd, bin, no-more, FmC, Is, shows, u8, RefT}
+use Rattle.walks.proofs.Names.{sliceVal, ShrSlice, MutSlice, Room, slice-vals, owned, nothing, plain, yes, tripleOf, Contract, Triple, cited, says}
+use Rattle.walks.proofs.Names as kit
 use native.Mathlib.Nat.{le-antisymm}
 use native.Mathlib.Numerals.{add-one}
 use native.Mathlib.Omega.{arith}
@@ -44,12 +40,12 @@ use Rattle.write.proofs.stow_quickly as quickly
 use Rattle.write.proofs.stow as stow
 use Rattle.write.proofs.stow.Code as code
 
-abbrev stayed : Stays (stow.ended .signature .params) (stow.ended .kept)
+abbrev stayed : kit.Stays (stow.ended .signature .params) (stow.ended .kept)
 stayed = (
-  stay-none-slice (0 ∷ []) tt (plain (λ _. U.the-row)) yes,
+  kit.stay-none-slice (0 ∷ []) tt (plain (λ _. U.the-row)) yes,
   (
-    stay-none-slice (1 ∷ []) tt (plain (λ _. u8)) yes,
-    (stay-slice (2 ∷ []) tt (plain (λ _. u8)), tt),
+    kit.stay-none-slice (1 ∷ []) tt (plain (λ _. u8)) yes,
+    (kit.stay-slice (2 ∷ []) tt (plain (λ _. u8)), tt),
   ),
 )
 
@@ -60,8 +56,9 @@ mach p = EL.val P.the-type P′.the-laws p
 abbrev IsP : Progress → Type 0
 IsP p = Is P.the-row p (mach p ∷ [])
 
-module _ {M : Type 1} (𝓤 : URA M) (H : Heap 𝓤) (A : Atoms 𝓤) (W : Given 𝓤 H A) (at-mem : Memory → SProp 𝓤) (run : Routine → Fun 𝓤)
-    (κ₀ κ₁ κ₂ : Lft) (q₀ q₁ q₂ : Share)
+module _ {M : Type 1} (𝓤 : kit.URA M) (H : kit.Heap 𝓤) (A : kit.Atoms 𝓤) (W : kit.Given 𝓤 H A) (at-mem : kit.Memory → SProp 𝓤)
+    (run : kit.Routine → kit.Fun 𝓤)
+    (κ₀ κ₁ κ₂ : kit.Lft) (q₀ q₁ q₂ : kit.Share)
     (s : RefT (List UnitRecord)) (t : RefT (List ℕ)) (b o : ℕ) (γ : GName) (ys : List ℕ) (s-room : Room U.the-row (length (s .now)))
     (t-room : Room u8 (length (t .now))) (room : Room u8 (length ys)) where
   -- the contracts that the proof cites
@@ -116,10 +113,10 @@ module _ {M : Type 1} (𝓤 : URA M) (H : Heap 𝓤) (A : Atoms 𝓤) (W : Given
   n-fits = omega (arith, looked-most (length us), s-room .0)
 
   abbrev unit : ℕ → UnitRecord
-  unit i = getD us i noRecord
+  unit i = kit.getD us i noRecord
 
   abbrev Post : Val → SProp 𝓤
-  Post = walkOf 𝓤 H A stow.ended stayed (stow.clauses 𝓤 H A at-mem run) .post (
+  Post = kit.walkOf 𝓤 H A stow.ended stayed (stow.clauses 𝓤 H A at-mem run) .post (
     ((κ₀, (κ₁, (κ₂, tt))), (q₀, (q₁, (q₂, tt))), tt, a, vals),
     tt,
   )
@@ -137,7 +134,7 @@ module _ {M : Type 1} (𝓤 : URA M) (H : Heap 𝓤) (A : Atoms 𝓤) (W : Given
       → Sq W (‵ (flft κ₀ q₀) ∷ ‵ Units ∷ ‵ (flft κ₁ q₁) ∷ ‵ Segments ∷ ‵ (Work w) ∷ ‵ (flft κ₂ q₂) ∷ [])
       (prop (Post (mach (at n))))
   exits w st is =
-      suffices ! _ (ends-at 𝓤 H A stow.ended stayed (stow.clauses 𝓤 H A at-mem run) W
+      kit.suffices ! _ (kit.ends-at 𝓤 H A stow.ended stayed (stow.clauses 𝓤 H A at-mem run) W
       (((κ₀, (κ₁, (κ₂, tt))), (q₀, (q₁, (q₂, tt))), tt, a, vals), tt) (mach (at n)) (at n) (tt, (tt, (w, tt))) (tt, (tt, (st .same, tt)))) $
       says ! (refl, st) $
       -- the tokens
@@ -217,7 +214,7 @@ module _ {M : Type 1} (𝓤 : URA M) (H : Heap 𝓤) (A : Atoms 𝓤) (W : Given
       -- [what the units own; the room]
       nothing ! $ fjoins ! 1 refl $ number ! n n-fits $
       number ! (suc i) (omega (arith, less, n-fits)) $
-      fjoins ! 0 refl $ owned ! P.the-row (Is P.the-row) (EL.makes P.the-type P′.the-plain 𝓤 H A) (at (suc i)) _ is-p $ fjoin ! $ done !
+      fjoins ! 0 refl $ owned ! P.the-row (Is P.the-row) (EL.makes P.the-type P′.the-plain 𝓤 H A) (at (suc i)) _ is-p $ kit.fjoin ! $ done !
 
   -- ---- the loop: its variant is a turn's number, the room, and what is known of them
   abbrev Going : Type 0
@@ -263,10 +260,10 @@ module _ {M : Type 1} (𝓤 : URA M) (H : Heap 𝓤) (A : Atoms 𝓤) (W : Given
   module _ (𝓣 : Tables 𝓤 H) (fm : FmC 𝓤 H (W .laws) (𝓣 .C)) (known-turn : Triple 𝓤 (𝓣 .C turn.Symbol.name) Turn)
       (known-quickly : Triple 𝓤 (𝓣 .C quickly.Symbol.name) Quickly)
       (bs : Blocks (code.function .locals)) where
-    abbrev En : Env 𝓤 H
+    abbrev En : kit.Env 𝓤 H
     En = envOf (code.function .locals) bs
 
-    abbrev At : Going → List (Item 𝓤)
+    abbrev At : Going → List (kit.Item 𝓤)
     At g = ‵ (flft κ₀ q₀) ∷ ‵ Units ∷ ‵ (flft κ₁ q₁) ∷ ‵ Segments ∷ ‵ (Work (g .1 .0)) ∷ ‵ (flft κ₂ q₂) ∷
         laid En (empty ∷ full vs ∷ full vt ∷ full vw ∷ full (vint w64 n) ∷ full (mach (at (g .0))) ∷ full (vint w64 (g .0)) ∷ []) []
 
@@ -279,16 +276,16 @@ module _ {M : Type 1} (𝓤 : URA M) (H : Heap 𝓤) (A : Atoms 𝓤) (W : Given
         -- the record is read
         sets ! 18 (bin ! (var ! 26 refl) (lit ! tt) (record { fits = place-fits (g .0) less })) refl (in64 (place-fits (g .0) less)) $
         sets ! 16 (bin ! (part ! 36 0 refl refl refl) (var ! 18 refl) tt) refl (tt, tt) $
-        recasts ! 16 (vptr (s .ptr .0)) (sym (place-is 12 (s .ptr .1) (g .0))) refl $
+        recasts ! 16 (kit.vptr (s .ptr .0)) (sym (kit.place-is 12 (s .ptr .1) (g .0))) refl $
         move ! (1 ∷ []) $ copies ! (named 0) κ₀ U.the-row s (vs ∷ []) $ fsplit ! $ let-go ! $ fsplit ! $ let-go ! $ move ! (0 ∷ 2 ∷ []) $
-        looks-slice ! tt U.the-row (Is U.the-row) (shows 𝓤 H A U.the-row) (LL.vals U.the-type U′.the-laws) (LL.tells U.the-type U′.the-laws)
+        kit.looks-slice ! tt U.the-row (Is U.the-row) (shows 𝓤 H A U.the-row) (LL.vals U.the-type U′.the-laws) (LL.tells U.the-type U′.the-laws)
         (LL.copy U.the-type U′.the-copy 𝓤 H A W) us (s .ptr .0) (s .ptr .1) (λ p.
-        elem-out ! U.the-row (Is U.the-row) (shows 𝓤 H A U.the-row) (LL.vals U.the-type U′.the-laws) (LL.tells U.the-type U′.the-laws) p us (g .0)
+        kit.elem-out ! U.the-row (Is U.the-row) (shows 𝓤 H A U.the-row) (LL.vals U.the-type U′.the-laws) (LL.tells U.the-type U′.the-laws) p us (g .0)
         noRecord (s .ptr .0) (s .ptr .1) (inside (g .0) less) (λ is-u.
-        sets ! 18 (of-opd ! (load ! (from ! (hop ! (look ! 20 refl) (stop !))) (look-raw ! 0 refl))) refl
+        sets ! 18 (of-opd ! (kit.load ! (from ! (kit.hop ! (look ! 20 refl) (stop !))) (kit.look-raw ! 0 refl))) refl
         (LL.lawful U.the-type U′.the-laws 𝓤 H A W .typed (unit (g .0)) _ is-u .0) $
-        elem-back ! U.the-row p us (g .0) noRecord (U′.lowered (unit (g .0)) ∷ []) (s .ptr .0) (s .ptr .1) (inside (g .0) less) $
-        shuts-slice ! tt U.the-row p us (s .ptr .0) (s .ptr .1) $ move ! (1 ∷ []) $ let-go ! $
+        kit.elem-back ! U.the-row p us (g .0) noRecord (U′.lowered (unit (g .0)) ∷ []) (s .ptr .0) (s .ptr .1) (inside (g .0) less) $
+        kit.shuts-slice ! tt U.the-row p us (s .ptr .0) (s .ptr .1) $ move ! (1 ∷ []) $ let-go ! $
         -- [the token of the units; what they own; that of the segments; what they own; the room; its token; the locals]: the room is borrowed again
         sets ! 12 (behind ! 32 refl refl) refl (tt, tt) $
         sets ! 10 (resliced ! 12 32 refl refl refl) refl (sliced (room .0)) $
@@ -300,12 +297,12 @@ module _ {M : Type 1} (𝓤 : URA M) (H : Heap 𝓤) (A : Atoms 𝓤) (W : Given
         (Beside W κ₁ q₁) (back-beside W κ₁ q₁) (λ ν δ. asks-turn (g .0) (g .1 .0) (omega (arith, next-fits (g .0) less)) (g .1 .1 .1 .1)
         is-u ν δ .prf) (IsP (next (g .0)))
         (λ ν δ u. gave-one 𝓤 H A W turn.ended (turn.clauses 𝓤 H A at-mem run) (to-turn (g .0) (g .1 .0) ν δ) (next (g .0)) (Left (g .0) (g .1 .0))
-        (finally u8 δ) (λ ws. ws .1 .1 .1 .1 .0) (λ r ws. id⊢ 𝓤 _)
+        (kit.finally u8 δ) (λ ws. ws .1 .1 .1 .1 .0) (λ r ws. id⊢ 𝓤 _)
         (λ ws. past ! $ past ! $ past ! $ past ! $ front ! $ front ! $ done !) (EL.vals P.the-type P′.the-laws) (EL.tells P.the-type P′.the-laws) u)
         (λ ν δ. arg ! 27 refl (arg ! 13 refl (arg ! 25 refl (arg ! 33 refl (arg ! 9 refl (no-more !)))))) (λ l is e.
         -- [the token of the segments; the room; its token; what the segments own; the token of the units; what they own; the locals]
-        rewrite ! 1 (λ (w : List ℕ). ‵ (Work w)) e refl $
-        land ! (from ! (stop !)) (store ! 28 refl (EL.lawful P.the-type P′.the-laws 𝓤 H A W tt .typed (next (g .0)) _ is .0)) $
+        kit.rewrite ! 1 (λ (w : List ℕ). ‵ (Work w)) e refl $
+        kit.land ! (from ! (stop !)) (kit.store ! 28 refl (EL.lawful P.the-type P′.the-laws 𝓤 H A W tt .typed (next (g .0)) _ is .0)) $
         recasts ! 28 mach (reached-next os us (g .0)) refl $
         -- from the next record on; the room is borrowed again
         resets ! 18 (bin ! (var ! 26 refl) (lit ! tt) (record { fits = next-fits (g .0) less })) refl (in64 (next-fits (g .0) less)) $
@@ -321,50 +318,51 @@ module _ {M : Type 1} (𝓤 : URA M) (H : Heap 𝓤) (A : Atoms 𝓤) (W : Given
         (Beside W κ₀ q₀) (back-beside W κ₀ q₀) (λ ν δ.
         asks-quickly (g .0) (turned g) (ltb→lt (g .0) n less) (subst IsP (reached-next os us (g .0)) is) ν δ .prf) _
         (λ ν δ u. gave-one 𝓤 H A W quickly.ended (quickly.clauses 𝓤 H A at-mem run) (to-quickly (g .0) (turned g) ν δ) (fin (g .0))
-        (Kept (g .0) (turned g)) (finally u8 δ) (λ ws. ws .1 .1 .1 .1 .0) (λ r ws. id⊢ 𝓤 _)
-        (λ ws. past ! $ past ! $ past ! $ past ! $ front ! $ front ! $ done !) (uint-vals w64) (uint-tells w64) u)
+        (Kept (g .0) (turned g)) (kit.finally u8 δ) (λ ws. ws .1 .1 .1 .1 .0) (λ r ws. id⊢ 𝓤 _)
+        (λ ws. past ! $ past ! $ past ! $ past ! $ front ! $ front ! $ done !) (kit.uint-vals w64) (kit.uint-tells w64) u)
         (λ ν δ. arg ! 27 refl (arg ! 35 refl (arg ! 17 refl (arg ! 29 refl (arg ! 5 refl (no-more !)))))) (λ l′ is-fin k.
         -- [the token of the units; the room; its token; what the units own; the token of the segments; what they own; the locals]
-        lands-in ! 24 refl (uint-lawful 𝓤 H A W w64 .typed (fin (g .0)) _ is-fin .0) $
-        resets-last ! 26 (of-opd ! (var ! 24 refl)) refl (uint-lawful 𝓤 H A W w64 .typed (fin (g .0)) _ is-fin .0) $
+        lands-in ! 24 refl (kit.uint-lawful 𝓤 H A W w64 .typed (fin (g .0)) _ is-fin .0) $
+        resets-last ! 26 (of-opd ! (var ! 24 refl)) refl (kit.uint-lawful 𝓤 H A W w64 .typed (fin (g .0)) _ is-fin .0) $
         recasts ! 28 mach (sym (k .stays os refl)) refl $
         clears ! 6 19 refl $ move ! (0 ∷ 3 ∷ 4 ∷ 5 ∷ 1 ∷ 2 ∷ []) $
         rounds ! μ At g (further g less is l′ k) (nearer g less l′ k))))))
-        (λ over. exec ! (𝓣 .C) (𝓣 .Λ) En code.Mir.t-6 (atRet En Post) $
+        (λ over. kit.exec ! (𝓣 .C) (𝓣 .Λ) En code.Mir.t-6 (atRet En Post) $
         sets ! 38 (of-opd ! (var ! 28 refl)) refl (EL.lawful P.the-type P′.the-laws 𝓤 H A W tt .typed (at (g .0)) _ (g .1 .1 .1 .1) .0) $
         recasts ! 38 (λ (i : ℕ). (mach (at i))) (le-antisymm (g .1 .1 .0) (nltb→le (g .0) n over)) refl $
-        returns ! (look ! 38 refl) $ leaves ! 6 refl refl $
+        kit.returns ! (look ! 38 refl) $ leaves ! 6 refl refl $
         (exits (g .1 .0) (subst (λ (k : ℕ). Stowed os us k ys (g .1 .0)) (le-antisymm (g .1 .1 .0) (nltb→le (g .0) n over)) (g .1 .1 .1 .0))
         (subst (λ (k : ℕ). IsP (at k)) (le-antisymm (g .1 .1 .0) (nltb→le (g .0) n over)) (g .1 .1 .1 .1))))
 
-    looped : (is : IsP (at 0)) → Sq W (At (0, (ys, (zero-le, (stowed-none os us ys, is))))) (runs (𝓣 .C) (𝓣 .Λ) En code.Mir.t-5 (atRet En Post))
-    looped is = loop-by W 𝓣 En Post code.Mir.turn-1 code.Mir.t-6 μ At turns (0, (ys, (zero-le, (stowed-none os us ys, is))))
+    looped : (is : IsP (at 0)) → Sq W (At (0, (ys, (kit.zero-le, (stowed-none os us ys, is)))))
+        (kit.runs (𝓣 .C) (𝓣 .Λ) En code.Mir.t-5 (atRet En Post))
+    looped is = loop-by W 𝓣 En Post code.Mir.turn-1 code.Mir.t-6 μ At turns (0, (ys, (kit.zero-le, (stowed-none os us ys, is))))
 
   -- ---- the code up to the loop
   module _ (𝓣 : Tables 𝓤 H) (fm : FmC 𝓤 H (W .laws) (𝓣 .C)) (known-looked : Triple 𝓤 (𝓣 .C looked-at.Symbol.name) LookedAt)
       (known-begin : Triple 𝓤 (𝓣 .C begin.Symbol.name) Begin) (known-turn : Triple 𝓤 (𝓣 .C turn.Symbol.name) Turn)
       (known-quickly : Triple 𝓤 (𝓣 .C quickly.Symbol.name) Quickly) where
-    walk : ent 𝓤 (onEntry 𝓤 H A stow.signature (κ₀, (κ₁, (κ₂, tt))) (q₀, (q₁, (q₂, tt))) a vals)
-        (WpFn 𝓤 H (𝓣 .C) (𝓣 .Λ) code.function (vs ∷ vt ∷ vw ∷ []) Post)
+    walk : kit.ent 𝓤 (kit.onEntry 𝓤 H A stow.signature (κ₀, (κ₁, (κ₂, tt))) (q₀, (q₁, (q₂, tt))) a vals)
+        (kit.WpFn 𝓤 H (𝓣 .C) (𝓣 .Λ) code.function (vs ∷ vt ∷ vw ∷ []) Post)
     walk =
-        qed W ((‵ (flft κ₀ q₀) ⊛ ‵ (flft κ₁ q₁) ⊛ ‵ (flft κ₂ q₂) ⊛ ‵ ftrue) ∷
-        ‵ (owns (ShrSlice (named 0) κ₀ U.the-row ∷ ShrSlice (named 1) κ₁ u8 ∷ MutSlice (named 2) κ₂ u8 ∷ []) a vals) ∷ []) ∵
+        qed W ((‵ (flft κ₀ q₀) ⊛ ‵ (flft κ₁ q₁) ⊛ ‵ (flft κ₂ q₂) ⊛ ‵ kit.ftrue) ∷
+        ‵ (kit.owns (ShrSlice (named 0) κ₀ U.the-row ∷ ShrSlice (named 1) κ₁ u8 ∷ MutSlice (named 2) κ₂ u8 ∷ []) a vals) ∷ []) ∵
         split ! $ move ! (1 ∷ []) $ split ! $ move ! (1 ∷ []) $ split ! $ move ! (4 ∷ []) $ fsplit ! $ move ! (1 ∷ []) $ fsplit ! $
-        move ! (1 ∷ []) $ fsplit ! $ keep ! (7 ∷ 3 ∷ 6 ∷ 2 ∷ 0 ∷ 4 ∷ []) $
+        move ! (1 ∷ []) $ fsplit ! $ kit.keep ! (7 ∷ 3 ∷ 6 ∷ 2 ∷ 0 ∷ 4 ∷ []) $
         enters ! (𝓣 .C) (𝓣 .Λ) code.function (vs ∷ vt ∷ vw ∷ []) _ (λ bs. (sliced (s-room .0), (sliced (t-room .0), (sliced (room .0), tt))))
         (λ bs.
         -- [the locals; the token of the units; what they own; that of the segments; what they own; the room; its token]
         sets ! 16 (of-opd ! (part ! 30 1 refl refl refl)) refl (in64 (s-room .0)) $
         use0 W (raw (LookedAt .pre to-looked)) (asks-looked .prf) $
         calls-value ! fm looked-at.ended (looked-at.clauses 𝓤 H A at-mem run) known-looked to-looked n (λ r e.
-        id⊢ 𝓤 _) (uint-vals w64) (uint-tells w64) (arg ! 17 refl (no-more !)) (λ is-n.
-        let-go ! $ lands-in ! 24 refl (uint-lawful 𝓤 H A W w64 .typed n _ is-n .0) $
+        id⊢ 𝓤 _) (kit.uint-vals w64) (kit.uint-tells w64) (arg ! 17 refl (no-more !)) (λ is-n.
+        let-go ! $ lands-in ! 24 refl (kit.uint-lawful 𝓤 H A W w64 .typed n _ is-n .0) $
         use0 W (raw (Begin .pre ((tt, tt, tt, tt, tt), tt))) (asks-begin .prf) $
         calls-value ! fm begin.ended (begin.clauses 𝓤 H A at-mem run) known-begin ((tt, tt, tt, tt, tt), tt) begun (λ r e.
         id⊢ 𝓤 _) (EL.vals P.the-type P′.the-laws) (EL.tells P.the-type P′.the-laws) (no-more !) (λ is-p.
         let-go ! $ lands-in ! 22 refl (EL.lawful P.the-type P′.the-laws 𝓤 H A W tt .typed begun _ is-p .0) $
         recasts ! 22 mach (reached-none os us) refl $
-        sets ! 20 (of-opd ! (lit ! tt)) refl (in64 (lit< tt)) $ forget ! 16 refl $ move ! (34 ∷ 35 ∷ 36 ∷ 37 ∷ 38 ∷ 39 ∷ []) $
+        sets ! 20 (of-opd ! (lit ! tt)) refl (in64 (lit< tt)) $ kit.forget ! 16 refl $ move ! (34 ∷ 35 ∷ 36 ∷ 37 ∷ 38 ∷ 39 ∷ []) $
         looped 𝓣 fm known-turn known-quickly bs (subst IsP (reached-none os us) is-p))))
 
 pub stow-spec : {M : Type 1} → stow.Statement.statement M
@@ -372,19 +370,21 @@ unfolding code.routine tablesOf
 stow-spec 𝓤 H 𝓜 𝓖 𝓡 =
     proved-by 𝓤 H 𝓜 𝓖 𝓡 code.env stow.Key.name code.function (code.unfolded 𝓤 H 𝓜 𝓡) stow.ended stayed
     (stow.clauses 𝓤 H (𝓖 .A) (𝓜 .mem) (𝓡 .run)) (
-      goes-none-slice 𝓤 H (𝓖 .A) (givenOf 𝓤 H 𝓜 𝓖) 3 (0 ∷ []) tt (plain (λ _. U.the-row)) yes,
+      kit.goes-none-slice 𝓤 H (𝓖 .A) (givenOf 𝓤 H 𝓜 𝓖) 3 (0 ∷ []) tt (plain (λ _. U.the-row)) yes,
       (
-        goes-none-slice 𝓤 H (𝓖 .A) (givenOf 𝓤 H 𝓜 𝓖) 3 (1 ∷ []) tt (plain (λ _. u8)) yes,
-        (goes-slice 𝓤 H (𝓖 .A) (givenOf 𝓤 H 𝓜 𝓖) 3 2 tt (plain (λ _. u8)), tt),
+        kit.goes-none-slice 𝓤 H (𝓖 .A) (givenOf 𝓤 H 𝓜 𝓖) 3 (1 ∷ []) tt (plain (λ _. u8)) yes,
+        (kit.goes-slice 𝓤 H (𝓖 .A) (givenOf 𝓤 H 𝓜 𝓖) 3 2 tt (plain (λ _. u8)), tt),
       ),
     )
     (λ κs. (slice-vals, (slice-vals, (slice-vals, tt)))) (λ κs.
-    (shr-slice-tells (named 0) (κs .0) U.the-row, (shr-slice-tells (named 1) (κs .1 .0) u8, (mut-slice-tells (named 2) (κs .1 .1 .0) u8, tt))))
-    (λ κs qs bounds a g are. via 𝓤 _ (fst∗ 𝓤 _ (emp 𝓤)) (walk 𝓤 H (𝓖 .A) (givenOf 𝓤 H 𝓜 𝓖) (𝓜 .mem) (𝓡 .run) (κs .0)
+    (kit.shr-slice-tells (named 0) (κs .0) U.the-row, (kit.shr-slice-tells (named 1) (κs .1 .0) u8, (kit.mut-slice-tells (named 2) (κs .1 .1 .0) u8, tt))))
+    (λ κs qs bounds a g are. kit.via 𝓤 _ (kit.fst∗ 𝓤 _ (kit.emp 𝓤)) (walk 𝓤 H (𝓖 .A) (givenOf 𝓤 H 𝓜 𝓖) (𝓜 .mem) (𝓡 .run)
+    (κs .0)
     (κs .1 .0) (κs .1 .1 .0) (qs .0) (qs .1 .0) (qs .1 .1 .0)
     (a .0) (a .1 .0) (a .1 .1 .0 .ptr .0) (a .1 .1 .0 .ptr .1) (a .1 .1 .0 .name) (a .1 .1 .0 .now) (are .0 .0 .1) (are .1 .0 .0 .1) (are .1 .1 .0 .0 .1)
-    (𝓣of 𝓤 H 𝓜 𝓖 𝓡 code.env) (fmOf 𝓤 H (givenOf 𝓤 H 𝓜 𝓖 .laws) (𝓣of 𝓤 H 𝓜 𝓖 𝓡 code.env))
-    (cited 𝓤 H _ 𝓜 𝓡 code.env looked-at.Symbol.name looked-at.Symbol.routine code.calls-check-list·looked-at (looked-at.Met.met 𝓤 H 𝓜 𝓖 𝓡))
+    (𝓣of 𝓤 H 𝓜 𝓖 𝓡 code.env) (kit.fmOf 𝓤 H (givenOf 𝓤 H 𝓜 𝓖 .laws) (𝓣of 𝓤 H 𝓜 𝓖 𝓡 code.env))
+    (cited 𝓤 H _ 𝓜 𝓡 code.env looked-at.Symbol.name looked-at.Symbol.routine code.calls-check-list·looked-at
+    (looked-at.Met.met 𝓤 H 𝓜 𝓖 𝓡))
     (cited 𝓤 H _ 𝓜 𝓡 code.env begin.Symbol.name begin.Symbol.routine code.calls-check-list·begin (begin.Met.met 𝓤 H 𝓜 𝓖 𝓡))
     (cited 𝓤 H _ 𝓜 𝓡 code.env turn.Symbol.name turn.Symbol.routine code.calls-check-list·turn (turn.Met.met 𝓤 H 𝓜 𝓖 𝓡))
     (cited 𝓤 H _ 𝓜 𝓡 code.env quickly.Symbol.name quickly.Symbol.routine code.calls-write·stow-quickly (quickly.Met.met 𝓤 H 𝓜 𝓖 𝓡))))

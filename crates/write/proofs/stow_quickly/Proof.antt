@@ -2,15 +2,11 @@
 -- the list, and the work room is lent to `quick_turn`, which says whether the quick check lets the record through and puts it into its row.
 -- Where it does, the next record has its turn; where it does not, the end is set to this place, and the loop is left. Of the functions that
 -- it calls the proof knows their contracts alone. Assumes nothing.
-use Rattle.walks.proofs.Names.{_≡_, refl, sym, _∙_, ap, subst, ℕ, suc, _+_, _-_, _*_, _≤_, _<_, _^_, true, false, [], _∷_, List, length, getD, URA}
-use Rattle.walks.proofs.Names.{fullShare, named, w64, Val, vint, vptr, SProp, ent, id⊢, Lft, Share, GName, Fml, ftrue, flft, Memory, Routine, Heap}
-use Rattle.walks.proofs.Names.{Env, WpFn, Tables, Atoms, Fun, givenOf, let-go, Given, Item, ‵, raw, _⊛_, prop, runs, atRet, Sq, _$_, _∵_, !, qed}
-use Rattle.walks.proofs.Names.{move, keep, use0, split, join, rewrite, fsplit, suffices, frame, done, look, look-raw, stop, hop, from, load, lit}
-use Rattle.walks.proofs.Names.{of-opd, bin, no-more, branches, returns, exec, FmC, fmOf, owns, Is, shows, bool-vals, bool-tells, uint-makes}
-use Rattle.walks.proofs.Names.{uint-vals, uint-tells, uint-lawful, u8, usize, RefT, sliceVal, ShrSlice, MutSlice, Room, finally, slice-vals}
-use Rattle.walks.proofs.Names.{shr-slice-tells, mut-slice-tells, place-is, elem-out, elem-back, looks-slice, shuts-slice, owned, nothing, plain, yes}
-use Rattle.walks.proofs.Names.{onEntry, tripleOf, Contract, Triple, cited, says, needs, Stays, stay-none, stay-none-slice, stay-slice, walkOf}
-use Rattle.walks.proofs.Names.{goes-none, goes-none-slice, goes-slice, ends-at}
+use Rattle.walks.proofs.Names.{_≡_, refl, sym, _∙_, ap, ℕ, suc, _+_, _-_, _*_, _≤_, _<_, _^_, true, false, [], _∷_, List, length, named, w64, Val}
+use Rattle.walks.proofs.Names.{vint, SProp, id⊢, GName, Fml, ftrue, flft, Tables, givenOf, let-go, ‵, _⊛_, prop, atRet, Sq, _$_, _∵_, !, qed, move}
+use Rattle.walks.proofs.Names.{split, rewrite, fsplit, frame, done, look, lit, of-opd, bin, FmC, Is, shows, uint-vals, uint-tells, u8, usize, RefT}
+use Rattle.walks.proofs.Names.{MutSlice, Room, nothing, plain, yes, Triple, cited, stay-none, goes-none}
+use Rattle.walks.proofs.Names as kit
 use native.Mathlib.Numerals.{add-one}
 use native.Mathlib.Omega.{arith}
 use lib.Dec.{ltb→lt, nltb→le}
@@ -44,12 +40,12 @@ use Rattle.write.proofs.Lists.{length-quick, run-over, run-stops, run-g
 use Rattle.write.proofs.stow_quickly as stow-quickly
 use Rattle.write.proofs.stow_quickly.Code as code
 
-abbrev stayed : Stays (stow-quickly.ended .signature .params) (stow-quickly.ended .kept)
+abbrev stayed : kit.Stays (stow-quickly.ended .signature .params) (stow-quickly.ended .kept)
 stayed = (
   stay-none (λ _. P.the-row) yes,
   (
-    stay-none-slice (0 ∷ []) tt (plain (λ _. U.the-row)) yes,
-    (stay-none (λ _. usize) yes, (stay-none (λ _. usize) yes, (stay-slice (1 ∷ []) tt (plain (λ _. u8)), tt))),
+    kit.stay-none-slice (0 ∷ []) tt (plain (λ _. U.the-row)) yes,
+    (stay-none (λ _. usize) yes, (stay-none (λ _. usize) yes, (kit.stay-slice (1 ∷ []) tt (plain (λ _. u8)), tt))),
   ),
 )
 
@@ -60,17 +56,18 @@ mach p = EL.val P.the-type P′.the-laws p
 abbrev IsP : Progress → Type 0
 IsP p = Is P.the-row p (mach p ∷ [])
 
-module _ {M : Type 1} (𝓤 : URA M) (H : Heap 𝓤) (A : Atoms 𝓤) (W : Given 𝓤 H A) (at-mem : Memory → SProp 𝓤) (run : Routine → Fun 𝓤)
-    (κ₀ κ₁ : Lft) (q₀ q₁ : Share)
+module _ {M : Type 1} (𝓤 : kit.URA M) (H : kit.Heap 𝓤) (A : kit.Atoms 𝓤) (W : kit.Given 𝓤 H A) (at-mem : kit.Memory → SProp 𝓤)
+    (run : kit.Routine → kit.Fun 𝓤)
+    (κ₀ κ₁ : kit.Lft) (q₀ q₁ : kit.Share)
     (p : Progress) (s : RefT (List UnitRecord)) (i₀ n : ℕ) (b o : ℕ) (γ : GName) (ys : List ℕ)
     (is-p : IsP p) (s-room : Room U.the-row (length (s .now))) (i₀-fits : i₀ < 2 ^ 64) (n-fits : n < 2 ^ 64) (room : Room u8 (length ys))
     (i₀-most : i₀ ≤ n) (n-most : n ≤ length (s .now)) where
   -- the contracts that the proof cites
-  abbrev QuickUntil : Contract 𝓤
-  QuickUntil = tripleOf 𝓤 H A quick-until.signature (quick-until.spec 𝓤 H A at-mem run)
+  abbrev QuickUntil : kit.Contract 𝓤
+  QuickUntil = kit.tripleOf 𝓤 H A quick-until.signature (quick-until.spec 𝓤 H A at-mem run)
 
-  abbrev QuickTurn : Contract 𝓤
-  QuickTurn = tripleOf 𝓤 H A quick-turn.signature (quick-turn.spec 𝓤 H A at-mem run)
+  abbrev QuickTurn : kit.Contract 𝓤
+  QuickTurn = kit.tripleOf 𝓤 H A quick-turn.signature (quick-turn.spec 𝓤 H A at-mem run)
 
   abbrev us : List UnitRecord
   us = s .now
@@ -80,10 +77,10 @@ module _ {M : Type 1} (𝓤 : URA M) (H : Heap 𝓤) (A : Atoms 𝓤) (W : Given
 
   -- the machine values passed
   abbrev vs : Val
-  vs = sliceVal (s .ptr) (length us)
+  vs = kit.sliceVal (s .ptr) (length us)
 
   abbrev vw : Val
-  vw = sliceVal (b, o) (length ys)
+  vw = kit.sliceVal (b, o) (length ys)
 
   abbrev Arg : Type 0
   Arg = Progress × (RefT (List UnitRecord) × (ℕ × (ℕ × (RefT (List ℕ) × Unit {0}))))
@@ -95,7 +92,7 @@ module _ {M : Type 1} (𝓤 : URA M) (H : Heap 𝓤) (A : Atoms 𝓤) (W : Given
   vals = (mach p ∷ [], (vs ∷ [], (vint w64 i₀ ∷ [], (vint w64 n ∷ [], (vw ∷ [], tt)))))
 
   abbrev unit : ℕ → UnitRecord
-  unit i = getD us i noRecord
+  unit i = kit.getD us i noRecord
 
   -- where the check ends at the latest, and where it ends
   abbrev until : ℕ
@@ -105,13 +102,13 @@ module _ {M : Type 1} (𝓤 : URA M) (H : Heap 𝓤) (A : Atoms 𝓤) (W : Given
   fin = quickEnd p us i₀ n
 
   abbrev Post : Val → SProp 𝓤
-  Post = walkOf 𝓤 H A stow-quickly.ended stayed (stow-quickly.clauses 𝓤 H A at-mem run) .post (
+  Post = kit.walkOf 𝓤 H A stow-quickly.ended stayed (stow-quickly.clauses 𝓤 H A at-mem run) .post (
     ((κ₀, (κ₁, tt)), (q₀, (q₁, tt)), tt, a, vals),
     tt,
   )
 
   abbrev Units : Fml
-  Units = ShrSlice (named 0) κ₀ U.the-row .own s (vs ∷ [])
+  Units = kit.ShrSlice (named 0) κ₀ U.the-row .own s (vs ∷ [])
 
   abbrev Work : List ℕ → Fml
   Work w = MutSlice (named 1) κ₁ u8 .own (x γ w) (vw ∷ [])
@@ -125,16 +122,16 @@ module _ {M : Type 1} (𝓤 : URA M) (H : Heap 𝓤) (A : Atoms 𝓤) (W : Given
   exits : (w : List ℕ) → Passed p us i₀ fin ys w
       → Sq W (‵ (flft κ₀ q₀) ∷ ‵ Units ∷ ‵ (Work w) ∷ ‵ (flft κ₁ q₁) ∷ []) (prop (Post (vint w64 fin)))
   exits w st =
-      suffices ! _ (ends-at 𝓤 H A stow-quickly.ended stayed (stow-quickly.clauses 𝓤 H A at-mem run) W
+      kit.suffices ! _ (kit.ends-at 𝓤 H A stow-quickly.ended stayed (stow-quickly.clauses 𝓤 H A at-mem run) W
       (((κ₀, (κ₁, tt)), (q₀, (q₁, tt)), tt, a, vals), tt) (vint w64 fin) fin (tt, (tt, (tt, (tt, (w, tt))))) (tt, (tt, (tt, (tt, (st .same, tt)))))) $
-      says ! (refl, st) $
+      kit.says ! (refl, st) $
       -- the tokens
       nothing ! $ joins ! 3 refl $ joins ! 0 refl $ frame ! $
       -- [what the units own; the room]
       nothing ! $ fjoins ! 1 refl $ number ! n n-fits $
       number ! i₀ i₀-fits $
       fjoins ! 0 refl $ beside ! P.the-row (EL.makes P.the-type P′.the-plain 𝓤 H A) p _ is-p $ frame ! $
-      owned ! usize (Is usize) (uint-makes 𝓤 H A W w64) fin _ (refl, fin-fits) $ done !
+      kit.owned ! usize (Is usize) (kit.uint-makes 𝓤 H A W w64) fin _ (refl, fin-fits) $ done !
 
   -- ---- what the callees ask and give
   abbrev to-until : QuickUntil .Ghost
@@ -143,7 +140,7 @@ module _ {M : Type 1} (𝓤 : URA M) (H : Heap 𝓤) (A : Atoms 𝓤) (W : Given
   asks-until : Sq W [] (prop (QuickUntil .pre to-until))
   asks-until =
       nothing ! $ number ! n n-fits $ number ! i₀ i₀-fits $
-      beside ! P.the-row (EL.makes P.the-type P′.the-plain 𝓤 H A) p _ is-p $ nothing ! $ join ! $ frame ! $ done !
+      beside ! P.the-row (EL.makes P.the-type P′.the-plain 𝓤 H A) p _ is-p $ nothing ! $ kit.join ! $ frame ! $ done !
 
   abbrev IsU : ℕ → Type 0
   IsU i = Is U.the-row (unit i) (U′.lowered (unit i) ∷ [])
@@ -156,7 +153,7 @@ module _ {M : Type 1} (𝓤 : URA M) (H : Heap 𝓤) (A : Atoms 𝓤) (W : Given
   to-turn i w ν δ = (
     (
       (ν ∷ [], tt),
-      (fullShare, tt),
+      (kit.fullShare, tt),
       tt,
       (unit i, (i, (x δ w, tt))),
       (U′.lowered (unit i) ∷ [], (vint w64 i ∷ [], (vw ∷ [], tt))),
@@ -165,7 +162,7 @@ module _ {M : Type 1} (𝓤 : URA M) (H : Heap 𝓤) (A : Atoms 𝓤) (W : Given
   )
 
   asks-turn : (i : ℕ) (w : List ℕ) → i < 2 ^ 64 → IsU i → (ν : ℕ) (δ : GName)
-      → Sq W (‵ ftrue ∷ ‵ (flft (ν ∷ []) fullShare) ∷ ‵ (MutSlice (named 0) (ν ∷ []) u8 .own (x δ w) (vw ∷ [])) ∷ [])
+      → Sq W (‵ ftrue ∷ ‵ (flft (ν ∷ []) kit.fullShare) ∷ ‵ (MutSlice (named 0) (ν ∷ []) u8 .own (x δ w) (vw ∷ [])) ∷ [])
       (prop (QuickTurn .pre (to-turn i w ν δ)))
   asks-turn i w fits is-u ν δ =
       let-go ! $ nothing ! $ joins ! 0 refl $
@@ -251,10 +248,10 @@ module _ {M : Type 1} (𝓤 : URA M) (H : Heap 𝓤) (A : Atoms 𝓤) (W : Given
 
   module _ (𝓣 : Tables 𝓤 H) (fm : FmC 𝓤 H (W .laws) (𝓣 .C)) (known-turn : Triple 𝓤 (𝓣 .C quick-turn.Symbol.name) QuickTurn)
       (bs : Blocks (code.function .locals)) where
-    abbrev En : Env 𝓤 H
+    abbrev En : kit.Env 𝓤 H
     En = envOf (code.function .locals) bs
 
-    abbrev At : Going → List (Item 𝓤)
+    abbrev At : Going → List (kit.Item 𝓤)
     At g = ‵ (flft κ₀ q₀) ∷ ‵ Units ∷ ‵ (Work (got g)) ∷ ‵ (flft κ₁ q₁) ∷
         laid En (empty ∷ full (mach p) ∷ full vs ∷ full (vint w64 i₀) ∷ full (vint w64 n) ∷ full vw ∷ full (vint w64 (end g)) ∷
         full (vint w64 (g .0)) ∷ []) []
@@ -269,16 +266,16 @@ module _ {M : Type 1} (𝓤 : URA M) (H : Heap 𝓤) (A : Atoms 𝓤) (W : Given
         -- the record is read
         sets ! 12 (bin ! (var ! 18 refl) (lit ! tt) (record { fits = place-fits g less })) refl (in64 (place-fits g less)) $
         sets ! 10 (bin ! (part ! 28 0 refl refl refl) (var ! 12 refl) tt) refl (tt, tt) $
-        recasts ! 10 (vptr (s .ptr .0)) (sym (place-is 12 (s .ptr .1) (g .0))) refl $
+        recasts ! 10 (kit.vptr (s .ptr .0)) (sym (kit.place-is 12 (s .ptr .1) (g .0))) refl $
         move ! (1 ∷ []) $ copies ! (named 0) κ₀ U.the-row s (vs ∷ []) $ fsplit ! $ let-go ! $ fsplit ! $ let-go ! $ move ! (0 ∷ 2 ∷ []) $
-        looks-slice ! tt U.the-row (Is U.the-row) (shows 𝓤 H A U.the-row) (LL.vals U.the-type U′.the-laws) (LL.tells U.the-type U′.the-laws)
+        kit.looks-slice ! tt U.the-row (Is U.the-row) (shows 𝓤 H A U.the-row) (LL.vals U.the-type U′.the-laws) (LL.tells U.the-type U′.the-laws)
         (LL.copy U.the-type U′.the-copy 𝓤 H A W) us (s .ptr .0) (s .ptr .1) (λ q.
-        elem-out ! U.the-row (Is U.the-row) (shows 𝓤 H A U.the-row) (LL.vals U.the-type U′.the-laws) (LL.tells U.the-type U′.the-laws) q us (g .0)
+        kit.elem-out ! U.the-row (Is U.the-row) (shows 𝓤 H A U.the-row) (LL.vals U.the-type U′.the-laws) (LL.tells U.the-type U′.the-laws) q us (g .0)
         noRecord (s .ptr .0) (s .ptr .1) (inside g less) (λ is-u.
-        sets ! 12 (of-opd ! (load ! (from ! (hop ! (look ! 14 refl) (stop !))) (look-raw ! 0 refl))) refl
+        sets ! 12 (of-opd ! (kit.load ! (kit.from ! (kit.hop ! (look ! 14 refl) (kit.stop !))) (kit.look-raw ! 0 refl))) refl
         (LL.lawful U.the-type U′.the-laws 𝓤 H A W .typed (unit (g .0)) _ is-u .0) $
-        elem-back ! U.the-row q us (g .0) noRecord (U′.lowered (unit (g .0)) ∷ []) (s .ptr .0) (s .ptr .1) (inside g less) $
-        shuts-slice ! tt U.the-row q us (s .ptr .0) (s .ptr .1) $ move ! (1 ∷ []) $ let-go ! $
+        kit.elem-back ! U.the-row q us (g .0) noRecord (U′.lowered (unit (g .0)) ∷ []) (s .ptr .0) (s .ptr .1) (inside g less) $
+        kit.shuts-slice ! tt U.the-row q us (s .ptr .0) (s .ptr .1) $ move ! (1 ∷ []) $ let-go ! $
         -- [the token of the units; what they own; the room; its token; the locals]: the room is borrowed again
         sets ! 6 (behind ! 22 refl refl) refl (tt, tt) $
         sets ! 4 (resliced ! 6 22 refl refl refl) refl (sliced (room .0)) $
@@ -289,12 +286,12 @@ module _ {M : Type 1} (𝓤 : URA M) (H : Heap 𝓤) (A : Atoms 𝓤) (W : Given
         ap length e ∙ length-quick (plainOf (unit (g .0))) (unit (g .0)) (g .0) (got g) ∙ known g .passed .same)
         (Alone W) (back-alone W) (λ ν δ. asks-turn (g .0) (got g) (known g .fits) is-u ν δ .prf) _
         (λ ν δ u. gave-one 𝓤 H A W quick-turn.ended (quick-turn.clauses 𝓤 H A at-mem run) (to-turn (g .0) (got g) ν δ) (plainOf (unit (g .0)))
-        (λ l. l ≡ left (g .0) (got g)) (finally u8 δ) (λ ws. ws .1 .1 .0) (λ r ws. id⊢ 𝓤 _)
-        (λ ws. past ! $ past ! $ front ! $ front ! $ done !) bool-vals bool-tells u)
-        (λ ν δ. arg ! 8 refl (arg ! 18 refl (arg ! 4 refl (no-more !)))) (λ l is e.
+        (λ l. l ≡ left (g .0) (got g)) (kit.finally u8 δ) (λ ws. ws .1 .1 .0) (λ r ws. id⊢ 𝓤 _)
+        (λ ws. past ! $ past ! $ front ! $ front ! $ done !) kit.bool-vals kit.bool-tells u)
+        (λ ν δ. arg ! 8 refl (arg ! 18 refl (arg ! 4 refl (kit.no-more !)))) (λ l is e.
         -- [nothing; the room; its token; the token of the units; what they own; the locals]
         let-go ! $ rewrite ! 0 (λ (w : List ℕ). ‵ (Work w)) e refl $ lands-in ! 14 refl (tt, tt) $
-        branches ! (var ! 14 refl)
+        kit.branches ! (var ! 14 refl)
         -- the record is let through
         (λ yes-b.
         rewrite ! 0 (λ (w : List ℕ). ‵ (Work w)) (put-in g (holds (plainOf (unit (g .0))) yes-b)) refl $
@@ -311,11 +308,11 @@ module _ {M : Type 1} (𝓤 : URA M) (H : Heap 𝓤) (A : Atoms 𝓤) (W : Given
         -- the loop is left
         (λ over.
         let at-end : g .0 ≡ fin = run-over us (end g - g .0) (g .0) (omega (arith, nltb→le (g .0) (end g) over)) ∙ known g .ends in
-        exec ! (𝓣 .C) (𝓣 .Λ) En code.Mir.t-4 (atRet En Post) $
+        kit.exec ! (𝓣 .C) (𝓣 .Λ) En code.Mir.t-4 (atRet En Post) $
         sets ! 32 (of-opd ! (var ! 18 refl)) refl (in64 (known g .fits)) $
         recasts ! 32 (vint w64) at-end refl $
-        returns ! (look ! 32 refl) $ leaves ! 4 refl refl $
-        (exits (got g) (subst (λ (j : ℕ). Passed p us i₀ j ys (got g)) at-end (known g .passed))))
+        kit.returns ! (look ! 32 refl) $ leaves ! 4 refl refl $
+        (exits (got g) (kit.subst (λ (j : ℕ). Passed p us i₀ j ys (got g)) at-end (known g .passed))))
 
     abbrev start-at : Going
     start-at = (
@@ -336,27 +333,27 @@ module _ {M : Type 1} (𝓤 : URA M) (H : Heap 𝓤) (A : Atoms 𝓤) (W : Given
       ),
     )
 
-    looped : Sq W (At start-at) (runs (𝓣 .C) (𝓣 .Λ) En code.Mir.t-3 (atRet En Post))
+    looped : Sq W (At start-at) (kit.runs (𝓣 .C) (𝓣 .Λ) En code.Mir.t-3 (atRet En Post))
     looped = loop-by W 𝓣 En Post code.Mir.turn-1 code.Mir.t-4 μ At turns start-at
 
   -- ---- the code up to the loop
   module _ (𝓣 : Tables 𝓤 H) (fm : FmC 𝓤 H (W .laws) (𝓣 .C)) (known-until : Triple 𝓤 (𝓣 .C quick-until.Symbol.name) QuickUntil)
       (known-turn : Triple 𝓤 (𝓣 .C quick-turn.Symbol.name) QuickTurn) where
-    walk : ent 𝓤 (onEntry 𝓤 H A stow-quickly.signature (κ₀, (κ₁, tt)) (q₀, (q₁, tt)) a vals)
-        (WpFn 𝓤 H (𝓣 .C) (𝓣 .Λ) code.function (mach p ∷ vs ∷ vint w64 i₀ ∷ vint w64 n ∷ vw ∷ []) Post)
+    walk : kit.ent 𝓤 (kit.onEntry 𝓤 H A stow-quickly.signature (κ₀, (κ₁, tt)) (q₀, (q₁, tt)) a vals)
+        (kit.WpFn 𝓤 H (𝓣 .C) (𝓣 .Λ) code.function (mach p ∷ vs ∷ vint w64 i₀ ∷ vint w64 n ∷ vw ∷ []) Post)
     walk =
         qed W ((‵ (flft κ₀ q₀) ⊛ ‵ (flft κ₁ q₁) ⊛ ‵ ftrue) ∷
-        ‵ (owns (P.the-row ∷ ShrSlice (named 0) κ₀ U.the-row ∷ usize ∷ usize ∷ MutSlice (named 1) κ₁ u8 ∷ []) a vals) ∷ []) ∵
+        ‵ (kit.owns (P.the-row ∷ kit.ShrSlice (named 0) κ₀ U.the-row ∷ usize ∷ usize ∷ MutSlice (named 1) κ₁ u8 ∷ []) a vals) ∷ []) ∵
         split ! $ move ! (1 ∷ []) $ split ! $ move ! (3 ∷ []) $ fsplit ! $ move ! (1 ∷ []) $ fsplit ! $ move ! (1 ∷ []) $ fsplit ! $
-        move ! (1 ∷ []) $ fsplit ! $ move ! (1 ∷ []) $ fsplit ! $ keep ! (8 ∷ 4 ∷ 0 ∷ 6 ∷ []) $
+        move ! (1 ∷ []) $ fsplit ! $ move ! (1 ∷ []) $ fsplit ! $ kit.keep ! (8 ∷ 4 ∷ 0 ∷ 6 ∷ []) $
         enters ! (𝓣 .C) (𝓣 .Λ) code.function (mach p ∷ vs ∷ vint w64 i₀ ∷ vint w64 n ∷ vw ∷ []) _ (λ bs.
         (EL.lawful P.the-type P′.the-laws 𝓤 H A W tt .typed p _ is-p .0, (sliced (s-room .0), (in64 i₀-fits, (in64 n-fits, (sliced (room .0), tt))))))
         (λ bs.
         -- [the locals; the token of the units; what they own; the room; its token]
-        use0 W (raw (QuickUntil .pre to-until)) (asks-until .prf) $
+        kit.use0 W (kit.raw (QuickUntil .pre to-until)) (asks-until .prf) $
         calls-value ! fm quick-until.ended (quick-until.clauses 𝓤 H A at-mem run) known-until to-until until (λ r e.
-        id⊢ 𝓤 _) (uint-vals w64) (uint-tells w64) (arg ! 27 refl (arg ! 23 refl (arg ! 21 refl (no-more !)))) (λ is-end.
-        let-go ! $ lands-in ! 16 refl (uint-lawful 𝓤 H A W w64 .typed until _ is-end .0) $
+        id⊢ 𝓤 _) (uint-vals w64) (uint-tells w64) (arg ! 27 refl (arg ! 23 refl (arg ! 21 refl (kit.no-more !)))) (λ is-end.
+        let-go ! $ lands-in ! 16 refl (kit.uint-lawful 𝓤 H A W w64 .typed until _ is-end .0) $
         sets ! 14 (of-opd ! (var ! 22 refl)) refl (in64 i₀-fits) $ move ! (30 ∷ 31 ∷ 32 ∷ 33 ∷ []) $
         looped 𝓣 fm known-turn bs))
 
@@ -367,29 +364,31 @@ stow-quickly-spec 𝓤 H 𝓜 𝓖 𝓡 =
     (stow-quickly.clauses 𝓤 H (𝓖 .A) (𝓜 .mem) (𝓡 .run)) (
       goes-none 𝓤 H (𝓖 .A) (givenOf 𝓤 H 𝓜 𝓖) 2 (λ _. P.the-row) yes (λ κs x f. refl),
       (
-        goes-none-slice 𝓤 H (𝓖 .A) (givenOf 𝓤 H 𝓜 𝓖) 2 (0 ∷ []) tt (plain (λ _. U.the-row)) yes,
+        kit.goes-none-slice 𝓤 H (𝓖 .A) (givenOf 𝓤 H 𝓜 𝓖) 2 (0 ∷ []) tt (plain (λ _. U.the-row)) yes,
         (
           goes-none 𝓤 H (𝓖 .A) (givenOf 𝓤 H 𝓜 𝓖) 2 (λ _. usize) yes (λ κs x f. refl),
           (
             goes-none 𝓤 H (𝓖 .A) (givenOf 𝓤 H 𝓜 𝓖) 2 (λ _. usize) yes (λ κs x f.
                 refl),
-            (goes-slice 𝓤 H (𝓖 .A) (givenOf 𝓤 H 𝓜 𝓖) 2 1 tt (plain (λ _. u8)), tt),
+            (kit.goes-slice 𝓤 H (𝓖 .A) (givenOf 𝓤 H 𝓜 𝓖) 2 1 tt (plain (λ _. u8)), tt),
           ),
         ),
       ),
     )
-    (λ κs. (EL.vals P.the-type P′.the-laws, (slice-vals, (uint-vals w64, (uint-vals w64, (slice-vals, tt))))))
+    (λ κs. (EL.vals P.the-type P′.the-laws, (kit.slice-vals, (uint-vals w64, (uint-vals w64, (kit.slice-vals, tt))))))
     (λ κs. (
       EL.tells P.the-type P′.the-laws,
       (
-        shr-slice-tells (named 0) (κs .0) U.the-row,
-        (uint-tells w64, (uint-tells w64, (mut-slice-tells (named 1) (κs .1 .0) u8, tt))),
+        kit.shr-slice-tells (named 0) (κs .0) U.the-row,
+        (uint-tells w64, (uint-tells w64, (kit.mut-slice-tells (named 1) (κs .1 .0) u8, tt))),
       ),
     ))
-    (λ κs qs bounds a g are. needs 𝓤 _ _ (λ pre.
+    (λ κs qs bounds a g are. kit.needs 𝓤 _ _ (λ pre.
     walk 𝓤 H (𝓖 .A) (givenOf 𝓤 H 𝓜 𝓖) (𝓜 .mem) (𝓡 .run) (κs .0) (κs .1 .0) (qs .0) (qs .1 .0)
     (a .0) (a .1 .0) (a .1 .1 .0) (a .1 .1 .1 .0) (a .1 .1 .1 .1 .0 .ptr .0) (a .1 .1 .1 .1 .0 .ptr .1) (a .1 .1 .1 .1 .0 .name) (a .1 .1 .1 .1 .0 .now)
     (are .0) (are .1 .0 .0 .1) (are .1 .1 .0 .1) (are .1 .1 .1 .0 .1) (are .1 .1 .1 .1 .0 .0 .1) (pre .0) (pre .1)
-    (𝓣of 𝓤 H 𝓜 𝓖 𝓡 code.env) (fmOf 𝓤 H (givenOf 𝓤 H 𝓜 𝓖 .laws) (𝓣of 𝓤 H 𝓜 𝓖 𝓡 code.env))
-    (cited 𝓤 H _ 𝓜 𝓡 code.env quick-until.Symbol.name quick-until.Symbol.routine code.calls-check-list·quick-until (quick-until.Met.met 𝓤 H 𝓜 𝓖 𝓡))
-    (cited 𝓤 H _ 𝓜 𝓡 code.env quick-turn.Symbol.name quick-turn.Symbol.routine code.calls-check-list·quick-turn (quick-turn.Met.met 𝓤 H 𝓜 𝓖 𝓡))))
+    (𝓣of 𝓤 H 𝓜 𝓖 𝓡 code.env) (kit.fmOf 𝓤 H (givenOf 𝓤 H 𝓜 𝓖 .laws) (𝓣of 𝓤 H 𝓜 𝓖 𝓡 code.env))
+    (cited 𝓤 H _ 𝓜 𝓡 code.env quick-until.Symbol.name quick-until.Symbol.routine code.calls-check-list·quick-until
+    (quick-until.Met.met 𝓤 H 𝓜 𝓖 𝓡))
+    (cited 𝓤 H _ 𝓜 𝓡 code.env quick-turn.Symbol.name quick-turn.Symbol.routine code.calls-check-list·quick-turn
+    (quick-turn.Met.met 𝓤 H 𝓜 𝓖 𝓡))))

@@ -1,13 +1,10 @@
 -- `write::write` meets its contract: its code is followed by hand, for it passes on a list of structs. The work room is lent to `stow`,
 -- and comes back with the records in its rows; then it and the output are given to `finish` for good. Of the two the proof knows their
 -- contracts alone; that their answer is the writer's is shown in Whole.antt. Assumes nothing.
-use Rattle.walks.proofs.Names.{_≡_, refl, _∙_, ℕ, [], _∷_, List, length, URA, fullShare, named, w64, Val, vint, SProp, ent, emp, sep, ex, guard, via}
-use Rattle.walks.proofs.Names.{Sq, prop, fst∗, id⊢, Lft, Share, GName, Fml, ftrue, fsep, flft, Memory, Routine, Heap, Calls, Loops, WpFn, Atoms, sem}
-use Rattle.walks.proofs.Names.{Fun, fact, givenOf, Given, ‵, raw, _⊛_, _$_, _∵_, !, qed, move, keep, use1, use2, split, join, feqL, fsplit, fjoin}
-use Rattle.walks.proofs.Names.{check, show, suffices, frame, done, look, of-opd, no-more, returns, FmC, fmOf, owns, Is, u8, RefT, sliceVal, ShrSlice}
-use Rattle.walks.proofs.Names.{MutSlice, Room, finally, slice-vals, shr-slice-tells, mut-slice-tells, owned, heard, nothing, plain, yes, onEntry}
-use Rattle.walks.proofs.Names.{tripleOf, Contract, Triple, Lasts, lasts, cited, says, Stays, stay-none-slice, gave-slice, walkOf, goes-none-slice}
-use Rattle.walks.proofs.Names.{goes-gave-slice, ends-at}
+use Rattle.walks.proofs.Names.{_≡_, refl, _∙_, ℕ, [], _∷_, List, length, fullShare, named, Val, SProp, sep, ex, guard, Sq, prop, id⊢, GName, Fml}
+use Rattle.walks.proofs.Names.{ftrue, flft, sem, givenOf, ‵, raw, _⊛_, _$_, _∵_, !, qed, move, keep, use1, split, join, feqL, fsplit, frame, done, Is}
+use Rattle.walks.proofs.Names.{u8, RefT, sliceVal, ShrSlice, MutSlice, Room, finally, slice-vals, nothing, plain, yes, Triple, cited}
+use Rattle.walks.proofs.Names as kit
 use contract.Running.{tablesOf}
 use denote.Enum.Laws as EL
 use denote.Struct.Laws as LL
@@ -33,12 +30,12 @@ use Rattle.write.proofs.finish as finish
 use Rattle.write.proofs.write as write
 use Rattle.write.proofs.write.Code as code
 
-abbrev stayed : Stays (write.ended .signature .params) (write.ended .kept)
+abbrev stayed : kit.Stays (write.ended .signature .params) (write.ended .kept)
 stayed = (
-  stay-none-slice (0 ∷ []) tt (plain (λ _. U.the-row)) yes,
+  kit.stay-none-slice (0 ∷ []) tt (plain (λ _. U.the-row)) yes,
   (
-    stay-none-slice (1 ∷ []) tt (plain (λ _. u8)) yes,
-    (gave-slice (2 ∷ []) tt (plain (λ _. u8)), (gave-slice (3 ∷ []) tt (plain (λ _. u8)), tt)),
+    kit.stay-none-slice (1 ∷ []) tt (plain (λ _. u8)) yes,
+    (kit.gave-slice (2 ∷ []) tt (plain (λ _. u8)), (kit.gave-slice (3 ∷ []) tt (plain (λ _. u8)), tt)),
   ),
 )
 
@@ -46,16 +43,17 @@ stayed = (
 abbrev mach : Progress → Val
 mach p = EL.val P.the-type P′.the-laws p
 
-module _ {M : Type 1} (𝓤 : URA M) (H : Heap 𝓤) (A : Atoms 𝓤) (W : Given 𝓤 H A) (at-mem : Memory → SProp 𝓤) (run : Routine → Fun 𝓤)
-    (κ₀ κ₁ κ₂ κ₃ : Lft) (q₀ q₁ q₂ q₃ : Share)
+module _ {M : Type 1} (𝓤 : kit.URA M) (H : kit.Heap 𝓤) (A : kit.Atoms 𝓤) (W : kit.Given 𝓤 H A) (at-mem : kit.Memory → SProp 𝓤)
+    (run : kit.Routine → kit.Fun 𝓤)
+    (κ₀ κ₁ κ₂ κ₃ : kit.Lft) (q₀ q₁ q₂ q₃ : kit.Share)
     (s : RefT (List UnitRecord)) (t : RefT (List ℕ)) (b o : ℕ) (γ : GName) (ys : List ℕ) (r : RefT (List ℕ))
     (s-room : Room U.the-row (length (s .now))) (t-room : Room u8 (length (t .now))) (room : Room u8 (length ys)) (r-room : Room u8 (length (r .now))) where
   -- the contracts that the proof cites
-  abbrev Stow : Contract 𝓤
-  Stow = tripleOf 𝓤 H A stow.signature (stow.spec 𝓤 H A at-mem run)
+  abbrev Stow : kit.Contract 𝓤
+  Stow = kit.tripleOf 𝓤 H A stow.signature (stow.spec 𝓤 H A at-mem run)
 
-  abbrev Finish : Contract 𝓤
-  Finish = tripleOf 𝓤 H A finish.signature (finish.spec 𝓤 H A at-mem run)
+  abbrev Finish : kit.Contract 𝓤
+  Finish = kit.tripleOf 𝓤 H A finish.signature (finish.spec 𝓤 H A at-mem run)
 
   abbrev us : List UnitRecord
   us = s .now
@@ -105,7 +103,7 @@ module _ {M : Type 1} (𝓤 : URA M) (H : Heap 𝓤) (A : Atoms 𝓤) (W : Given
   IsN = Is N.the-row ans (N′.lowered ans ∷ [])
 
   abbrev Post : Val → SProp 𝓤
-  Post = walkOf 𝓤 H A write.ended stayed (write.clauses 𝓤 H A at-mem run) .post
+  Post = kit.walkOf 𝓤 H A write.ended stayed (write.clauses 𝓤 H A at-mem run) .post
       (((κ₀, (κ₁, (κ₂, (κ₃, tt)))), (q₀, (q₁, (q₂, (q₃, tt)))), tt, a, vals), tt)
 
   abbrev Units : Fml
@@ -131,22 +129,22 @@ module _ {M : Type 1} (𝓤 : URA M) (H : Heap 𝓤) (A : Atoms 𝓤) (W : Given
   Known z = (z .1 ≡ writerOutput us os (length ys) zs) × ((length (z .0) ≡ length ys) × (length (z .1) ≡ length zs))
 
   abbrev Said : Z → Fml
-  Said z = fsep (finally u8 γ (z .0)) (finally u8 (r .name) (z .1))
+  Said z = kit.fsep (finally u8 γ (z .0)) (finally u8 (r .name) (z .1))
 
   exits : (z : Z) → Known z → IsN
       → Sq W (‵ (Said z) ∷ ‵ (flft κ₀ q₀) ∷ ‵ Units ∷ ‵ Segments ∷
       (‵ (flft κ₁ q₁) ⊛ ‵ (flft κ₂ q₂) ⊛ ‵ (flft κ₃ q₃) ⊛ ‵ ftrue) ∷ []) (prop (Post (N′.lowered ans)))
   exits z e is =
-      suffices ! _ (ends-at 𝓤 H A write.ended stayed (write.clauses 𝓤 H A at-mem run) W
+      kit.suffices ! _ (kit.ends-at 𝓤 H A write.ended stayed (write.clauses 𝓤 H A at-mem run) W
       (((κ₀, (κ₁, (κ₂, (κ₃, tt)))), (q₀, (q₁, (q₂, (q₃, tt)))), tt, a, vals), tt) (N′.lowered ans) ans (tt, (tt, (z .0, (z .1, tt))))
       (tt, (tt, (e .1 .0, (e .1 .1, tt))))) $
-      says ! (refl, e .0, e .1 .0, demanded us os (length ys) zs (z .1) (e .0)) $
+      kit.says ! (refl, e .0, e .1 .0, demanded us os (length ys) zs (z .1) (e .0)) $
       -- the tokens
       move ! (1 ∷ 4 ∷ []) $ join ! $ frame ! $
       -- [the last lists; what the units own; what the segments own]
       fsplit ! $ move ! (1 ∷ []) $ nothing ! $ fjoins ! 0 refl $ fjoins ! 0 refl $ fjoins ! 1 refl $
       fjoins ! 0 refl $ frame ! $
-      owned ! N.the-row (Is N.the-row) (LL.makes N.the-type N′.the-plain 𝓤 H A) ans _ is $ done !
+      kit.owned ! N.the-row (Is N.the-row) (LL.makes N.the-type N′.the-plain 𝓤 H A) ans _ is $ done !
 
   -- ---- `stow`
   abbrev to-stow : ℕ → GName → Stow .Ghost
@@ -187,7 +185,7 @@ module _ {M : Type 1} (𝓤 : URA M) (H : Heap 𝓤) (A : Atoms 𝓤) (W : Given
       (q₁, (q₂, (q₃, tt))),
       tt,
       (p, (length us, (t, (x γ w, (r, tt))))),
-      (mach p ∷ [], (vint w64 (length us) ∷ [], (vt ∷ [], (vw ∷ [], (vr ∷ [], tt))))),
+      (mach p ∷ [], (kit.vint kit.w64 (length us) ∷ [], (vt ∷ [], (vw ∷ [], (vr ∷ [], tt))))),
     ),
     tt,
   )
@@ -205,25 +203,26 @@ module _ {M : Type 1} (𝓤 : URA M) (H : Heap 𝓤) (A : Atoms 𝓤) (W : Given
   abbrev Finished : List ℕ → Answer → Z → Type 0
   Finished w m z = (m ≡ finishAnswer p (length us) os w (length zs)) × (z .1 ≡ finishOutput p (length us) os w zs) × (length (z .0) ≡ length w)
 
-  gives-finish : (w : List ℕ) → Kept w → (m : Answer) (ws : Lasts finish.ended (κ₁, (κ₂, (κ₃, tt))) (p, (length us, (t, (x γ w, (r, tt))))))
-      → Sq W (‵ (lasts finish.ended (κ₁, (κ₂, (κ₃, tt))) (p, (length us, (t, (x γ w, (r, tt))))) ws) ∷
-      raw (fact 𝓤 (Finished w m (ws .1 .1 .1 .0, ws .1 .1 .1 .1 .0))) ∷ [])
+  gives-finish : (w : List ℕ) → Kept w → (m : Answer) (ws : kit.Lasts finish.ended (κ₁, (κ₂, (κ₃, tt))) (p, (length us, (t, (x γ w, (r, tt))))))
+      → Sq W (‵ (kit.lasts finish.ended (κ₁, (κ₂, (κ₃, tt))) (p, (length us, (t, (x γ w, (r, tt))))) ws) ∷
+      raw (kit.fact 𝓤 (Finished w m (ws .1 .1 .1 .0, ws .1 .1 .1 .1 .0))) ∷ [])
       (prop (ex 𝓤 (λ (z : Z). guard 𝓤 ((m ≡ ans) × Known z) (sem 𝓤 H A (Said z)))))
   gives-finish w st m ws =
-      move ! (1 ∷ []) $ heard ! (Finished w m (ws .1 .1 .1 .0, ws .1 .1 .1 .1 .0)) (λ e.
+      move ! (1 ∷ []) $ kit.heard ! (Finished w m (ws .1 .1 .1 .0, ws .1 .1 .1 .1 .0)) (λ e.
       fsplit ! $ move ! (1 ∷ []) $ fsplit ! $ move ! (1 ∷ []) $ fsplit ! $ move ! (1 ∷ []) $ fsplit ! $ fsplit ! $ move ! (1 ∷ []) $
-      feqL ! (λ lw. move ! (1 ∷ []) $ fsplit ! $ fsplit ! $ move ! (1 ∷ []) $ feqL ! (λ lr. keep ! (2 ∷ 0 ∷ []) $ fjoin ! $
+      feqL ! (λ lw. move ! (1 ∷ []) $ fsplit ! $ fsplit ! $ move ! (1 ∷ []) $ feqL ! (λ lr. keep ! (2 ∷ 0 ∷ []) $ kit.fjoin ! $
       let f = finished us os ys w zs st in
-      show ! (λ (z : Z). guard 𝓤 ((m ≡ ans) × Known z) (sem 𝓤 H A (Said z))) (ws .1 .1 .1 .0, ws .1 .1 .1 .1 .0) $
-      check ! (e .0 ∙ f .answers, (e .1 ∙ f .output, (e .2 ∙ st .same, lr))) $ done !)))
+      kit.show ! (λ (z : Z). guard 𝓤 ((m ≡ ans) × Known z) (sem 𝓤 H A (Said z))) (ws .1 .1 .1 .0, ws .1 .1 .1 .1 .0) $
+      kit.check ! (e .0 ∙ f .answers, (e .1 ∙ f .output, (e .2 ∙ st .same, lr))) $ done !)))
 
-  module _ (C : Calls 𝓤 H) (Λ : Loops 𝓤 H) (fm : FmC 𝓤 H (W .laws) C) (known-stow : Triple 𝓤 (C stow.Symbol.name) Stow)
+  module _ (C : kit.Calls 𝓤 H) (Λ : kit.Loops 𝓤 H) (fm : kit.FmC 𝓤 H (W .laws) C) (known-stow : Triple 𝓤 (C stow.Symbol.name) Stow)
       (known-finish : Triple 𝓤 (C finish.Symbol.name) Finish) where
-    walk : ent 𝓤 (onEntry 𝓤 H A write.signature (κ₀, (κ₁, (κ₂, (κ₃, tt)))) (q₀, (q₁, (q₂, (q₃, tt)))) a vals)
-        (WpFn 𝓤 H C Λ code.function (vs ∷ vt ∷ vw ∷ vr ∷ []) Post)
+    walk : kit.ent 𝓤 (kit.onEntry 𝓤 H A write.signature (κ₀, (κ₁, (κ₂, (κ₃, tt)))) (q₀, (q₁, (q₂, (q₃, tt)))) a vals)
+        (kit.WpFn 𝓤 H C Λ code.function (vs ∷ vt ∷ vw ∷ vr ∷ []) Post)
     walk =
         qed W ((‵ (flft κ₀ q₀) ⊛ ‵ (flft κ₁ q₁) ⊛ ‵ (flft κ₂ q₂) ⊛ ‵ (flft κ₃ q₃) ⊛ ‵ ftrue) ∷
-        ‵ (owns (ShrSlice (named 0) κ₀ U.the-row ∷ ShrSlice (named 1) κ₁ u8 ∷ MutSlice (named 2) κ₂ u8 ∷ MutSlice (named 3) κ₃ u8 ∷ [])
+        ‵ (kit.owns (ShrSlice (named 0) κ₀ U.the-row ∷ ShrSlice (named 1) κ₁ u8 ∷ MutSlice (named 2) κ₂ u8 ∷ MutSlice
+        (named 3) κ₃ u8 ∷ [])
         a vals) ∷ []) ∵
         split ! $ move ! (1 ∷ []) $ split ! $ move ! (1 ∷ []) $ split ! $ move ! (4 ∷ []) $ fsplit ! $ move ! (1 ∷ []) $ fsplit ! $
         move ! (1 ∷ []) $ fsplit ! $ move ! (1 ∷ []) $ fsplit ! $
@@ -245,10 +244,10 @@ module _ {M : Type 1} (𝓤 : URA M) (H : Heap 𝓤) (A : Atoms 𝓤) (W : Given
         (λ ν δ u. gave-one 𝓤 H A W stow.ended (stow.clauses 𝓤 H A at-mem run) (to-stow ν δ) p Kept (finally u8 δ) (λ ws. ws .1 .1 .0) (λ r ws.
         id⊢ 𝓤 _)
         (λ ws. past ! $ past ! $ front ! $ front ! $ done !) (EL.vals P.the-type P′.the-laws) (EL.tells P.the-type P′.the-laws) u)
-        (λ ν δ. arg ! 26 refl (arg ! 24 refl (arg ! 14 refl (no-more !)))) (λ w is st.
+        (λ ν δ. arg ! 26 refl (arg ! 24 refl (arg ! 14 refl (kit.no-more !)))) (λ w is st.
         -- [the tokens; the room; its token; what the segments own; what the units own; the locals; the output; its token]
         lands-in ! 19 refl (EL.lawful P.the-type P′.the-laws 𝓤 H A W tt .typed p _ is .0) $
-        sets ! 13 (of-opd ! (part ! 27 1 refl refl refl)) refl (in64 (s-room .0)) $
+        sets ! 13 (kit.of-opd ! (part ! 27 1 refl refl refl)) refl (in64 (s-room .0)) $
         sets ! 11 (behind ! 23 refl refl) refl (tt, tt) $
         sets ! 9 (resliced ! 11 23 refl refl refl) refl (sliced (room .0)) $
         sets ! 7 (behind ! 21 refl refl) refl (tt, tt) $
@@ -256,14 +255,14 @@ module _ {M : Type 1} (𝓤 : URA M) (H : Heap 𝓤) (A : Atoms 𝓤) (W : Given
         -- the tokens together, then what goes to `finish`
         split ! $ move ! (3 ∷ 33 ∷ []) $ join ! $ joins ! 1 refl $
         move ! (3 ∷ []) $ copies ! (named 1) κ₁ u8 t (vt ∷ []) $ move ! (4 ∷ 32 ∷ []) $ join ! $ joins ! 0 refl $
-        move ! (2 ∷ 0 ∷ []) $ use2 W (raw (Finish .pre (to-finish w))) (asks-finish w is .prf) $
+        move ! (2 ∷ 0 ∷ []) $ kit.use2 W (raw (Finish .pre (to-finish w))) (asks-finish w is .prf) $
         -- [what `finish` asks; what the segments own; the units' token; what they own; the locals]
         calls-ends ! fm finish.ended (finish.clauses 𝓤 H A at-mem run) known-finish (to-finish w) ans Known Said (λ m ws.
         gives-finish w st m ws .prf) (LL.vals N.the-type N′.the-laws) (LL.tells N.the-type N′.the-laws)
-        (arg ! 18 refl (arg ! 12 refl (arg ! 24 refl (arg ! 8 refl (arg ! 4 refl (no-more !)))))) (λ z e is-n.
+        (arg ! 18 refl (arg ! 12 refl (arg ! 24 refl (arg ! 8 refl (arg ! 4 refl (kit.no-more !)))))) (λ z e is-n.
         use1 W (‵ (flft κ₁ q₁) ⊛ ‵ (flft κ₂ q₂) ⊛ ‵ (flft κ₃ q₃) ⊛ ‵ ftrue) (id⊢ 𝓤 _) $
         lands-in ! 29 refl (LL.lawful N.the-type N′.the-laws 𝓤 H A W .typed ans _ is-n .0) $
-        returns ! (look ! 29 refl) $ leaves ! 5 refl refl $
+        kit.returns ! (kit.look ! 29 refl) $ leaves ! 5 refl refl $
         move ! (1 ∷ 3 ∷ 4 ∷ 2 ∷ 0 ∷ []) $ (exits z e is-n))))
 
 pub write-spec : {M : Type 1} → write.Statement.statement M
@@ -271,24 +270,35 @@ unfolding code.routine tablesOf
 write-spec 𝓤 H 𝓜 𝓖 𝓡 =
     proved-by 𝓤 H 𝓜 𝓖 𝓡 code.env write.Key.name code.function (code.unfolded 𝓤 H 𝓜 𝓡) write.ended stayed
     (write.clauses 𝓤 H (𝓖 .A) (𝓜 .mem) (𝓡 .run)) (
-      goes-none-slice 𝓤 H (𝓖 .A) (givenOf 𝓤 H 𝓜 𝓖) 4 (0 ∷ []) tt (plain (λ _. U.the-row)) yes,
+      kit.goes-none-slice 𝓤 H (𝓖 .A) (givenOf 𝓤 H 𝓜 𝓖) 4 (0 ∷ []) tt (plain (λ _. U.the-row)) yes,
       (
-        goes-none-slice 𝓤 H (𝓖 .A) (givenOf 𝓤 H 𝓜 𝓖) 4 (1 ∷ []) tt (plain (λ _. u8)) yes,
+        kit.goes-none-slice 𝓤 H (𝓖 .A) (givenOf 𝓤 H 𝓜 𝓖) 4 (1 ∷ []) tt (plain (λ _. u8)) yes,
         (
-          goes-gave-slice 𝓤 H (𝓖 .A) (givenOf 𝓤 H 𝓜 𝓖) 4 2 tt (plain (λ _. u8)),
-          (goes-gave-slice 𝓤 H (𝓖 .A) (givenOf 𝓤 H 𝓜 𝓖) 4 3 tt (plain (λ _. u8)), tt),
+          kit.goes-gave-slice 𝓤 H (𝓖 .A) (givenOf 𝓤 H 𝓜 𝓖) 4 2 tt (plain (λ _. u8)),
+          (kit.goes-gave-slice 𝓤 H (𝓖 .A) (givenOf 𝓤 H 𝓜 𝓖) 4 3 tt (plain (λ _. u8)), tt),
         ),
       ),
     )
     (λ κs. (slice-vals, (slice-vals, (slice-vals, (slice-vals, tt))))) (λ κs. (
-      shr-slice-tells (named 0) (κs .0) U.the-row,
-      (shr-slice-tells (named 1) (κs .1 .0) u8, (mut-slice-tells (named 2) (κs .1 .1 .0) u8, (mut-slice-tells (named 3) (κs .1 .1 .1 .0) u8, tt))),
+      kit.shr-slice-tells (named 0) (κs .0) U.the-row,
+      (
+        kit.shr-slice-tells (named 1) (κs .1 .0) u8,
+        (
+          kit.mut-slice-tells (named 2) (κs .1 .1 .0) u8,
+          (
+            kit.mut-slice-tells (named 3)
+                (κs .1 .1 .1 .0) u8,
+            tt,
+          ),
+        ),
+      ),
     ))
-    (λ κs qs bounds a g are. via 𝓤 _ (fst∗ 𝓤 _ (emp 𝓤)) (walk 𝓤 H (𝓖 .A) (givenOf 𝓤 H 𝓜 𝓖) (𝓜 .mem) (𝓡 .run) (κs .0)
+    (λ κs qs bounds a g are. kit.via 𝓤 _ (kit.fst∗ 𝓤 _ (kit.emp 𝓤)) (walk 𝓤 H (𝓖 .A) (givenOf 𝓤 H 𝓜 𝓖) (𝓜 .mem) (𝓡 .run)
+    (κs .0)
     (κs .1 .0) (κs .1 .1 .0) (κs .1 .1 .1 .0) (qs .0) (qs .1 .0) (qs .1 .1 .0) (qs .1 .1 .1 .0)
     (a .0) (a .1 .0) (a .1 .1 .0 .ptr .0) (a .1 .1 .0 .ptr .1) (a .1 .1 .0 .name) (a .1 .1 .0 .now) (a .1 .1 .1 .0) (are .0 .0 .1) (are .1 .0 .0 .1)
     (are .1 .1 .0 .0 .1) (are .1 .1 .1 .0 .0 .1)
     (𝓣of 𝓤 H 𝓜 𝓖 𝓡 code.env .C) (𝓣of 𝓤 H 𝓜 𝓖 𝓡 code.env .Λ)
-    (fmOf 𝓤 H (givenOf 𝓤 H 𝓜 𝓖 .laws) (𝓣of 𝓤 H 𝓜 𝓖 𝓡 code.env))
+    (kit.fmOf 𝓤 H (givenOf 𝓤 H 𝓜 𝓖 .laws) (𝓣of 𝓤 H 𝓜 𝓖 𝓡 code.env))
     (cited 𝓤 H _ 𝓜 𝓡 code.env stow.Symbol.name stow.Symbol.routine code.calls-write·stow (stow.Met.met 𝓤 H 𝓜 𝓖 𝓡))
     (cited 𝓤 H _ 𝓜 𝓡 code.env finish.Symbol.name finish.Symbol.routine code.calls-write·finish (finish.Met.met 𝓤 H 𝓜 𝓖 𝓡))))
