@@ -35,6 +35,10 @@ use denote.Triple.Call.{calls-at}
 abbrev pub at-list : (T : RattleType) (b o : ℕ) → GName → List (T .Denot) → RefT (List (T .Denot))
 at-list T b o γ l = record { ptr = (b, o); name = γ; now = l }
 
+-- what a `&mut` of that list owns, where it has so many elements
+abbrev slice-at : Lifetime → Lft → (T : RattleType) (b o : ℕ) → GName → List (T .Denot) → ℕ → Fml
+slice-at ℓ κ T b o γ l m = MutSlice ℓ κ T .own (at-list T b o γ l) (sliceVal (b, o) m ∷ [])
+
 module _ (T : RattleType) (holder loan : Lft) (share : Share) (γ : GName) (b o : ℕ) (l : List (T .Denot)) where
   abbrev pub Open : GName → Fml
   Open δ =
@@ -101,29 +105,29 @@ module _ {M : Type 1} {𝓤 : URA M} {H : Heap 𝓤} {A : Atoms 𝓤} {K : Type 
       → (P : ℕ → SProp 𝓤) → ((ν : ℕ) → ent 𝓤 (P ν) (sep 𝓤 (mean 𝓤 H A j) (A .lft (ν ∷ []) fullShare)))
       → ((ν : ℕ) (δ : GName) → ent 𝓤
       (sep 𝓤 (mean 𝓤 H A i) (sep 𝓤 (A .lft (ν ∷ []) fullShare)
-      (sem 𝓤 H A (MutSlice (named 0) (ν ∷ []) T .own (at-list T b o δ l) (sliceVal (b, o) m ∷ []))))) (contract .pre (y ν δ)))
+      (sem 𝓤 H A (slice-at (named 0) (ν ∷ []) T b o δ l m)))) (contract .pre (y ν δ)))
       → (ψ : Type 0) → ((ν : ℕ) (δ : GName) (u : Val) → ent 𝓤 (contract .post (y ν δ) u)
       (H .⇛ (ex 𝓤 (λ (l′ : List (T .Denot)). guard 𝓤 (((u ≡ v) × ψ) × φ l′) (sep 𝓤 (P ν) (sem 𝓤 H A (finally T δ l′)))))))
       → ((ν : ℕ) (δ : GName) → Opds K W (raw (contract .pre (y ν δ)) ∷ ‵ (Open T holder (ν ∷ []) share γ b o l δ) ∷ Γ) E xs
       (contract .args (y ν δ)))
       → ((l′ : List (T .Denot)) → ψ → φ l′ → Seq K W
-      (j ∷ ‵ (MutSlice ℓ holder T .own (at-list T b o γ l′) (sliceVal (b, o) m ∷ [])) ∷ ‵ (flft holder share) ∷ Γ) (lands C Λ E d v rest q))
-      → Seq K W (i ∷ ‵ (MutSlice ℓ holder T .own (at-list T b o γ l) (sliceVal (b, o) m ∷ [])) ∷ ‵ (flft holder share) ∷ Γ)
+      (j ∷ ‵ (slice-at ℓ holder T b o γ l′ m) ∷ ‵ (flft holder share) ∷ Γ) (lands C Λ E d v rest q))
+      → Seq K W (i ∷ ‵ (slice-at ℓ holder T b o γ l m) ∷ ‵ (flft holder share) ∷ Γ)
       (runs C Λ E (seq (call f xs d) rest) q)
   calls-lent t fm contract known T holder share ℓ γ b o m l room el y i j v φ same P tokens asks ψ gives operands k =
-      rewrite t 1 (λ (n : ℕ). ‵ (MutSlice ℓ holder T .own (at-list T b o γ l) (sliceVal (b, o) n ∷ []))) (sym el) refl $
+      rewrite t 1 (λ (n : ℕ). ‵ (slice-at ℓ holder T b o γ l n)) (sym el) refl $
       lft-new t tt (λ ν. move t (2 ∷ 3 ∷ []) $
-      use2 W (later (some (λ (δ : GName). ‵ (MutSlice (named 0) (ν ∷ []) T .own (at-list T b o δ l) (sliceVal (b, o) (length l) ∷ [])) ⊛
+      use2 W (later (some (λ (δ : GName). ‵ (slice-at (named 0) (ν ∷ []) T b o δ l (length l)) ⊛
       ‵ (Open T holder (ν ∷ []) share γ b o l δ)))) (lends T holder (ν ∷ []) share γ b o l 𝓤 H A W ℓ (named 0)) $
       await t tt $ pick t (λ δ. split t $
-      rewrite t 0 (λ (n : ℕ). ‵ (MutSlice (named 0) (ν ∷ []) T .own (at-list T b o δ l) (sliceVal (b, o) n ∷ []))) el refl $
+      rewrite t 0 (λ (n : ℕ). ‵ (slice-at (named 0) (ν ∷ []) T b o δ l n)) el refl $
       move t (3 ∷ 2 ∷ 0 ∷ []) $ use3 W (raw (contract .pre (y ν δ))) (asks ν δ) $
       calls-at t fm contract known (y ν δ) (operands ν δ) (λ u.
       use1 W (later (some (λ (l′ : List (T .Denot)). given (((u ≡ v) × ψ) × φ l′) (raw (P ν) ⊛ ‵ (finally T δ l′))))) (gives ν δ u) $
       await t tt $ pick t (λ l′. learn t (λ e.
       split t $ use1 W (j ⊛ ‵ (flft (ν ∷ []) fullShare)) (tokens ν) $ split t $ move t (1 ∷ []) $ lft-end t tt $ move t (0 ∷ 3 ∷ 2 ∷ []) $
-      use3 W (later (‵ (MutSlice ℓ holder T .own (at-list T b o γ l′) (sliceVal (b, o) (length l) ∷ [])) ⊛ ‵ (flft holder share)))
+      use3 W (later (‵ (slice-at ℓ holder T b o γ l′ (length l)) ⊛ ‵ (flft holder share)))
       (ends T holder (ν ∷ []) share γ b o l 𝓤 H A W ℓ (named 0) δ l′ (subst (Room T) (sym el) room) (same l′ (e .1) ∙ sym el)) $ await t tt $
       split t $
-      rewrite t 0 (λ (n : ℕ). ‵ (MutSlice ℓ holder T .own (at-list T b o γ l′) (sliceVal (b, o) n ∷ []))) el refl $
+      rewrite t 0 (λ (n : ℕ). ‵ (slice-at ℓ holder T b o γ l′ n)) el refl $
       move t (2 ∷ []) $ regoal t (λ (w : Val). lands C Λ E d w rest q) (e .0 .0) refl $ k l′ (e .0 .1) (e .1))))))

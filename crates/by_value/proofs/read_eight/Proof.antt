@@ -154,17 +154,20 @@ module _ {M : Type 1} (𝓤 : URA M) (H : Heap 𝓤) (A : Atoms 𝓤) (W : kit.G
 pub read-eight-spec : {M : Type 1} → eight.Statement.statement M
 unfolding code.routine tablesOf
 read-eight-spec 𝓤 H 𝓜 𝓖 𝓡 =
+    let W = givenOf 𝓤 H 𝓜 𝓖 in
+    let T = 𝓣of 𝓤 H 𝓜 𝓖 𝓡 code.env in
+    let A = 𝓖 .A in
     proved-by 𝓤 H 𝓜 𝓖 𝓡 code.env eight.Key.name code.function (code.unfolded 𝓤 H 𝓜 𝓡) eight.ended stayed
-    (eight.clauses 𝓤 H (𝓖 .A) (𝓜 .mem) (𝓡 .run)) (
-      kit.goes-none-slice 𝓤 H (𝓖 .A) (givenOf 𝓤 H 𝓜 𝓖) 1 (0 ∷ []) tt (plain (λ _. u8)) yes,
-      (kit.goes-none 𝓤 H (𝓖 .A) (givenOf 𝓤 H 𝓜 𝓖) 1 (λ _. U.the-row) yes (λ κs x f. refl), tt),
+    (eight.clauses 𝓤 H A (𝓜 .mem) (𝓡 .run)) (
+      kit.goes-none-slice 𝓤 H A W 1 (0 ∷ []) tt (plain (λ _. u8)) yes,
+      (kit.goes-none 𝓤 H A W 1 (λ _. U.the-row) yes (λ κs x f. refl), tt),
     )
     (λ κs. (kit.slice-vals, (LL.vals U.the-type U′.the-laws, tt)))
     (λ κs. (kit.shr-slice-tells (named 0) (κs .0) u8, (LL.tells U.the-type U′.the-laws, tt)))
-    (λ κs qs bounds a g are. kit.via 𝓤 _ (kit.fst∗ 𝓤 _ (kit.emp 𝓤)) (walk 𝓤 H (𝓖 .A) (givenOf 𝓤 H 𝓜 𝓖) (𝓜 .mem) (𝓡 .run)
+    (λ κs qs bounds a g are. kit.via 𝓤 _ (kit.fst∗ 𝓤 _ (kit.emp 𝓤)) (walk 𝓤 H A W (𝓜 .mem) (𝓡 .run)
     (κs .0)
     (qs .0) (a .0) (a .1 .0) (are .0 .0 .1 .0) (are .1 .0)
-    (𝓣of 𝓤 H 𝓜 𝓖 𝓡 code.env .C) (𝓣of 𝓤 H 𝓜 𝓖 𝓡 code.env .Λ)
-    (kit.fmOf 𝓤 H (givenOf 𝓤 H 𝓜 𝓖 .laws) (𝓣of 𝓤 H 𝓜 𝓖 𝓡 code.env))
-    (kit.cited 𝓤 H (Reads 𝓤 H (𝓖 .A) (𝓜 .mem) (𝓡 .run)) 𝓜 𝓡 code.env read.Symbol.name read.Symbol.routine code.calls-read·read
+    (T .C) (T .Λ)
+    (kit.fmOf 𝓤 H (W .laws) T)
+    (kit.cited 𝓤 H (Reads 𝓤 H A (𝓜 .mem) (𝓡 .run)) 𝓜 𝓡 code.env read.Symbol.name read.Symbol.routine code.calls-read·read
     (read.Met.met 𝓤 H 𝓜 𝓖 𝓡))))

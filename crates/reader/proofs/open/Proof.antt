@@ -93,10 +93,11 @@ module _ {M : Type 1} (𝓤 : kit.URA M) (H : kit.Heap 𝓤) (A : kit.Atoms 𝓤
 pub open-spec : {M : Type 1} → opn.Statement.statement M
 unfolding code.routine tablesOf
 open-spec 𝓤 H 𝓜 𝓖 𝓡 =
+    let T = 𝓣of 𝓤 H 𝓜 𝓖 𝓡 code.env in
     proved-by 𝓤 H 𝓜 𝓖 𝓡 code.env opn.Key.name code.function (code.unfolded 𝓤 H 𝓜 𝓡) opn.ended stayed
     (opn.clauses 𝓤 H (𝓖 .A) (𝓜 .mem) (𝓡 .run))
     (kit.goes-none-slice 𝓤 H (𝓖 .A) (kit.givenOf 𝓤 H 𝓜 𝓖) 1 (0 ∷ []) tt (plain (λ _. u8)) yes, tt)
     (λ κs. (kit.slice-vals, tt)) (λ κs. (kit.shr-slice-tells (named 0) (κs .0) u8, tt))
     (λ κs qs bounds a g are. kit.via 𝓤 _ (kit.fst∗ 𝓤 _ (kit.emp 𝓤)) (walk 𝓤 H (𝓖 .A) (kit.givenOf 𝓤 H 𝓜 𝓖) (𝓜 .mem) (𝓡 .run)
     (κs .0)
-    (qs .0) (a .0) (𝓣of 𝓤 H 𝓜 𝓖 𝓡 code.env .C) (𝓣of 𝓤 H 𝓜 𝓖 𝓡 code.env .Λ) (are .0)))
+    (qs .0) (a .0) (T .C) (T .Λ) (are .0)))

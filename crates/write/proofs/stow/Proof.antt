@@ -368,21 +368,24 @@ module _ {M : Type 1} (𝓤 : kit.URA M) (H : kit.Heap 𝓤) (A : kit.Atoms 𝓤
 pub stow-spec : {M : Type 1} → stow.Statement.statement M
 unfolding code.routine tablesOf
 stow-spec 𝓤 H 𝓜 𝓖 𝓡 =
+    let W = givenOf 𝓤 H 𝓜 𝓖 in
+    let T = 𝓣of 𝓤 H 𝓜 𝓖 𝓡 code.env in
+    let A = 𝓖 .A in
     proved-by 𝓤 H 𝓜 𝓖 𝓡 code.env stow.Key.name code.function (code.unfolded 𝓤 H 𝓜 𝓡) stow.ended stayed
-    (stow.clauses 𝓤 H (𝓖 .A) (𝓜 .mem) (𝓡 .run)) (
-      kit.goes-none-slice 𝓤 H (𝓖 .A) (givenOf 𝓤 H 𝓜 𝓖) 3 (0 ∷ []) tt (plain (λ _. U.the-row)) yes,
+    (stow.clauses 𝓤 H A (𝓜 .mem) (𝓡 .run)) (
+      kit.goes-none-slice 𝓤 H A W 3 (0 ∷ []) tt (plain (λ _. U.the-row)) yes,
       (
-        kit.goes-none-slice 𝓤 H (𝓖 .A) (givenOf 𝓤 H 𝓜 𝓖) 3 (1 ∷ []) tt (plain (λ _. u8)) yes,
-        (kit.goes-slice 𝓤 H (𝓖 .A) (givenOf 𝓤 H 𝓜 𝓖) 3 2 tt (plain (λ _. u8)), tt),
+        kit.goes-none-slice 𝓤 H A W 3 (1 ∷ []) tt (plain (λ _. u8)) yes,
+        (kit.goes-slice 𝓤 H A W 3 2 tt (plain (λ _. u8)), tt),
       ),
     )
     (λ κs. (slice-vals, (slice-vals, (slice-vals, tt)))) (λ κs.
     (kit.shr-slice-tells (named 0) (κs .0) U.the-row, (kit.shr-slice-tells (named 1) (κs .1 .0) u8, (kit.mut-slice-tells (named 2) (κs .1 .1 .0) u8, tt))))
-    (λ κs qs bounds a g are. kit.via 𝓤 _ (kit.fst∗ 𝓤 _ (kit.emp 𝓤)) (walk 𝓤 H (𝓖 .A) (givenOf 𝓤 H 𝓜 𝓖) (𝓜 .mem) (𝓡 .run)
+    (λ κs qs bounds a g are. kit.via 𝓤 _ (kit.fst∗ 𝓤 _ (kit.emp 𝓤)) (walk 𝓤 H A W (𝓜 .mem) (𝓡 .run)
     (κs .0)
     (κs .1 .0) (κs .1 .1 .0) (qs .0) (qs .1 .0) (qs .1 .1 .0)
     (a .0) (a .1 .0) (a .1 .1 .0 .ptr .0) (a .1 .1 .0 .ptr .1) (a .1 .1 .0 .name) (a .1 .1 .0 .now) (are .0 .0 .1) (are .1 .0 .0 .1) (are .1 .1 .0 .0 .1)
-    (𝓣of 𝓤 H 𝓜 𝓖 𝓡 code.env) (kit.fmOf 𝓤 H (givenOf 𝓤 H 𝓜 𝓖 .laws) (𝓣of 𝓤 H 𝓜 𝓖 𝓡 code.env))
+    T (kit.fmOf 𝓤 H (W .laws) T)
     (cited 𝓤 H _ 𝓜 𝓡 code.env looked-at.Symbol.name looked-at.Symbol.routine code.calls-check-list·looked-at
     (looked-at.Met.met 𝓤 H 𝓜 𝓖 𝓡))
     (cited 𝓤 H _ 𝓜 𝓡 code.env begin.Symbol.name begin.Symbol.routine code.calls-check-list·begin (begin.Met.met 𝓤 H 𝓜 𝓖 𝓡))

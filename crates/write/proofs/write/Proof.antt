@@ -268,14 +268,17 @@ module _ {M : Type 1} (𝓤 : kit.URA M) (H : kit.Heap 𝓤) (A : kit.Atoms 𝓤
 pub write-spec : {M : Type 1} → write.Statement.statement M
 unfolding code.routine tablesOf
 write-spec 𝓤 H 𝓜 𝓖 𝓡 =
+    let W = givenOf 𝓤 H 𝓜 𝓖 in
+    let T = 𝓣of 𝓤 H 𝓜 𝓖 𝓡 code.env in
+    let A = 𝓖 .A in
     proved-by 𝓤 H 𝓜 𝓖 𝓡 code.env write.Key.name code.function (code.unfolded 𝓤 H 𝓜 𝓡) write.ended stayed
-    (write.clauses 𝓤 H (𝓖 .A) (𝓜 .mem) (𝓡 .run)) (
-      kit.goes-none-slice 𝓤 H (𝓖 .A) (givenOf 𝓤 H 𝓜 𝓖) 4 (0 ∷ []) tt (plain (λ _. U.the-row)) yes,
+    (write.clauses 𝓤 H A (𝓜 .mem) (𝓡 .run)) (
+      kit.goes-none-slice 𝓤 H A W 4 (0 ∷ []) tt (plain (λ _. U.the-row)) yes,
       (
-        kit.goes-none-slice 𝓤 H (𝓖 .A) (givenOf 𝓤 H 𝓜 𝓖) 4 (1 ∷ []) tt (plain (λ _. u8)) yes,
+        kit.goes-none-slice 𝓤 H A W 4 (1 ∷ []) tt (plain (λ _. u8)) yes,
         (
-          kit.goes-gave-slice 𝓤 H (𝓖 .A) (givenOf 𝓤 H 𝓜 𝓖) 4 2 tt (plain (λ _. u8)),
-          (kit.goes-gave-slice 𝓤 H (𝓖 .A) (givenOf 𝓤 H 𝓜 𝓖) 4 3 tt (plain (λ _. u8)), tt),
+          kit.goes-gave-slice 𝓤 H A W 4 2 tt (plain (λ _. u8)),
+          (kit.goes-gave-slice 𝓤 H A W 4 3 tt (plain (λ _. u8)), tt),
         ),
       ),
     )
@@ -293,12 +296,12 @@ write-spec 𝓤 H 𝓜 𝓖 𝓡 =
         ),
       ),
     ))
-    (λ κs qs bounds a g are. kit.via 𝓤 _ (kit.fst∗ 𝓤 _ (kit.emp 𝓤)) (walk 𝓤 H (𝓖 .A) (givenOf 𝓤 H 𝓜 𝓖) (𝓜 .mem) (𝓡 .run)
+    (λ κs qs bounds a g are. kit.via 𝓤 _ (kit.fst∗ 𝓤 _ (kit.emp 𝓤)) (walk 𝓤 H A W (𝓜 .mem) (𝓡 .run)
     (κs .0)
     (κs .1 .0) (κs .1 .1 .0) (κs .1 .1 .1 .0) (qs .0) (qs .1 .0) (qs .1 .1 .0) (qs .1 .1 .1 .0)
     (a .0) (a .1 .0) (a .1 .1 .0 .ptr .0) (a .1 .1 .0 .ptr .1) (a .1 .1 .0 .name) (a .1 .1 .0 .now) (a .1 .1 .1 .0) (are .0 .0 .1) (are .1 .0 .0 .1)
     (are .1 .1 .0 .0 .1) (are .1 .1 .1 .0 .0 .1)
-    (𝓣of 𝓤 H 𝓜 𝓖 𝓡 code.env .C) (𝓣of 𝓤 H 𝓜 𝓖 𝓡 code.env .Λ)
-    (kit.fmOf 𝓤 H (givenOf 𝓤 H 𝓜 𝓖 .laws) (𝓣of 𝓤 H 𝓜 𝓖 𝓡 code.env))
+    (T .C) (T .Λ)
+    (kit.fmOf 𝓤 H (W .laws) T)
     (cited 𝓤 H _ 𝓜 𝓡 code.env stow.Symbol.name stow.Symbol.routine code.calls-write·stow (stow.Met.met 𝓤 H 𝓜 𝓖 𝓡))
     (cited 𝓤 H _ 𝓜 𝓡 code.env finish.Symbol.name finish.Symbol.routine code.calls-write·finish (finish.Met.met 𝓤 H 𝓜 𝓖 𝓡))))
