@@ -15,7 +15,7 @@ use mir.Val.{Val, WT, hasTy}
 use base.Logic.{SProp, ent, sep, via, id⊢, comm∗, monoL, monoR, assoc′}
 use base.Fml.{Share, Fml, ftrue, ffalse, feq, flt, fsep, fand, for, fwand, fex, fall, fupd, fat, froom, fdies}
 use base.Fml.{flft, fdead, fobs, fauth, fres, fbor, fobor, flent, fshr-bor}
-use prog.Wp.{Heap, Env, Calls, Loops, WpFn, release}
+use prog.Wp.{Heap, Calls, Loops, WpFn, release}
 use ghost.Atoms.{Atoms, sem}
 use types.Kit.{Given, Item, ‵, raw, _⊛_, some, given, later, mean, ⋆, nth, del, put, pull, push, pop, ++⊢, ⊢++}
 use types.Kit.{Goal, prop, runs, atRet, allocs, params′, passes, frees, aim, Seq, Step, step, _$_}

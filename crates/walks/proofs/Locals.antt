@@ -3,7 +3,7 @@
 --                           that comes back is the cell again
 --     calls-local           a local that holds a reference at a lifetime is lent by `&mut` to a call, for a lifetime of the call's own
 --                           that the other outlives, and comes back with another value
-use mathlib.Core.Path.{_≡_, refl, ap}
+use mathlib.Core.Path.{_≡_, refl}
 use Prim.Native.Nat.{ℕ}
 use mathlib.Core.List.{List, [], _∷_}
 use lib.ListN.{length}
