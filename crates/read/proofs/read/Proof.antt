@@ -2,9 +2,9 @@
 -- which stores the units of the span at the cursor; that they are those of as many single steps is shown of the definitions (`Spanned`). Of the
 -- functions that it calls the proof knows their contracts alone.
 -- Assumes nothing.
-use Rattle.walks.proofs.Names.{_≡_, refl, _∙_, ap, subst, ℕ, _+_, _-_, _*_, _≤_, _<_, _^_, [], _∷_, List, length, named, w64, Val, vint, SProp, id⊢}
-use Rattle.walks.proofs.Names.{GName, Fml, ftrue, flft, Tables, givenOf, ‵, raw, _⊛_, prop, atRet, Sq, _$_, _∵_, !, qed, move, let-go, use0, use1}
-use Rattle.walks.proofs.Names.{use2, split, join, fsplit, frame, done, store, stop, from, lit, of-opd, bin, no-more, FmC, Is, u8, RefT, MutSlice}
+use Rattle.walks.proofs.Names.{_≡_, refl, _∙_, ap, subst, ℕ, _+_, _-_, _*_, _≤_, _<_, _^_, [], _∷_, List, length, named, w64, Val, vint}
+use Rattle.walks.proofs.Names.{SProp, id⊢, GName, Fml, ftrue, flft, Tables, givenOf, ‵, raw, _⊛_, prop, atRet, Sq, _$_, _∵_, !, qed, move, let-go}
+use Rattle.walks.proofs.Names.{use0, use1, use2, split, join, fsplit, frame, done, store, stop, from, lit, of-opd, bin, no-more, FmC, Is, u8, RefT, MutSlice}
 use Rattle.walks.proofs.Names.{nothing, plain, tripleOf, Contract, Triple, cited, says, yes}
 use Rattle.walks.proofs.Names as kit
 use native.Mathlib.Nat.{le-antisymm}
