@@ -17,7 +17,7 @@ use Rattle.base.specs.Refusal as refusal
 use Rattle.base.specs.declared.Answer.{Answer}
 use Rattle.element.proofs.Sizes.{Fit}
 use Rattle.grammar.specs.Reading.{elements, answerOf, checkOf, noneRefused}
-use Rattle.grammar.proofs.Places.{Ahead, ends, passes, reads, ahead, ahead-from, step-silent, step-found}
+use Rattle.grammar.proofs.Places.{Ahead, ends, passes, reads, ahead, ahead-from}
 use Rattle.grammar.proofs.Places as places
 use Rattle.reader.specs.Step.{mayStand}
 use Rattle.reader.proofs.Whole.{may-stand, fresh-fit}
@@ -34,7 +34,7 @@ use Rattle.runs.specs.Steps.{firstPosition, stays, stepTo, stopAt, lastO
 use Rattle.runs.specs.declared.stepping.RunPosition.{RunPosition}
 use Rattle.runs.specs.declared.stepping.RunStep.{RunStep}
 use Rattle.runs.proofs.Turn.{runs-first, runs-other}
-use Rattle.runs.proofs.Steps.{first-run, first-other, lastFrom}
+use Rattle.runs.proofs.Steps.{first-run, first-other, lastFrom, fit-piece}
 
 -- ---- the pieces that follow a piece
 
@@ -65,13 +65,6 @@ module _ (s : List ℕ) (there : ℕ → State) (ok : Bool) where
   abbrev Agrees : ℕ → State → Type 0
   Agrees at st = (i : ℕ) → at ≤ i → there i ≡ stateFrom s at st i
 
-  fit-piece : (at : ℕ) (st : State) (e : Element) → elementAt s at st ≡ e → Fit st → Fit (pieceOf s at e .state)
-  unfolding pieceOf
-  fit-piece at st End is f = fresh-fit
-  fit-piece at st (Refused n o) is f = fresh-fit
-  fit-piece at st (Silent k next) is f = step-silent s at st (Silent k next) (sym is) refl .fit f
-  fit-piece at st (Found p next) is f = step-found s at st (Found p next) (sym is) refl .fit f
-
   cuts-step : (n at : ℕ) (st : State) {q : Piece} → Step s at st q → Fit (q .state) → StateAfter s at st q → length s - at < suc n → Agrees at st → noRefusal s at st ≡ ok
       → ((b : ℕ) (next : State) → Fit next → length s - b < n → Agrees b next → noRefusal s b next ≡ ok → Cuts s there ok (rest s b next)) → Cuts s there ok (rest s at st)
   cuts-step n at st (stops e x) f after k a o go = rw e nil
@@ -91,7 +84,7 @@ module _ (s : List ℕ) (there : ℕ → State) (ok : Bool) where
   cuts : (n at : ℕ) (st : State) → Fit st → length s - at < n → Agrees at st → noRefusal s at st ≡ ok → Cuts s there ok (rest s at st)
   cuts zero at st f k a o = absurd (not-suc-le-zero k)
   cuts (suc n) at st f k a o =
-      cuts-step n at st (step s at st) (fit-piece at st (elementAt s at st) refl f) (state-after s at st (elementAt s at st) refl) k a o (λ b next g h i j. cuts n b next g h i j)
+      cuts-step n at st (step s at st) (fit-piece s at st (elementAt s at st) refl f) (state-after s at st (elementAt s at st) refl) k a o (λ b next g h i j. cuts n b next g h i j)
 
 -- ---- a step among pieces: no run is left, or the first is shown
 
