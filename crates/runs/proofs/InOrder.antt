@@ -30,7 +30,7 @@ use Rattle.pieces.specs.declared.Piece.{Piece}
 use Rattle.pieces.proofs.Laws.{StateAfter, stateFrom, state-after, first-state}
 use Rattle.pieces.proofs.Step.{Step, stops, goes, step, elementAt, pieceAt, rest, noRefusal}
 use Rattle.runs.specs.Runs.{runsIn, runsOf, shownOf, noRun, nthOf, runAt}
-use Rattle.runs.specs.Steps.{firstPosition, stays, stepTo, stopAt, lastOf, firstOf, runFrom, checkedFrom, nextRunOf, positionAfter}
+use Rattle.runs.specs.Steps.{firstPosition, stays, stepTo, stopAt, lastOf, firstOf, runFrom, knownOf, checkedFrom, nextRunOf, positionAfter}
 use Rattle.runs.specs.declared.stepping.RunPosition.{RunPosition}
 use Rattle.runs.specs.declared.stepping.RunStep.{RunStep}
 use Rattle.runs.proofs.Turn.{runs-first, runs-other}
@@ -168,7 +168,7 @@ record Stepped (s : List ℕ) (k : ℕ) (r : RunStep) : Type 0 where
 
 module _ (s : List ℕ) (g : Good s) (k : ℕ) (p : RunPosition) (h : Stands s k p) where
   known-by : (b : Bool) → p .checked ≡ b → checkedFrom s p ≡ runFrom s (p .place) (p .state)
-  unfolding checkedFrom pick
+  unfolding checkedFrom knownOf pick
   known-by true e = rw e
   known-by false e = rw (e, g .accepted)
 
@@ -237,7 +237,7 @@ module _ (s : List ℕ) (g : Good s) where
 
 module _ (s : List ℕ) (no : eqb (checkOf s .number) refusal.accepted ≡ false) where
   refused-by : (b : Bool) → ltb limit.octets (length s) ≡ b → nextRunOf s firstPosition ≡ stays firstPosition (checkOf s)
-  unfolding nextRunOf checkedFrom checkOf pick
+  unfolding nextRunOf checkedFrom knownOf checkOf pick
   refused-by true l = rw l
   refused-by false l =
       let m : mayStand (length s) 0 fresh ≡ true = may-stand (length s) 0 fresh zero-le fresh-fit in

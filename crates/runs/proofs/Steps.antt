@@ -12,11 +12,11 @@ use Rattle.base.specs.Choice.{pick, from}
 use Rattle.base.specs.Limit as limit
 use Rattle.base.specs.Refusal as refusal
 use Rattle.base.specs.declared.Answer.{Answer}
-use Rattle.base.proofs.Ladder.{on-true, on-false, on-eq, on-ne}
+use Rattle.base.proofs.Ladder.{on-eq, on-ne}
 use Rattle.charset.specs.Charsets.{no-set, allowed}
 use Rattle.charset.specs.declared.Side.the-variants.{GL, GR}
 use Rattle.element.proofs.Sizes.{Fit}
-use Rattle.grammar.specs.Reading.{checkOf, Octets}
+use Rattle.grammar.specs.Reading.{Octets}
 use Rattle.grammar.proofs.Places.{ahead, at-end, at-refused, at-silent, at-found, step-silent, step-found}
 use Rattle.grammar.proofs.Sound.{Legal}
 use Rattle.reader.specs.Step.{mayStand}
@@ -39,7 +39,7 @@ use Rattle.pieces.proofs.Step.{Step, stops, goes, step, elementAt, pieceAt, res
 use Rattle.runs.specs.Runs.{shownOf}
 use Rattle.runs.specs.Spans.{Ones, Twos, Single, Double, TextTo, singly, doubly}
 use Rattle.runs.specs.Spans as spans
-use Rattle.runs.specs.Steps.{stays, stepTo, stopAt, lastOf, firstOf, runFrom, checkedFrom}
+use Rattle.runs.specs.Steps.{stays, stepTo, stopAt, lastOf, firstOf, runFrom, knownOf, checkedFrom}
 use Rattle.runs.specs.declared.Bounds.{Bounds}
 use Rattle.runs.specs.declared.stepping.RunPosition.{RunPosition}
 use Rattle.runs.specs.declared.stepping.RunStep.{RunStep}
@@ -400,18 +400,11 @@ module _ (s : List ℕ) (place : ℕ) (state : State) (at : ℕ) (st : State) (p
 
 -- ---- the check before the first run
 
-module _ (s : List ℕ) (p : RunPosition) (r : RunStep) where
-  pub on-known : p .checked ≡ true → r ≡ runFrom s (p .place) (p .state) → r ≡ checkedFrom s p
+module _ (s : List ℕ) (p : RunPosition) (r : RunStep) (a : Answer) (is : a ≡ knownOf s (p .checked)) where
+  pub on-good : a .number ≡ refusal.accepted → r ≡ runFrom s (p .place) (p .state) → r ≡ checkedFrom s p
   unfolding checkedFrom
-  on-known k e = on-true _ _ _ _ k e
+  on-good k e = on-eq _ _ _ _ _ (sym (ap (λ (x : Answer). x .number) is) ∙ k) e
 
-  module _ (a : Answer) (unknown : p .checked ≡ false) (is : a ≡ checkOf s) where
-    pub on-good : a .number ≡ refusal.accepted → r ≡ runFrom s (p .place) (p .state) → r ≡ checkedFrom s p
-    unfolding checkedFrom
-    on-good k e = on-false _ _ _ _ unknown (on-eq _ _ _ _ _ (sym (ap (λ (x : Answer). x .number) is) ∙ k) e)
-
-    pub on-bad : (a .number ≡ refusal.accepted → ⊥) → r ≡ stays p a → r ≡ checkedFrom s p
-    unfolding checkedFrom
-    on-bad k e =
-        on-false _ _ _ _ unknown
-        (on-ne _ _ _ _ _ (λ z. k (ap (λ (x : Answer). x .number) is ∙ z)) (e ∙ ap (stays p) is))
+  pub on-bad : (a .number ≡ refusal.accepted → ⊥) → r ≡ stays p a → r ≡ checkedFrom s p
+  unfolding checkedFrom
+  on-bad k e = on-ne _ _ _ _ _ (λ z. k (ap (λ (x : Answer). x .number) is ∙ z)) (e ∙ ap (stays p) is)

@@ -5,7 +5,7 @@ use mathlib.Core.Bool.{Bool, true, false}
 use mathlib.Core.List.{List, [], _∷_}
 use lib.Dec.{eqb, ltb}
 use lib.ListN.{length}
-use Rattle.base.specs.Answers.{refusedAt}
+use Rattle.base.specs.Answers.{answer, refusedAt}
 use Rattle.base.specs.Choice.{pick, from}
 use Rattle.base.specs.Limit as limit
 use Rattle.base.specs.Refusal as refusal
@@ -70,11 +70,14 @@ runFrom s at st =
     firstOf (length s) (λ i. stateAt at st (elements (from at s) 0 st) i) (lastOf at st (elements (from at s) 0 st))
     (piecesFrom s at (elements (from at s) 0 st))
 
+-- the answer of the check, which is not asked for where a position says that it is known and accepts
+unfoldable pub knownOf : List ℕ → Bool → Answer
+knownOf s checked = pick checked (answer refusal.accepted 0 0) (checkOf s)
+
 -- runs are "shown only for accepted strings": a position that is not known to be of an accepted string has the string checked first
 unfoldable pub checkedFrom : List ℕ → RunPosition → RunStep
 checkedFrom s p =
-    pick (p .checked) (runFrom s (p .place) (p .state))
-    (pick (eqb (checkOf s .number) refusal.accepted) (runFrom s (p .place) (p .state)) (stays p (checkOf s)))
+    pick (eqb (knownOf s (p .checked) .number) refusal.accepted) (runFrom s (p .place) (p .state)) (stays p (knownOf s (p .checked)))
 
 -- the step from any position, also one made by hand: as for a reader, 1 for a string that is too long comes first, then 11 for a position that
 -- cannot be

@@ -8,7 +8,7 @@ ghost use Rattle.element.specs.Element.{elementOf};
 ghost use Rattle.pieces.specs.Pieces.{piece};
 ghost use Rattle.reader.specs.Step.{mayStand};
 ghost use Rattle.runs.specs.Spans.{OnesTo, TwosTo, TextTo};
-ghost use Rattle.runs.specs.Steps.{firstPosition, stays, stepTo, stopAt, runFrom, checkedFrom, nextRunOf};
+ghost use Rattle.runs.specs.Steps.{firstPosition, stays, stepTo, stopAt, runFrom, knownOf, checkedFrom, nextRunOf};
 use crate::Bounds;
 use base::Answer;
 use base::limit;
@@ -212,15 +212,22 @@ fn run_from(s: &[u8], place: usize, state: State) -> RunStep
     stop_at(s, at, st)
 }
 
+// The answer of the check, which is not asked for where it is known that it accepts.
+fn known(s: &[u8], checked: bool) -> Answer
+    ensures { λ r. ⌜ r ≡ knownOf (now (s .entry)) checked ⌝ }
+{
+    if checked {
+        return Answer::accepted(0, 0);
+    }
+    check_string::check(s)
+}
+
 // The first run from a position on, which may stand in the string; the string is checked where that is not done yet.
 fn checked_from(s: &[u8], p: RunPosition) -> RunStep
     requires { ⌜ mayStand (length (now s)) (p .place) (p .state) ≡ true ⌝ }
     ensures { λ r. ⌜ r ≡ checkedFrom (now (s .entry)) p ⌝ }
 {
-    if p.checked {
-        return run_from(s, p.place, p.state);
-    }
-    let answer = check_string::check(s);
+    let answer = known(s, p.checked);
     if answer.number == refusal::ACCEPTED {
         return run_from(s, p.place, p.state);
     }
