@@ -65,8 +65,10 @@ module _ (s : List ℕ) (there : ℕ → State) (ok : Bool) where
   abbrev Agrees : ℕ → State → Type 0
   Agrees at st = (i : ℕ) → at ≤ i → there i ≡ stateFrom s at st i
 
-  cuts-step : (n at : ℕ) (st : State) {q : Piece} → Step s at st q → Fit (q .state) → StateAfter s at st q → length s - at < suc n → Agrees at st → noRefusal s at st ≡ ok
-      → ((b : ℕ) (next : State) → Fit next → length s - b < n → Agrees b next → noRefusal s b next ≡ ok → Cuts s there ok (rest s b next)) → Cuts s there ok (rest s at st)
+  cuts-step : (n at : ℕ) (st : State) {q : Piece} → Step s at st q → Fit (q .state) → StateAfter s at st q → length s - at < suc n → Agrees at st
+      → noRefusal s at st ≡ ok
+      → ((b : ℕ) (next : State) → Fit next → length s - b < n → Agrees b next → noRefusal s b next ≡ ok → Cuts s there ok (rest s b next))
+      → Cuts s there ok (rest s at st)
   cuts-step n at st (stops e x) f after k a o go = rw e nil
   cuts-step n at st (goes {q} b l u e x) f after k a o go =
       let later : Agrees (q .end) (q .state) = λ i h. a i (omega arith) ∙ after i (λ z. absurd (omega arith)) .1 h in
@@ -84,7 +86,8 @@ module _ (s : List ℕ) (there : ℕ → State) (ok : Bool) where
   cuts : (n at : ℕ) (st : State) → Fit st → length s - at < n → Agrees at st → noRefusal s at st ≡ ok → Cuts s there ok (rest s at st)
   cuts zero at st f k a o = absurd (not-suc-le-zero k)
   cuts (suc n) at st f k a o =
-      cuts-step n at st (step s at st) (fit-piece s at st (elementAt s at st) refl f) (state-after s at st (elementAt s at st) refl) k a o (λ b next g h i j. cuts n b next g h i j)
+      cuts-step n at st (step s at st) (fit-piece s at st (elementAt s at st) refl f) (state-after s at st (elementAt s at st) refl) k a o
+      (λ b next g h i j. cuts n b next g h i j)
 
 -- ---- a step among pieces: no run is left, or the first is shown
 
@@ -104,7 +107,8 @@ module _ (s : List ℕ) (there : ℕ → State) (ok : Bool) (none : RunStep) whe
   walked [] nil = over refl refl
   walked (p ∷ ps) (cut c h) = by (isRun (p .kind)) refl (walked ps h)
     where
-      by : (t : Bool) → isRun (p .kind) ≡ t → Walked s there ok none ps (firstOf (length s) there none ps) → Walked s there ok none (p ∷ ps) (firstOf (length s) there none (p ∷ ps))
+      by : (t : Bool) → isRun (p .kind) ≡ t → Walked s there ok none ps (firstOf (length s) there none ps)
+          → Walked s there ok none (p ∷ ps) (firstOf (length s) there none (p ∷ ps))
       by true e w = shows (runs-first p ps e) c (first-run (length s) there none p ps e)
       by false e w = passed p ps e w
 
@@ -120,7 +124,8 @@ record Done (s : List ℕ) (r : RunStep) : Type 0 where
   empty : rest s place state ≡ []
   clear : noRefusal s place state ≡ true
 
-last-done : (s : List ℕ) {at : ℕ} {st : State} {es : List Element} → Ahead s at st es → at ≤ length s → Fit st → noneRefused es ≡ true → Done s (lastOf at st es)
+last-done : (s : List ℕ) {at : ℕ} {st : State} {es : List Element} → Ahead s at st es → at ≤ length s → Fit st → noneRefused es ≡ true
+    → Done s (lastOf at st es)
 unfolding lastOf stopAt noneRefused piecesFrom
 last-done s {at} {st} (ends e) h f n =
     record { place = at; state = st; is = refl; within = h; fit = f; empty = ap (piecesFrom s at) e; clear = ap noneRefused e }
@@ -129,7 +134,8 @@ last-done s (passes t e a) h f n = last-done s a (t .fits) (t .fit f) n
 last-done s (reads t m e a) h f n = last-done s a (t .fits) (t .fit f) n
 
 -- elements that answer 0 are not refused
-none-refused : (s : List ℕ) {at : ℕ} {st : State} {es : List Element} → Ahead s at st es → (count : ℕ) → answerOf at count es .number ≡ refusal.accepted → noneRefused es ≡ true
+none-refused : (s : List ℕ) {at : ℕ} {st : State} {es : List Element} → Ahead s at st es → (count : ℕ)
+    → answerOf at count es .number ≡ refusal.accepted → noneRefused es ≡ true
 unfolding answerOf noneRefused
 none-refused s (ends e) count h = refl
 none-refused s (places.stops {n = n} g e) count h = absurd (let z : n ≡ 0 = h in omega arith)
@@ -210,7 +216,8 @@ module _ (s : List ℕ) (g : Good s) (k : ℕ) (p : RunPosition) (h : Stands s k
           clear = c .clear;
           runs = λ j.
               let m : k + suc j ≡ suc k + j = omega arith in
-              ap (λ (ps : List Piece). nthOf (length s) j (runsIn ps)) (sym (c .follows)) ∙ (sym (ap (nthOf (length s) (suc j)) x) ∙ rw m at (h .runs (suc j)));
+              ap (λ (ps : List Piece). nthOf (length s) j (runsIn ps)) (sym (c .follows)) ∙
+              (sym (ap (nthOf (length s) (suc j)) x) ∙ rw m at (h .runs (suc j)));
         };
       })
 

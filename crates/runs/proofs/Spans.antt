@@ -89,14 +89,17 @@ text-kind (suc (suc k)) b h = absurd (omega arith)
 data Is (sets : Sets) (w : List ℕ) : Type 0 where
   blank : (t : List ℕ) → wide (sets .gl) ≡ false → w ≡ 0x20 ∷ t → Is sets w
   one : (d : Side) (x : ℕ) (t : List ℕ) → wide (get d sets) ≡ false → codeUsed (formOf (get d sets)) x ≡ true → w ≡ (top d + x) ∷ t → Is sets w
-  two : (d : Side) (x y : ℕ) (t : List ℕ) → wide (get d sets) ≡ true → graphicOf x ≡ true → graphicOf y ≡ true → w ≡ (top d + x) ∷ (top d + y) ∷ t → Is sets w
+  two : (d : Side) (x y : ℕ) (t : List ℕ) → wide (get d sets) ≡ true → graphicOf x ≡ true → graphicOf y ≡ true → w ≡ (top d + x) ∷ (top d + y) ∷ t
+      → Is sets w
 
-is-char : (sets : Sets) (w : List ℕ) (d : Side) (c x : ℕ) (t : List ℕ) (b : Bool) → wide c ≡ b → get d sets ≡ c → codeUsed (formOf c) x ≡ true → w ≡ shown b (top d) x ++ t → Is sets w
+is-char : (sets : Sets) (w : List ℕ) (d : Side) (c x : ℕ) (t : List ℕ) (b : Bool) → wide c ≡ b → get d sets ≡ c → codeUsed (formOf c) x ≡ true
+    → w ≡ shown b (top d) x ++ t → Is sets w
 unfolding codeUsed wide
 is-char sets w d c x t false n e u a = one d x t (ap wide e ∙ n) (rw e u) a
 is-char sets w d c x t true n e u a =
     let v : (graphicOf (x / 256) && graphicOf (x % 256)) ≡ true = rw n at u in
-    two d (x / 256) (x % 256) t (ap wide e ∙ n) (and-left (graphicOf (x / 256)) (graphicOf (x % 256)) v) (and-right (graphicOf (x / 256)) (graphicOf (x % 256)) v) a
+    two d (x / 256) (x % 256) t (ap wide e ∙ n) (and-left (graphicOf (x / 256)) (graphicOf (x % 256)) v)
+    (and-right (graphicOf (x / 256)) (graphicOf (x % 256)) v) a
 
 is-text : (sets : Sets) (w : List ℕ) {p : Part} (u : TextUnit) (d : Side) (t : List ℕ) → Shown sets w p u d t → kindOf u < 2 → Is sets w
 unfolding octets good
@@ -113,7 +116,8 @@ is-text sets w (ext e xs) d t h k = absurd (omega arith)
 first-is : {b x : ℕ} {t r : List ℕ} → b ∷ t ≡ x ∷ r → b ≡ x
 first-is e = ap (λ (l : List ℕ). getD l 0 0) e
 
-unit-kind : (sets : Sets) (b : ℕ) (w : List ℕ) {p : Part} (u : TextUnit) (d : Side) (t : List ℕ) → Shown sets (b ∷ w) p u d t → 0x20 ≤ b → (b ≡ 0x9B → ⊥) → kindOf u < 2
+unit-kind : (sets : Sets) (b : ℕ) (w : List ℕ) {p : Part} (u : TextUnit) (d : Side) (t : List ℕ) → Shown sets (b ∷ w) p u d t → 0x20 ≤ b
+    → (b ≡ 0x9B → ⊥) → kindOf u < 2
 unfolding octets
 unit-kind sets b w (char c x) d t h l n = omega arith
 unit-kind sets b w space d t h l n = omega arith
@@ -135,7 +139,8 @@ isFound (Found p st) = true
 abbrev texted : Directions → Directions
 texted d = directions (d .depth) (d .levels) (d .marked) true
 
-written-by : (a b : Bool) (d next : Directions) → d .marked ≡ a → eqb (d .depth) 0 ≡ b → pick a (pick b (Stops refusal.direction) (Goes (texted d))) (Goes (texted d)) ≡ Goes next → settledOf next ≡ true
+written-by : (a b : Bool) (d next : Directions) → d .marked ≡ a → eqb (d .depth) 0 ≡ b
+    → pick a (pick b (Stops refusal.direction) (Goes (texted d))) (Goes (texted d)) ≡ Goes next → settledOf next ≡ true
 unfolding pick settledOf
 written-by true true d next m n e = let z : _≡_ {A = ℕ} 0 1 = cc in absurd (omega arith)
 written-by true false d next m n e = let z : texted d ≡ next = cc in rw (← z, m, n)
@@ -161,7 +166,8 @@ one-of (suc zero) h n = refl
 one-of (suc (suc k)) h n = absurd (omega arith)
 
 graphic-yes : (side b d : ℕ) → b / 128 ≡ side → 0x21 ≤ b % 128 → b % 128 ≤ 0x7E → d / 128 ≡ side → 0x21 ≤ d % 128 → d % 128 ≤ 0x7E
-    → true ≡ pick (pick (eqb (b / 128) side) (pick (ltb (b % 128) 0x21) false (leb (b % 128) 0x7E)) false) (pick (eqb (d / 128) side) (pick (ltb (d % 128) 0x21) false (leb (d % 128) 0x7E)) false) false
+    → true ≡ pick (pick (eqb (b / 128) side) (pick (ltb (b % 128) 0x21) false (leb (b % 128) 0x7E)) false)
+    (pick (eqb (d / 128) side) (pick (ltb (d % 128) 0x21) false (leb (d % 128) 0x7E)) false) false
 graphic-yes side b d e l m f n o =
     on-true _ _ _ _ (sym (on-eq (b / 128) side _ _ _ e (on-ge (b % 128) 0x21 _ _ _ l (sym (le-leb (b % 128) 0x7E m)))))
     (on-eq (d / 128) side _ _ _ f (on-ge (d % 128) 0x21 _ _ _ n (sym (le-leb (d % 128) 0x7E o))))
@@ -171,9 +177,12 @@ one-code : (f x : ℕ) → eqb f form-94x94 ≡ false → codeUsed f x ≡ true 
 unfolding codeUsed
 one-code f x n u = go (eqb f form-96) refl (rw n at u)
   where
-    go : (b : Bool) → eqb f form-96 ≡ b → cond b (leb 0x20 x && leb x 0x7F) (graphicOf x) ≡ true → (x ≤ 0x7F) × ((0x20 ≤ x) × ((f ≡ form-96 → ⊥) → (0x21 ≤ x) × (x ≤ 0x7E)))
-    go true e v =
-        (leb-true x 0x7F (and-right (leb 0x20 x) (leb x 0x7F) v), (leb-true 0x20 x (and-left (leb 0x20 x) (leb x 0x7F) v), λ m. absurd (m (eqb-true f form-96 e))))
+    go : (b : Bool) → eqb f form-96 ≡ b → cond b (leb 0x20 x && leb x 0x7F) (graphicOf x) ≡ true
+        → (x ≤ 0x7F) × ((0x20 ≤ x) × ((f ≡ form-96 → ⊥) → (0x21 ≤ x) × (x ≤ 0x7E)))
+    go true e v = (
+      leb-true x 0x7F (and-right (leb 0x20 x) (leb x 0x7F) v),
+      (leb-true 0x20 x (and-left (leb 0x20 x) (leb x 0x7F) v), λ m. absurd (m (eqb-true f form-96 e))),
+    )
     go false e v = let a = graphic-low x v in (omega arith, (omega arith, λ m. a))
 
 below : (b : ℕ) → sideKindOf b ≡ 0 → b < 128
@@ -217,7 +226,8 @@ module _ (sets : Sets) (legal : Legal sets) where
       let c = graphic-low x u in
       let r = above b k h e in
       absurd (omega (arith, q, c .1, r))
-  single-by k _ _ b w z (spans.right-96 e n) h (two GR x y t m u v a) = absurd (let q : formOf (sets .gr) ≡ form-94x94 = eqb-true (formOf (sets .gr)) form-94x94 m in omega (arith, q, n))
+  single-by k _ _ b w z (spans.right-96 e n) h (two GR x y t m u v a) = absurd
+      (let q : formOf (sets .gr) ≡ form-94x94 = eqb-true (formOf (sets .gr)) form-94x94 m in omega (arith, q, n))
   single-by k _ _ b w z (spans.right-94 e n o) h (blank t m a) = let q = first-is a in let y = above b k h e in absurd (omega arith)
   single-by k _ _ b w z (spans.right-94 e n o) h (one GL x t m u a) =
       let q = first-is a in
@@ -236,7 +246,8 @@ module _ (sets : Sets) (legal : Legal sets) where
   single-by k _ _ b w z (spans.right-94 e n o) h (two GR x y t m u v a) = absurd (o (eqb-true _ _ m))
 
 -- two octets of a list from a place on
-pair-at : (s : List ℕ) (i x y first last : ℕ) (t : List ℕ) → i < length s → getD s i 0 ∷ from (i + 1) s ≡ x ∷ y ∷ t → first ≤ x → x ≤ last → first ≤ y → y ≤ last → Pair s first last i
+pair-at : (s : List ℕ) (i x y first last : ℕ) (t : List ℕ) → i < length s → getD s i 0 ∷ from (i + 1) s ≡ x ∷ y ∷ t → first ≤ x → x ≤ last → first ≤ y
+    → y ≤ last → Pair s first last i
 pair-at s i x y first last t h e a b c d =
     let rest : from (i + 1) s ≡ y ∷ t = cc in
     let long : length s - (i + 1) ≡ suc (length t) = sym (from-length s (i + 1)) ∙ ap length rest in
@@ -246,7 +257,8 @@ pair-at s i x y first last t h e a b c d =
     record { inside = omega arith; low = omega arith; high = omega arith; low-2 = omega arith; high-2 = omega arith }
 
 module _ (s : List ℕ) (i : ℕ) where
-  double-by : (k first last : ℕ) (sets : Sets) → i < length s → k < 2 → Double sets k first last → sideKindOf (getD s i 0) ≡ k → Is sets (getD s i 0 ∷ from (i + 1) s) → Pair s first last i
+  double-by : (k first last : ℕ) (sets : Sets) → i < length s → k < 2 → Double sets k first last → sideKindOf (getD s i 0) ≡ k
+      → Is sets (getD s i 0 ∷ from (i + 1) s) → Pair s first last i
   unfolding wide
   double-by k _ _ sets l z (spans.left e n) h (blank t m a) = absurd (eqb-false _ _ m n)
   double-by k _ _ sets l z (spans.left e n) h (one GL x t m u a) = absurd (eqb-false _ _ m n)
@@ -303,7 +315,8 @@ module _ (s : List ℕ) (o : Octets s) (st : State) (legal : Legal (st .sets)) (
   pub text-settled : i < length s → isRun (pieceAt s i st .kind) ≡ true → settledOf (pieceAt s i st .state .directions) ≡ true
   text-settled h r = text-by (right-at h) r .settled
 
-  side-by : {e : Element} → Right st (getD s i 0 ∷ from (i + 1) s) e → isFound e ≡ true → 0x20 ≤ getD s i 0 → (getD s i 0 ≡ 0x9B → ⊥) → pieceOf s i e .kind ≡ sideKindOf (getD s i 0)
+  side-by : {e : Element} → Right st (getD s i 0 ∷ from (i + 1) s) e → isFound e ≡ true → 0x20 ≤ getD s i 0 → (getD s i 0 ≡ 0x9B → ⊥)
+      → pieceOf s i e .kind ≡ sideKindOf (getD s i 0)
   unfolding pieceOf isFound
   side-by (refused h) f l n = absurd (false≢true f)
   side-by (passed d c t h) f l n = absurd (false≢true f)
@@ -313,20 +326,24 @@ module _ (s : List ℕ) (o : Octets s) (st : State) (legal : Legal (st .sets)) (
 
   -- ---- a unit that leaves the state
 
-  unit-piece : (w : ℕ) → i < length s → One w st (elementOf (getD s i 0 ∷ from (i + 1) s) st) → 0x20 ≤ getD s i 0 → (getD s i 0 ≡ 0x9B → ⊥) → pieceAt s i st ≡ piece i (i + w) (sideKindOf (getD s i 0)) st
+  unit-piece : (w : ℕ) → i < length s → One w st (elementOf (getD s i 0 ∷ from (i + 1) s) st) → 0x20 ≤ getD s i 0 → (getD s i 0 ≡ 0x9B → ⊥)
+      → pieceAt s i st ≡ piece i (i + w) (sideKindOf (getD s i 0)) st
   unfolding pieceOf isFound
   unit-piece w h u l n =
       let is : elementAt s i st ≡ Found (u .unit) st = ap (λ (x : List ℕ). elementOf x st) (from-octet s i h) ∙ u .is in
       let k : pieceKindOf (u .unit .kind) (getD s i 0) ≡ sideKindOf (getD s i 0) = side-by {e = Found (u .unit) st} (rw is at (right-at h)) refl l n in
-      ap (pieceOf s i) is ∙ (ap (λ (x : ℕ). piece i (i + x) (pieceKindOf (u .unit .kind) (getD s i 0)) st) (u .sized) ∙ ap (λ (x : ℕ). piece i (i + w) x st) k)
+      ap (pieceOf s i) is ∙ (ap (λ (x : ℕ). piece i (i + x) (pieceKindOf (u .unit .kind) (getD s i 0)) st) (u .sized) ∙ ap
+      (λ (x : ℕ). piece i (i + w) x st) k)
 
   module _ (settled : settledOf (st .directions) ≡ true) where
-    pub single-piece : (k first last : ℕ) → k < 2 → Single (st .sets) k first last → i < length s → first ≤ getD s i 0 → getD s i 0 ≤ last → pieceAt s i st ≡ piece i (i + 1) k st
+    pub single-piece : (k first last : ℕ) → k < 2 → Single (st .sets) k first last → i < length s → first ≤ getD s i 0 → getD s i 0 ≤ last
+        → pieceAt s i st ≡ piece i (i + 1) k st
     unfolding oneAt singleOf glOctet grOctet graphicOn graphicOf
     single-piece k _ _ z (spans.left e n) h l m =
         unit-piece 1 h
         (one-octet st settled (getD s i 0) (from (i + 1) s)
-        (sym (on-true _ _ _ _ (sym (on-ge (getD s i 0) 0x20 _ _ _ l (sym (lt-ltb (getD s i 0) 0x7F (omega arith))))) (on-ne (formOf (st .sets .gl)) form-94x94 _ _ _ n refl))))
+        (sym (on-true _ _ _ _ (sym (on-ge (getD s i 0) 0x20 _ _ _ l (sym (lt-ltb (getD s i 0) 0x7F (omega arith)))))
+        (on-ne (formOf (st .sets .gl)) form-94x94 _ _ _ n refl))))
         l (λ q. omega arith)
         ∙ ap (λ (x : ℕ). piece i (i + 1) x st) (left-octet (getD s i 0) (omega arith) ∙ sym e)
     single-piece k _ _ z (spans.right-96 e n) h l m =
@@ -357,20 +374,27 @@ module _ (s : List ℕ) (o : Octets s) (st : State) (legal : Legal (st .sets)) (
         let b = from-octet s (i + 1) (omega (arith, h .inside)) in
         let y : 2 ≤ 2 = omega arith in
         unit-piece 2 a
-        (two-left st settled n (getD s i 0) (from (i + 1) s) (rw b (sym (graphic-yes 0 (getD s i 0) (getD s (i + 1) 0) (omega (arith, h .low, h .high)) (omega (arith, h .low, h .high)) (omega (arith, h .low, h .high)) (omega (arith, h .low-2, h .high-2)) (omega (arith, h .low-2, h .high-2)) (omega (arith, h .low-2, h .high-2))))))
+        (two-left st settled n (getD s i 0) (from (i + 1) s) (rw b
+        (sym (graphic-yes 0 (getD s i 0) (getD s (i + 1) 0) (omega (arith, h .low, h .high)) (omega (arith, h .low, h .high))
+        (omega (arith, h .low, h .high)) (omega (arith, h .low-2, h .high-2)) (omega (arith, h .low-2, h .high-2))
+        (omega (arith, h .low-2, h .high-2))))))
         (omega (arith, h .low)) (λ q. omega (arith, h .high, q))
         ∙ ap (λ (x : ℕ). piece i (i + 2) x st) (left-octet (getD s i 0) (omega (arith, h .high)) ∙ sym e)
     double-piece k _ _ z (spans.right e n) h =
         let a : i < length s = omega (arith, h .inside) in
         let b = from-octet s (i + 1) (omega (arith, h .inside)) in
         unit-piece 2 a
-        (two-right st settled n (getD s i 0) (from (i + 1) s) (rw b (sym (graphic-yes 1 (getD s i 0) (getD s (i + 1) 0) (omega (arith, h .low, h .high)) (omega (arith, h .low, h .high)) (omega (arith, h .low, h .high)) (omega (arith, h .low-2, h .high-2)) (omega (arith, h .low-2, h .high-2)) (omega (arith, h .low-2, h .high-2))))))
+        (two-right st settled n (getD s i 0) (from (i + 1) s)
+        (rw b (sym (graphic-yes 1 (getD s i 0) (getD s (i + 1) 0) (omega (arith, h .low, h .high)) (omega (arith, h .low, h .high))
+        (omega (arith, h .low, h .high)) (omega (arith, h .low-2, h .high-2)) (omega (arith, h .low-2, h .high-2))
+        (omega (arith, h .low-2, h .high-2))))))
         (omega (arith, h .low)) (λ q. omega (arith, h .low, q))
         ∙ ap (λ (x : ℕ). piece i (i + 2) x st) (right-octet (getD s i 0) (omega (arith, h .low)) ∙ one-of k z e)
 
   -- ---- where a run ends
 
-  pub single-ends : (k first last : ℕ) → k < 2 → Single (st .sets) k first last → i < length s → pieceAt s i st .kind ≡ k → (first ≤ getD s i 0) × (getD s i 0 ≤ last)
+  pub single-ends : (k first last : ℕ) → k < 2 → Single (st .sets) k first last → i < length s → pieceAt s i st .kind ≡ k
+      → (first ≤ getD s i 0) × (getD s i 0 ≤ last)
   single-ends k first last z c h e =
       let t = text-by (right-at h) (rw e (lt-ltb k 2 z)) in
       single-by (st .sets) legal k first last (getD s i 0) (from (i + 1) s) z c (sym (t .side) ∙ e) (t .is)

@@ -77,7 +77,8 @@ module _ (s : List ℕ) (at : ℕ) (st : State) where
   last-here (Found p next) is h = let z = found-fits s at st is in absurd (omega arith)
 
   -- any other is passed
-  pub last-later : (e : Element) → elementAt s at st ≡ e → (pieceOf s at e .end ≡ at → ⊥) → lastFrom s at st ≡ lastFrom s (pieceOf s at e .end) (pieceOf s at e .state)
+  pub last-later : (e : Element) → elementAt s at st ≡ e → (pieceOf s at e .end ≡ at → ⊥)
+      → lastFrom s at st ≡ lastFrom s (pieceOf s at e .end) (pieceOf s at e .state)
   unfolding pieceOf lastOf
   last-later End is h = absurd (h refl)
   last-later (Refused n o) is h = absurd (h refl)
@@ -105,7 +106,8 @@ head-first s place state =
     }
 
 -- q is the piece at the place, and g how many runs end before it
-module _ (s : List ℕ) (place : ℕ) (state : State) (at : ℕ) (st : State) (last q : Piece) (g : ℕ) (h : Head s place state at st last) (is : q ≡ pieceAt s at st) (ending : g ≡ endingOf (last .kind) (q .kind)) where
+module _ (s : List ℕ) (place : ℕ) (state : State) (at : ℕ) (st : State) (last q : Piece) (g : ℕ) (h : Head s place state at st last)
+    (is : q ≡ pieceAt s at st) (ending : g ≡ endingOf (last .kind) (q .kind)) where
   at-q : Step s at st q
   at-q = rw is (step s at st)
 
@@ -118,15 +120,18 @@ module _ (s : List ℕ) (place : ℕ) (state : State) (at : ℕ) (st : State) (l
   shown-by : Followed (last .kind) (q .kind) → 0 < g → chosen (joined last (rest s at st)) ≡ stepTo at st (shownOf (length s) last)
   shown-by (same r i f e) l = absurd (omega arith)
   shown-by (over r f e) l =
-      let there : stateFrom s place state (last .end) ≡ st = ap (stateFrom s place state) (h .ends) ∙ (h .later at (omega arith) ∙ first-state s at st (elementAt s at st) refl) in
+      let there : stateFrom s place state (last .end) ≡ st = ap (stateFrom s place state) (h .ends) ∙
+      (h .later at (omega arith) ∙ first-state s at st (elementAt s at st) refl) in
       rw (apart s at st last at-q f)
-      (first-run (length s) (stateFrom s place state) (lastFrom s place state) last (rest s at st) r ∙ (ap (λ (x : State). stepTo (last .end) x (shownOf (length s) last)) there ∙ ap (λ (x : ℕ). stepTo x st (shownOf (length s) last)) (h .ends)))
+      (first-run (length s) (stateFrom s place state) (lastFrom s place state) last (rest s at st) r ∙
+      (ap (λ (x : State). stepTo (last .end) x (shownOf (length s) last)) there ∙ ap (λ (x : ℕ). stepTo x st (shownOf (length s) last)) (h .ends)))
   shown-by (other r f e) l = absurd (omega arith)
 
   pub turn-shown : (run : Bounds) (r : RunStep) → 0 < g → run ≡ shownOf (length s) last → r ≡ stepTo at st run → r ≡ runFrom s place state
   turn-shown run r l e k = k ∙ (ap (stepTo at st) e ∙ (sym (shown-by met l) ∙ h .first))
 
-  stop-by : {x : Piece} → Step s at st x → Followed (last .kind) (x .kind) → x .end ≡ at → endingOf (last .kind) (x .kind) ≤ 0 → chosen (joined last (rest s at st)) ≡ lastFrom s place state
+  stop-by : {x : Piece} → Step s at st x → Followed (last .kind) (x .kind) → x .end ≡ at → endingOf (last .kind) (x .kind) ≤ 0
+      → chosen (joined last (rest s at st)) ≡ lastFrom s place state
   unfolding firstOf
   stop-by (goes b m u e y) x k l = absurd (omega arith)
   stop-by (stops e x) (same r i f d) k l =
@@ -148,7 +153,8 @@ module _ (s : List ℕ) (place : ℕ) (state : State) (at : ℕ) (st : State) (l
       rw (extended-same last x f, e, joined-same last x (rest s (x .end) (x .state)) i f)
   next-by (goes {q = x} b m u e y) (over r f d) k l = absurd (omega arith)
   next-by (goes {q = x} b m u e y) (other r f d) k l =
-      rw (extended-apart last x f, e, joined-apart last x (rest s (x .end) (x .state)) f) (sym (first-other (length s) (stateFrom s place state) (lastFrom s place state) last (joined x (rest s (x .end) (x .state))) r))
+      rw (extended-apart last x f, e, joined-apart last x (rest s (x .end) (x .state)) f)
+      (sym (first-other (length s) (stateFrom s place state) (lastFrom s place state) last (joined x (rest s (x .end) (x .state))) r))
 
   -- the place moves on, and x is the piece that was read last
   pub record Next (x : Piece) : Type 0 where
@@ -202,7 +208,8 @@ legal-of : {st : State} → Fit st → Legal (st .sets)
 legal-of f = record { left = f .left; right = f .right }
 
 -- a piece that is no run
-other-first : (n : ℕ) (there : ℕ → State) (none : RunStep) (p : Piece) (ps : List Piece) → isRun (p .kind) ≡ false → firstOf n there none (joined p ps) ≡ firstOf n there none ps
+other-first : (n : ℕ) (there : ℕ → State) (none : RunStep) (p : Piece) (ps : List Piece) → isRun (p .kind) ≡ false
+    → firstOf n there none (joined p ps) ≡ firstOf n there none ps
 unfolding joined sameRunOf pick
 other-first n there none p [] e = first-other n there none p [] e
 other-first n there none p (q ∷ qs) e = rw e (first-other n there none p (q ∷ qs) e)
@@ -229,7 +236,8 @@ module _ (s : List ℕ) (place : ℕ) (state : State) (at : ℕ) (st : State) (p
 
   -- a piece that is passed
   next-piece : (q .end ≡ at → ⊥) → Next s place state at st (noPiece at) q 0 (p .head) is (no-ending (q .kind)) q
-  next-piece i = turn-next s place state at st (noPiece at) q 0 (p .head) is (no-ending (q .kind)) q (omega arith) i (sym (extended-apart (noPiece at) q (no-same (q .kind))))
+  next-piece i = turn-next s place state at st (noPiece at) q 0 (p .head) is (no-ending (q .kind)) q (omega arith) i
+      (sym (extended-apart (noPiece at) q (no-same (q .kind))))
 
   pub record Past : Type 0 where
     pub more : at < q .end
@@ -272,19 +280,23 @@ module _ (s : List ℕ) (place : ℕ) (state : State) (k : ℕ) (st : State) (a 
   grow : (i w : ℕ) → 1 ≤ w → pieceAt s i st ≡ piece i (i + w) k st → Grown s place state k st a i → Grown s place state k st a (i + w)
   grow i w l e (still f h) =
       let q : Piece = piece i (i + w) k st in
-      let n = turn-next s place state i st (noPiece i) (piece i (i + w) k st) 0 h (sym e) (no-ending k) (piece i (i + w) k st) (omega arith) (λ z. omega arith) (sym (extended-apart (noPiece i) (piece i (i + w) k st) (no-same k))) in
+      let n = turn-next s place state i st (noPiece i) (piece i (i + w) k st) 0 h (sym e) (no-ending k) (piece i (i + w) k st) (omega arith)
+      (λ z. omega arith) (sym (extended-apart (noPiece i) (piece i (i + w) k st) (no-same k))) in
       grown (rw f (n .head))
   grow i w l e (grown h) =
-      let n = turn-next s place state i st (piece a i k st) (piece i (i + w) k st) 0 h (sym e) (same-kind k low .0) (piece a (i + w) k st) (omega arith) (λ z. omega arith) (sym (extended-same (piece a i k st) (piece i (i + w) k st) (same-kind k low .1))) in
+      let n = turn-next s place state i st (piece a i k st) (piece i (i + w) k st) 0 h (sym e) (same-kind k low .0) (piece a (i + w) k st)
+      (omega arith) (λ z. omega arith) (sym (extended-same (piece a i k st) (piece i (i + w) k st) (same-kind k low .1))) in
       grown (n .head)
 
   module _ (o : Octets s) (fit : Fit st) (settled : settledOf (st .directions) ≡ true) where
-    grow-ones : {first last at i : ℕ} → Single (st .sets) k first last → Ones s first last at i → Grown s place state k st a at → Grown s place state k st a i
+    grow-ones : {first last at i : ℕ} → Single (st .sets) k first last → Ones s first last at i → Grown s place state k st a at
+        → Grown s place state k st a i
     grow-ones c spans.none g = g
     grow-ones c (spans.more {i} x h l m) g =
         grow i 1 (omega arith) (single-piece s o st (legal-of fit) i settled k _ _ low c h l m) (grow-ones c x g)
 
-    grow-twos : {first last at i : ℕ} → Double (st .sets) k first last → Twos s first last at i → Grown s place state k st a at → Grown s place state k st a i
+    grow-twos : {first last at i : ℕ} → Double (st .sets) k first last → Twos s first last at i → Grown s place state k st a at
+        → Grown s place state k st a i
     grow-twos c spans.none g = g
     grow-twos c (spans.more {i} x h) g =
         grow i 2 (omega arith) (double-piece s o st (legal-of fit) i settled k _ _ low c h) (grow-twos c x g)
@@ -317,13 +329,15 @@ module _ (s : List ℕ) (place : ℕ) (state : State) (k : ℕ) (st : State) (a 
         by (other r f g) = absurd (false≢true (sym r ∙ lt-ltb k 2 low))
 
     -- the run is shown, and the position is at its end
-    turn-text : {at i : ℕ} (q : Piece) (run : Bounds) (r : RunStep) → Grown s place state k st a at → TextTo s (st .sets) k at i → a < i → q ≡ piece a i k st → run ≡ shownOf (length s) q → r ≡ stepTo i st run → r ≡ runFrom s place state
+    turn-text : {at i : ℕ} (q : Piece) (run : Bounds) (r : RunStep) → Grown s place state k st a at → TextTo s (st .sets) k at i → a < i
+        → q ≡ piece a i k st → run ≡ shownOf (length s) q → r ≡ stepTo i st run → r ≡ runFrom s place state
     turn-text {i = i} q run r g x l e f j = by (grow-text x g)
       where
         by : Grown s place state k st a i → r ≡ runFrom s place state
         by (still z h) = absurd (omega arith)
         by (grown h) =
-            turn-shown s place state i st (piece a i k st) (pieceAt s i st) 1 h refl (ending-one (pieceAt s i st .kind) (ends-text x)) run r (omega arith) (f ∙ ap (shownOf (length s)) e) j
+            turn-shown s place state i st (piece a i k st) (pieceAt s i st) 1 h refl (ending-one (pieceAt s i st .kind) (ends-text x)) run r
+            (omega arith) (f ∙ ap (shownOf (length s)) e) j
 
 since-ones : {s : List ℕ} {first last at i : ℕ} → Ones s first last at i → at ≤ i
 since-ones spans.none = omega arith
@@ -363,12 +377,14 @@ module _ (s : List ℕ) (place : ℕ) (state : State) (at : ℕ) (st : State) (p
   turn-designation d e k =
       let is = designation-silent (from at s) st d e k in
       let z = silent-fits s at st (sym is) in
-      let x = turn-past s place state at st p (piece at (at + d .octets) pieceKind.control (designatedOf (d .side) (d .set) st)) (ap (pieceOf s at) is) (λ y. omega (arith, z .0, y)) refl in
+      let x = turn-past s place state at st p (piece at (at + d .octets) pieceKind.control (designatedOf (d .side) (d .set) st))
+      (ap (pieceOf s at) is) (λ y. omega (arith, z .0, y)) refl in
       record { some = z .0; plain = x .plain }
 
   module _ (o : Octets s) (inside : at < length s) where
     -- text that leaves the state
-    pub turn-quick : (k i : ℕ) (q : Piece) (run : Bounds) (r : RunStep) → k < 2 → settledOf (st .directions) ≡ true → TextTo s (st .sets) k at i → at < i → q ≡ piece at i k st
+    pub turn-quick : (k i : ℕ) (q : Piece) (run : Bounds) (r : RunStep) → k < 2 → settledOf (st .directions) ≡ true → TextTo s (st .sets) k at i
+        → at < i → q ≡ piece at i k st
         → run ≡ shownOf (length s) q → r ≡ stepTo i st run → r ≡ runFrom s place state
     turn-quick k i q run r low settled x l e f g =
         turn-text s place state k st at low o (p .fit) settled q run r (still refl (p .head)) x l e f g
@@ -382,13 +398,15 @@ module _ (s : List ℕ) (place : ℕ) (state : State) (at : ℕ) (st : State) (p
       run-begun = begun-by (rw is (step s at st)) low
 
       -- the first text of a string, or of what a position made by hand leaves open
-      pub turn-begun : (i : ℕ) (u : Piece) (run : Bounds) (r : RunStep) → TextTo s (q .state .sets) (q .kind) (q .end) i → u ≡ piece (q .start) i (q .kind) (q .state)
+      pub turn-begun : (i : ℕ) (u : Piece) (run : Bounds) (r : RunStep) → TextTo s (q .state .sets) (q .kind) (q .end) i
+          → u ≡ piece (q .start) i (q .kind) (q .state)
           → run ≡ shownOf (length s) u → r ≡ stepTo i (q .state) run → r ≡ runFrom s place state
       turn-begun i u run r x e f g =
           let y = run-begun in
           let n = next-piece s place state at st p q is (λ z. omega (arith, y .more, z)) in
           let fit : Fit (q .state) = rw is (fit-piece s at st (elementAt s at st) refl (p .fit)) in
-          let settled : settledOf (q .state .directions) ≡ true = rw is (text-settled s o st (legal-of (p .fit)) at inside (lt-ltb (pieceAt s at st .kind) 2 (rw is at low))) in
+          let settled : settledOf (q .state .directions) ≡ true = rw is
+          (text-settled s o st (legal-of (p .fit)) at inside (lt-ltb (pieceAt s at st .kind) 2 (rw is at low))) in
           let z = since-text x in
           turn-text s place state (q .kind) (q .state) (q .start) low o fit settled u run r (grown (n .head)) x (omega (arith, y .starts, y .more, z)) e f g
 

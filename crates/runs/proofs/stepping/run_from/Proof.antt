@@ -5,7 +5,8 @@ use mathlib.Core.Path.{sym, _∙_}
 use borrow.Author.Needs.{needs}
 use borrow.Author.Tests.{le-ltb}
 use lib.ListN.{length}
-use Rattle.runs.proofs.Steps.{Plain, plain-first, side-low, since-text, run-begun, turn-designation, turn-quick, turn-begun, turn-past, turn-none, turn-over}
+use Rattle.runs.proofs.Steps.{Plain, plain-first, side-low, since-text, run-begun}
+use Rattle.runs.proofs.Steps.{turn-designation, turn-quick, turn-begun, turn-past, turn-none, turn-over}
 use Rattle.runs.proofs.stepping.run_from.Statement.{statement}
 use Rattle.runs.proofs.stepping.run_from.Tie as tie
 
@@ -26,7 +27,8 @@ designation-at-requires c κs = search needs
 
 add-at : tie.Need-add-at Inv-loop μ-loop
 add-at c =
-    let next = turn-designation _ _ _ _ _ (c .before .before .before .before .before .before .loop .inv) _ (c .before .before .designation-at .ensures) (c .before .if2 .taken) in
+    let turn = c .before .before .before .before .before in
+    let next = turn-designation _ _ _ _ _ (turn .before .loop .inv) _ (c .before .before .designation-at .ensures) (c .before .if2 .taken) in
     omega (arith, next .plain .within)
 
 designated-requires : tie.Need-designated-requires Inv-loop μ-loop
@@ -34,13 +36,15 @@ designated-requires c κs = search needs
 
 loop-less : tie.Need-loop-less Inv-loop μ-loop
 loop-less c =
-    let next = turn-designation _ _ _ _ _ (c .before .before .before .before .before .before .before .loop .inv) _ (c .before .before .before .designation-at .ensures) (c .before .before .if2 .taken) in
+    let turn = c .before .before .before .before .before .before in
+    let next = turn-designation _ _ _ _ _ (turn .before .loop .inv) _ (c .before .before .before .designation-at .ensures) (c .before .before .if2 .taken) in
     omega (arith, next .some, next .plain .within)
 
 loop-again : tie.Need-loop-again Inv-loop μ-loop
 loop-again c =
+    let turn = c .before .before .before .before .before .before in
     rw (c .designated .ensures)
-    (turn-designation _ _ _ _ _ (c .before .before .before .before .before .before .before .loop .inv) _ (c .before .before .before .designation-at .ensures) (c .before .before .if2 .taken) .plain)
+    (turn-designation _ _ _ _ _ (turn .before .loop .inv) _ (c .before .before .before .designation-at .ensures) (c .before .before .if2 .taken) .plain)
 
 settled-requires : tie.Need-settled-requires Inv-loop μ-loop
 settled-requires c κs = search needs
@@ -62,10 +66,13 @@ step-to-requires c κs = search needs
 
 returns : tie.Need-returns Inv-loop μ-loop
 returns c =
+    let turn = c .before .before .before .before .before .before .before .before .before .before in
     let low = c .before .before .before .before .before .side-kind .ensures in
-    let settled = sym (c .before .before .before .before .before .before .before .settled .ensures) ∙ c .before .before .before .before .before .before .if3 .taken in
+    let settled = sym (c .before .before .before .before .before .before .before .settled .ensures)
+    ∙ c .before .before .before .before .before .before .if3 .taken in
     let text = c .before .before .before .before .text-end .ensures in
-    turn-quick _ _ _ _ _ (c .before .before .before .before .before .before .before .before .before .before .before .loop .inv) (λ i. omega (arith, c .before .before .before .before .before .before .before .before .before .before .before .before .shared-slice-known .given i)) (c .before .before .before .before .before .before .before .before .before .before .loop-test .taken) _ _ _ _ _ (rw low (side-low _)) settled text (c .before .before .before .if4 .taken)
+    turn-quick _ _ _ _ _ (turn .before .loop .inv) (λ i. omega (arith, turn .before .before .shared-slice-known .given i))
+    (turn .loop-test .taken) _ _ _ _ _ (rw low (side-low _)) settled text (c .before .before .before .if4 .taken)
     (c .before .before .run-of .ensures) (c .before .shown .ensures) (c .step-to .ensures)
 
 piece-at-requires : tie.Need-piece-at-requires Inv-loop μ-loop
@@ -73,14 +80,18 @@ piece-at-requires c κs = search needs
 
 text-end-requires-2 : tie.Need-text-end-requires-2 Inv-loop μ-loop
 text-end-requires-2 c κs =
-    run-begun _ _ _ _ _ (c .before .before .before .before .before .before .before .loop .inv) (λ i. omega (arith, c .before .before .before .before .before .before .before .before .shared-slice-known .given i)) (c .before .before .before .before .before .before .loop-test .taken) _ (c .before .before .before .piece-at .ensures) (c .if5 .taken) .within
+    let turn = c .before .before .before .before .before .before in
+    run-begun _ _ _ _ _ (turn .before .loop .inv) (λ i. omega (arith, turn .before .before .shared-slice-known .given i)) (turn .loop-test .taken) _
+    (c .before .before .before .piece-at .ensures) (c .if5 .taken) .within
 
 run-of-requires-2 : tie.Need-run-of-requires-2 Inv-loop μ-loop
 run-of-requires-2 c κs = search needs
 
 shown-requires-2 : tie.Need-shown-requires-2 Inv-loop μ-loop
 shown-requires-2 c κs =
-    let begun = run-begun _ _ _ _ _ (c .before .before .before .before .before .before .before .before .before .loop .inv) (λ i. omega (arith, c .before .before .before .before .before .before .before .before .before .before .shared-slice-known .given i)) (c .before .before .before .before .before .before .before .before .loop-test .taken) _ (c .before .before .before .before .before .piece-at .ensures) (c .before .before .if5 .taken) in
+    let turn = c .before .before .before .before .before .before .before .before in
+    let begun = run-begun _ _ _ _ _ (turn .before .loop .inv) (λ i. omega (arith, turn .before .before .shared-slice-known .given i))
+    (turn .loop-test .taken) _ (c .before .before .before .before .before .piece-at .ensures) (c .before .before .if5 .taken) in
     rw (c .run-of2 .ensures) (omega (arith, begun .starts, begun .more, since-text (c .before .text-end2 .ensures)))
 
 step-to-requires-2 : tie.Need-step-to-requires-2 Inv-loop μ-loop
@@ -88,23 +99,32 @@ step-to-requires-2 c κs = search needs
 
 returns-2 : tie.Need-returns-2 Inv-loop μ-loop
 returns-2 c =
-    turn-begun _ _ _ _ _ (c .before .before .before .before .before .before .before .before .before .before .before .loop .inv) (λ i. omega (arith, c .before .before .before .before .before .before .before .before .before .before .before .before .shared-slice-known .given i)) (c .before .before .before .before .before .before .before .before .before .before .loop-test .taken) _ (c .before .before .before .before .before .before .before .piece-at .ensures) (c .before .before .before .before .if5 .taken) _ _ _ _
+    let turn = c .before .before .before .before .before .before .before .before .before .before in
+    turn-begun _ _ _ _ _ (turn .before .loop .inv) (λ i. omega (arith, turn .before .before .shared-slice-known .given i)) (turn .loop-test .taken) _
+    (c .before .before .before .before .before .before .before .piece-at .ensures) (c .before .before .before .before .if5 .taken) _ _ _ _
     (c .before .before .before .text-end2 .ensures) (c .before .before .run-of2 .ensures) (c .before .shown2 .ensures) (c .step-to2 .ensures)
 
 stop-at-requires : tie.Need-stop-at-requires Inv-loop μ-loop
 stop-at-requires c κs = search needs
 
 returns-3 : tie.Need-returns-3 Inv-loop μ-loop
-returns-3 c = turn-none _ _ _ _ _ (c .before .before .before .before .before .before .before .before .before .before .loop .inv) _ (c .before .before .before .before .before .before .piece-at .ensures) _ (c .before .if6 .taken) (c .stop-at .ensures)
+returns-3 c =
+    let turn = c .before .before .before .before .before .before .before .before .before in
+    turn-none _ _ _ _ _ (turn .before .loop .inv) _ (c .before .before .before .before .before .before .piece-at .ensures) _ (c .before .if6 .taken)
+    (c .stop-at .ensures)
 
 loop-less-2 : tie.Need-loop-less-2 Inv-loop μ-loop
 loop-less-2 c =
-    let past = turn-past _ _ _ _ _ (c .before .before .before .before .before .before .before .before .before .loop .inv) _ (c .before .before .before .before .before .piece-at .ensures) (c .if6 .left) (le-ltb _ _ (c .before .before .if5 .left)) in
+    let turn = c .before .before .before .before .before .before .before .before in
+    let past = turn-past _ _ _ _ _ (turn .before .loop .inv) _ (c .before .before .before .before .before .piece-at .ensures) (c .if6 .left)
+    (le-ltb _ _ (c .before .before .if5 .left)) in
     omega (arith, past .more, past .plain .within)
 
 loop-again-2 : tie.Need-loop-again-2 Inv-loop μ-loop
 loop-again-2 c =
-    turn-past _ _ _ _ _ (c .before .before .before .before .before .before .before .before .before .loop .inv) _ (c .before .before .before .before .before .piece-at .ensures) (c .if6 .left) (le-ltb _ _ (c .before .before .if5 .left)) .plain
+    let turn = c .before .before .before .before .before .before .before .before in
+    turn-past _ _ _ _ _ (turn .before .loop .inv) _ (c .before .before .before .before .before .piece-at .ensures) (c .if6 .left)
+    (le-ltb _ _ (c .before .before .if5 .left)) .plain
 
 stop-at-requires-2 : tie.Need-stop-at-requires-2 Inv-loop μ-loop
 stop-at-requires-2 c κs = search needs
