@@ -186,14 +186,12 @@ fn run_from(s: &[u8], place: usize, state: State) -> RunStep
                 st = st.designated(side, set);
                 continue;
             }
-        } else {
-            if settled(st.directions) {
-                let kind = pieces::side_kind(b);
-                let end = text_end(s, at, st.sets, kind);
-                if at < end {
-                    let run = run_of(at, end, kind, st);
-                    return step_to(end, st, crate::shown(s.len(), run));
-                }
+        } else if settled(st.directions) {
+            let kind = pieces::side_kind(b);
+            let end = text_end(s, at, st.sets, kind);
+            if at < end {
+                let run = run_of(at, end, kind, st);
+                return step_to(end, st, crate::shown(s.len(), run));
             }
         }
         let next = pieces::piece_at(s, at, st);
