@@ -206,7 +206,7 @@ answered {s} (show {t = t} {us = us} u b g h r) d l e at count =
 
 -- ---- what is not refused is answered 0
 
-zero-none : (s : List ℕ) (count : ℕ) {at : ℕ} {st : State} {es : Elements} → Ahead s at st es → answerOf count es .number ≡ 0 → noneRefused es ≡ true
+pub zero-none : (s : List ℕ) (count : ℕ) {at : ℕ} {st : State} {es : Elements} → Ahead s at st es → answerOf count es .number ≡ 0 → noneRefused es ≡ true
 unfolding answerOf noneRefused
 zero-none s count (ends e) z = refl
 zero-none s count (stops {n = n} h e) z = absurd (let y : n ≡ 0 = z in omega arith)
