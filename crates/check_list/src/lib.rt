@@ -13,13 +13,13 @@ use base::Unit;
 use base::kind;
 use base::limit;
 use base::refusal;
-use rows::record;
 use state::directions::Directions;
 use state::directions::Step;
 use state::directions::counts_as_text;
 
 mod own;
 mod plain;
+mod record;
 
 // How far a list is checked: what the directions are after the last record, or the number and the index of the first that offends.
 pub enum Progress {

@@ -1,5 +1,5 @@
 pub mod Rules
 pub mod Fits
-pub mod Lenient
+pub mod Free
 pub mod Quick
 pub mod Turns

@@ -28,7 +28,7 @@ use Rattle.text.specs.Text.{secondOctetOf, characterOf, textOf}
 use Rattle.element.specs.Element.{shapeOf, steppedOf, directedOf, elementOf}
 use Rattle.cursor.specs.Cursor.{cursor, turn, textOctet, setAt, kindAt, ifGraphic, first-double, doubleOf, octetOf, quickOf}
 use Rattle.cursor.specs.declared.Turn.{Turn}
-use Rattle.cursor.proofs.Lenient.{texted}
+use Rattle.cursor.proofs.Free.{texted}
 
 -- ---- a shape that is refused, or gives one part; and such an element, which leaves the sets
 

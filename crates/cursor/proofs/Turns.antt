@@ -1,4 +1,4 @@
--- The unit at a cursor of a string, if one is ahead, is that of the elements from there on (`advance-ahead`), where the cursor's state is like
+-- The unit at a cursor of a string, if one is ahead, is that of the elements from there on (`advance-ahead`), where the cursor's sets are
 -- theirs. An element that is not refused is the same under such a state (`by-element`); what is taken for text is the element or is left to
 -- it (`text-turns`); and a designation that is passed is the element (`passed-on`).
 use Prim.Native.Nat.{ℕ, _+_, _%_, _^_, _≤_, _<_}
@@ -14,8 +14,9 @@ use Rattle.base.specs.Choice.{pick, from}
 use Rattle.base.specs.Limit as limit
 use Rattle.base.specs.declared.Unit.{Unit as UnitRecord}
 use Rattle.charset.specs.Charsets.{no-set}
-use Rattle.state.specs.State.{designatedOf}
+use Rattle.state.specs.State.{state, designatedOf}
 use Rattle.state.specs.declared.State.{State}
+use Rattle.state.specs.declared.directions.Directions.{Directions}
 use Rattle.state.specs.declared.elements.Part.{Part}
 use Rattle.state.specs.declared.elements.Element.{Element}
 use Rattle.state.specs.declared.elements.Element.the-variants.{End, Refused, Silent, Found}
@@ -30,10 +31,10 @@ use Rattle.units.specs.Records.{recordOf, recordsFrom}
 use Rattle.units.specs.Next.{outcomeOf, nextOf}
 use Rattle.units.specs.declared.Outcome.{Outcome}
 use Rattle.units.specs.declared.Outcome.the-variants.{Gives}
-use Rattle.cursor.specs.Cursor.{cursor, turn, turnOf, elementTurn, placedOf, passedOf, textTurn, advanceAt, advanceOf}
+use Rattle.cursor.specs.Cursor.{freed, cursor, turn, turnOf, elementTurn, placedOf, passedOf, textTurn, advanceAt, advanceOf}
 use Rattle.cursor.specs.declared.Cursor.{Cursor}
 use Rattle.cursor.specs.declared.Turn.{Turn}
-use Rattle.cursor.proofs.Lenient.{Like, like, texted, like-texted, same-sets, Same, silent as same-silent, found as same-found, same-element}
+use Rattle.cursor.proofs.Free.{Like, like, texted, like-texted, same-sets, Same, silent as same-silent, found as same-found, same-element}
 use Rattle.cursor.proofs.Quick.{Only, refused, found, textPart, textAt, Quick, as-text, as-other, quick-turn}
 
 -- a turn is that of a unit which is given
@@ -42,11 +43,11 @@ pub data Turns : Turn → Outcome → Type 0 where
 
 -- ---- any element
 
-silent-is : {k : ℕ} {next : State} {e : Element} → Same (Silent k next) e → (to : State) × ((e ≡ Silent k to) × Like next to)
-silent-is (same-silent {to = to} l) = (to, (refl, l))
+silent-is : {k : ℕ} {next : State} {e : Element} → Same (Silent k next) e → e ≡ Silent k (freed (next .sets))
+silent-is same-silent = refl
 
-found-is : {p : Part} {next : State} {e : Element} → Same (Found p next) e → (to : State) × ((e ≡ Found p to) × Like next to)
-found-is (same-found {to = to} l) = (to, (refl, l))
+found-is : {p : Part} {next : State} {e : Element} → Same (Found p next) e → (d : Directions) × (e ≡ Found p (state (next .sets) d))
+found-is (same-found {d = d}) = (d, refl)
 
 module _ (s : List ℕ) where
   alike : {at : ℕ} {st to : State} {es : Elements} → Ahead s at st es → Like st to → 1 ≤ length (recordsFrom es) → (c : Cursor)
@@ -54,18 +55,18 @@ module _ (s : List ℕ) where
   unfolding recordsFrom outcomeOf turnOf
   alike (ends e) l h c = absurd (omega arith)
   alike (stops f e) l h c = absurd (omega arith)
-  alike {at} {to = to} (passes t e a) l h c =
-      let i = silent-is (rw (t .is) at (same-element (from at s) l)) in
-      rw (at-passed s at to _ refl is-silent (i .1 .0)) (alike a (i .1 .1) h c)
-  alike {at} {to = to} (reads t m e a) l h c =
-      let i = found-is (rw (t .is) at (same-element (from at s) l)) in
-      rw (at-passed s at to _ refl is-found (i .1 .0)) (turns (i .1 .1))
+  alike {at} {st} (passes t e a) like h c =
+      let i = silent-is (rw (t .is) at (same-element (from at s) st)) in
+      rw (at-passed s at (freed (st .sets)) _ refl is-silent i) (alike a like h c)
+  alike {at} {st} (reads t m e a) like h c =
+      let i = found-is (rw (t .is) at (same-element (from at s) st)) in
+      rw (at-passed s at (freed (st .sets)) _ refl is-found (i .1)) (turns like)
 
 module _ (s : List ℕ) (short : length s ≤ limit.octets) where
   by-element : {at : ℕ} {st to : State} {es : Elements} → Ahead s at st es → Like st to → 1 ≤ length (recordsFrom es)
       → Turns (elementTurn s (cursor at to)) (outcomeOf es)
   unfolding elementTurn nextOf pick
-  by-element {at} {to = to} a l h = rw (le-ltb limit.octets (length s) short) (alike s a l h (cursor at to))
+  by-element {at} {st} a like h = rw (le-ltb limit.octets (length s) short) (alike s a like h (cursor at (freed (st .sets))))
 
   -- ---- text
 
@@ -101,7 +102,7 @@ module _ (s : List ℕ) (short : length s ≤ limit.octets) where
 
   quick : (at : ℕ) {st to : State} (l : Like st to) → Quick at st to (same-sets l) (elementTurn s (cursor at to)) (elementOf (from at s) st) (textTurn s (cursor at to))
   unfolding textTurn
-  quick at {st} {to} l = quick-turn at st to (same-sets l) (elementTurn s (cursor at to)) (from at s)
+  quick at {st} like = quick-turn at st (freed (st .sets)) (same-sets like) (elementTurn s (cursor at (freed (st .sets)))) (from at s)
 
   text-turns : {at : ℕ} {st to : State} {es : Elements} → Ahead s at st es → Like st to → 1 ≤ length (recordsFrom es)
       → Turns (textTurn s (cursor at to)) (outcomeOf es)
@@ -127,7 +128,7 @@ module _ (s : List ℕ) (short : length s ≤ limit.octets) where
   stateIn z (Found p st) = z
 
   like-designated : {st to : State} (d : Designation) → Like st to → Like (designatedOf (d .side) (d .set) st) (designatedOf (d .side) (d .set) to)
-  like-designated d (like l) = like l
+  like-designated d like = like
 
   -- a cursor that stands where other elements do, which give the same unit next
   record Onward (c : Cursor) (o : Outcome) : Type 0 where

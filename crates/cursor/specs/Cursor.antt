@@ -7,9 +7,11 @@ use lib.Dec.{eqb, leb, ltb}
 use Rattle.base.specs.Choice.{pick, from}
 use Rattle.base.specs.Kind as kind
 use Rattle.base.specs.declared.Unit.{Unit as UnitRecord}
-use Rattle.state.specs.State.{fresh, designatedOf}
+use Rattle.state.specs.Directions.{directions}
+use Rattle.state.specs.State.{sets, state, fresh, designatedOf}
 use Rattle.state.specs.declared.Sets.{Sets}
 use Rattle.state.specs.declared.State.{State}
+use Rattle.state.specs.declared.directions.Directions.{Directions}
 use Rattle.stretch.specs.Designation.{designationAt}
 use Rattle.stretch.specs.declared.designation.Designation.{Designation}
 use Rattle.charset.specs.Charsets.{no-set}
@@ -20,8 +22,19 @@ use Rattle.units.specs.declared.Outcome.the-variants.{Gives, Stops}
 use Rattle.cursor.specs.declared.Cursor.{Cursor}
 use Rattle.cursor.specs.declared.Turn.{Turn}
 
+-- directions that refuse nothing: one is open, and more may be opened
+abbrev pub free : Directions
+free = directions 1 0 true true
+
+abbrev pub freed : Sets → State
+freed s = state s free
+
+-- a cursor keeps the sets of a state
 abbrev pub cursor : ℕ → State → Cursor
-cursor place st = record { place = place; state = st }
+cursor place st = record { place = place; gl = st .sets .gl; gr = st .sets .gr }
+
+abbrev pub stateIn : Cursor → State
+stateIn c = freed (sets (c .gl) (c .gr))
 
 -- the start of a string
 abbrev pub first : Cursor
@@ -38,13 +51,13 @@ turnOf c (Gives u place st) = turn u (cursor place st)
 turnOf c (Stops n place) = turn blank c
 
 unfoldable pub elementTurn : List ℕ → Cursor → Turn
-elementTurn s c = turnOf c (nextOf s (c .place) (c .state))
+elementTurn s c = turnOf c (nextOf s (c .place) (stateIn c))
 
 -- ---- designations
 
 -- the cursor after a designation, where one is found
 unfoldable pub placedOf : Cursor → Designation → Cursor
-placedOf c d = pick (ltb (d .set) no-set) (cursor (c .place + d .octets) (designatedOf (d .side) (d .set) (c .state))) c
+placedOf c d = pick (ltb (d .set) no-set) (cursor (c .place + d .octets) (designatedOf (d .side) (d .set) (stateIn c))) c
 
 unfoldable pub passedOf : List ℕ → Cursor → Cursor
 passedOf s c = placedOf c (designationAt (from (c .place) s))
@@ -101,7 +114,7 @@ quickOf at [] st other = other
 quickOf at (b ∷ t) st other = pick (textOctet b) (octetOf at b t (setAt b (st .sets)) st other) other
 
 unfoldable pub textTurn : List ℕ → Cursor → Turn
-textTurn s c = quickOf (c .place) (from (c .place) s) (c .state) (elementTurn s c)
+textTurn s c = quickOf (c .place) (from (c .place) s) (stateIn c) (elementTurn s c)
 
 -- ---- the unit at a cursor: up to two designations are passed where there is an escape sequence
 

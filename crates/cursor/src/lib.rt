@@ -1,16 +1,19 @@
-// The unit at a cursor of an accepted string. Since nothing of it can be refused, text is read by its octets alone.
+// The unit at a cursor of an accepted string. Since nothing of it can be refused, text is read by its octets alone, and no directions are
+// kept: a cursor that held a whole state would be copied through memory at each step, and reads notes at half the speed (docs/SPEED.md).
 ghost use mathlib.Core.Path.{_≡_};
 ghost use Prim.Native.Nat.{_+_, _<_, _^_};
 ghost use lib.ListN.{length};
 ghost use Rattle.base.specs.Choice.{from};
-ghost use Rattle.cursor.specs.Cursor.{first, elementTurn, textOctet, setAt, single, double, doubleOf, textTurn, placedOf, passedOf, advanceOf};
+ghost use Rattle.cursor.specs.Cursor.{freed, first, stateIn, elementTurn, textOctet, setAt, single, double, doubleOf, textTurn, placedOf, passedOf, advanceOf};
 ghost use Rattle.state.specs.State.{sets};
 ghost use Rattle.stretch.specs.Designation.{designationAt};
 use crate::octets::one_octet;
 use crate::octets::two_octets;
 use base::Unit;
 use charset::NO_SET;
+use state::Sets;
 use state::State;
+use state::directions::Directions;
 use stretch::designation::Designation;
 use stretch::designation::designation_at;
 use units::Outcome;
@@ -20,11 +23,19 @@ pub mod octets;
 // The first of the sets of two octets.
 pub const FIRST_DOUBLE: u8 = 12;
 
-// Where the next unit is looked for: a place of the string, and the state there. Whether text was read is not kept up to date by text
-// that is read by its octets alone: an accepted string's marks do not ask.
+// Directions under which nothing is refused: one is open, and more may be opened.
+const FREE: Directions = Directions {
+    levels: 0,
+    depth: 1,
+    marked: true,
+    texted: true,
+};
+
+// Where the next unit is looked for: a place of the string, and the sets in force there.
 pub struct Cursor {
     pub place: usize,
-    pub state: State,
+    pub gl: u8,
+    pub gr: u8,
 }
 
 // A unit, and the cursor after it.
@@ -40,8 +51,19 @@ impl Cursor {
     {
         Cursor {
             place: 0,
-            state: State::FRESH,
+            gl: 0,
+            gr: 3,
         }
+    }
+}
+
+// A state with these sets, under whose directions nothing is refused.
+fn free_state(gl: u8, gr: u8) -> State
+    ensures { λ r. ⌜ r ≡ freed (sets gl gr) ⌝ }
+{
+    State {
+        directions: FREE,
+        sets: Sets { gl: gl, gr: gr },
     }
 }
 
@@ -49,16 +71,19 @@ impl Cursor {
 fn by_element(s: &[u8], c: Cursor) -> Turn
     ensures { λ r. ⌜ r ≡ elementTurn (now (s .entry)) c ⌝ }
 {
-    let state = c.state;
-    let o = units::next_unit(s, c.place, state);
+    let o = units::next_unit(s, c.place, free_state(c.gl, c.gr));
     match o {
-        Outcome::Gives(unit, place, next) => Turn {
-            cursor: Cursor {
-                place: place,
-                state: next,
-            },
-            unit: unit,
-        },
+        Outcome::Gives(unit, place, next) => {
+            let after = next.sets;
+            Turn {
+                cursor: Cursor {
+                    place: place,
+                    gl: after.gl,
+                    gr: after.gr,
+                },
+                unit: unit,
+            }
+        }
         Outcome::Stops(number, place) => Turn {
             cursor: c,
             unit: Unit::BLANK,
@@ -90,30 +115,32 @@ pub fn set_at(b: u8, gl: u8, gr: u8) -> u8
 }
 
 // A character or space of one octet, of this set.
-fn single_turn(at: usize, b: u8, set: u8, state: State) -> Turn
+fn single_turn(at: usize, b: u8, set: u8, gl: u8, gr: u8) -> Turn
     requires { ⌜ at + 1 < 2 ^ 64 ⌝ }
-    ensures { λ r. ⌜ r ≡ single at b set state ⌝ }
+    ensures { λ r. ⌜ r ≡ single at b set (freed (sets gl gr)) ⌝ }
 {
     let place = at + 1;
     Turn {
         cursor: Cursor {
             place: place,
-            state: state,
+            gl: gl,
+            gr: gr,
         },
         unit: one_octet(at, b, set),
     }
 }
 
 // A character of two octets, of this set.
-fn double_turn(at: usize, b: u8, d: u8, set: u8, state: State) -> Turn
+fn double_turn(at: usize, b: u8, d: u8, set: u8, gl: u8, gr: u8) -> Turn
     requires { ⌜ at + 2 < 2 ^ 64 ⌝ }
-    ensures { λ r. ⌜ r ≡ double at b d set state ⌝ }
+    ensures { λ r. ⌜ r ≡ double at b d set (freed (sets gl gr)) ⌝ }
 {
     let place = at + 2;
     Turn {
         cursor: Cursor {
             place: place,
-            state: state,
+            gl: gl,
+            gr: gr,
         },
         unit: two_octets(at, b, d, set),
     }
@@ -122,7 +149,7 @@ fn double_turn(at: usize, b: u8, d: u8, set: u8, state: State) -> Turn
 // A character of two octets that begins with b, where its set has two.
 fn or_two(s: &[u8], c: Cursor, b: u8, set: u8) -> Turn
     requires { ⌜ c .place < length (now s) ⌝ }
-    ensures { λ r. ⌜ r ≡ doubleOf (c .place) b (from (c .place + 1) (now (s .entry))) set (c .state) (elementTurn (now (s .entry)) c) ⌝ }
+    ensures { λ r. ⌜ r ≡ doubleOf (c .place) b (from (c .place + 1) (now (s .entry))) set (stateIn c) (elementTurn (now (s .entry)) c) ⌝ }
 {
     let at = c.place;
     if s.len() <= at + 1 {
@@ -133,8 +160,7 @@ fn or_two(s: &[u8], c: Cursor, b: u8, set: u8) -> Turn
         return by_element(s, c);
     }
     if set < NO_SET {
-        let state = c.state;
-        return double_turn(at, b, d, set, state);
+        return double_turn(at, b, d, set, c.gl, c.gr);
     }
     by_element(s, c)
 }
@@ -149,11 +175,9 @@ fn text_or_element(s: &[u8], c: Cursor) -> Turn
     }
     let b = s[at];
     if text_octet(b) {
-        let state = c.state;
-        let sets = state.sets;
-        let set = set_at(b, sets.gl, sets.gr);
+        let set = set_at(b, c.gl, c.gr);
         if set < FIRST_DOUBLE {
-            return single_turn(at, b, set, state);
+            return single_turn(at, b, set, c.gl, c.gr);
         }
         return or_two(s, c, b, set);
     }
@@ -168,12 +192,14 @@ fn placed(s: &[u8], c: Cursor, d: Designation) -> Cursor
     let set = d.set;
     if set < NO_SET {
         let side = d.side;
-        let state = c.state;
+        let state = free_state(c.gl, c.gr);
         let next = state.designated(side, set);
+        let after = next.sets;
         let place = c.place + d.octets;
         return Cursor {
             place: place,
-            state: next,
+            gl: after.gl,
+            gr: after.gr,
         };
     }
     c

@@ -11,7 +11,7 @@ use Rattle.state.specs.State.{on}
 use Rattle.grammar.specs.Units.{designation}
 use Rattle.shortest.specs.Writing.{designated}
 use Rattle.numbers.specs.Numbers.{setsInGL, setsInGR, servedInGL, servedInGR, afterFirst, afterSecond, chosenBy, change}
-use Rattle.octets.specs.Octets.{sideOf}
+use Rattle.emit.specs.Octets.{sideOf}
 use Rattle.numbers.proofs.Numbers.{beq-eq}
 
 pub first-stays : (x k a u v : ℕ) → a ≡ afterFirst x k → a ≡ k → k ≡ chosenBy x k u v

@@ -17,16 +17,16 @@ use Rattle.shortest.specs.Writing.{Need, choose, after, met, need, cost, used, 
 use Rattle.shortest.proofs.Needs.{chosen-met}
 use Rattle.rows.specs.Rows.{tagAt, highOctet, lowOctet, startFrom, unitFrom, unitsIn}
 use Rattle.numbers.specs.Numbers.{servedInGL, numbered, classOf, needOfClass, afterFirst, afterSecond, chosenBy, afterChoice, change, sideAt}
-use Rattle.costs.specs.Costs.{secondSlot}
+use Rattle.plan.specs.Costs.{secondSlot}
 use Rattle.plan.specs.Plan.{restFrom}
 use Rattle.numbers.proofs.Numbers.{Choice, choice-at, chosen-base, chosen-single, chosen-free, used-side}
 use Rattle.plan.proofs.Units.{need-tagged}
 use Rattle.plan.proofs.Rest.{class-below, fresh-number}
-use Rattle.octets.specs.Octets.{Written, sideOf}
+use Rattle.emit.specs.Octets.{Written, sideOf}
 use Rattle.emit.specs.Emit.{Ready}
 use Rattle.emit.proofs.Chosen.{its-place}
 use Rattle.emit.proofs.Row.{side-free}
-use Rattle.octets.proofs.Stores.{written-both, written-none, written-length, written-as}
+use Rattle.emit.proofs.Stores.{written-both, written-none, written-length, written-as}
 
 -- one turn of the writing
 turn : (u : TextUnit) (us : List TextUnit) (s t : Sets) (p : Option Standing) (d : Side) → choose (need u) (cost us) s ≡ p

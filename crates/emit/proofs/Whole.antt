@@ -20,9 +20,9 @@ use Rattle.shortest.specs.Records.{workRoom}
 use Rattle.shortest.proofs.Costs.{writing-length}
 use Rattle.rows.specs.Rows.{tagAt, startFrom, unitTagged, unitFrom, unitsIn}
 use Rattle.numbers.specs.Numbers.{numbered, classOf, afterFirst, afterSecond}
-use Rattle.costs.specs.Costs.{TwoStandings, secondSlot}
+use Rattle.plan.specs.Costs.{TwoStandings, secondSlot}
 use Rattle.plan.specs.Plan.{rowsOf, Planned}
-use Rattle.octets.specs.Octets.{Written}
+use Rattle.emit.specs.Octets.{Written}
 use Rattle.emit.specs.Emit.{rowsAnswer, rowsOutput, Ready}
 
 -- ---- the rows hold the same units before and after the plan

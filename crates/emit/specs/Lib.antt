@@ -1,1 +1,2 @@
+pub mod Octets
 pub mod Emit

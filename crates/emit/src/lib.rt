@@ -8,8 +8,8 @@ ghost use Rattle.shortest.specs.Writing.{writing, designated};
 ghost use Rattle.rows.specs.Layout as layouts;
 ghost use Rattle.rows.specs.Rows.{unitFrom, unitsIn};
 ghost use Rattle.numbers.specs.Numbers.{servedInGL, servedInGR, chosenBy, change};
-ghost use Rattle.costs.specs.Costs.{secondSlot};
-ghost use Rattle.octets.specs.Octets.{Written, sideOf};
+ghost use Rattle.plan.specs.Costs.{secondSlot};
+ghost use Rattle.emit.specs.Octets.{Written, sideOf};
 ghost use Rattle.emit.specs.Emit.{rowsAnswer, rowsOutput, Ready};
 ghost use Rattle.numbers.specs.Size as sizes;
 ghost use Rattle.numbers.specs.Class as classes;
@@ -20,6 +20,9 @@ use numbers::class;
 use numbers::size;
 use rows::layout;
 use rows::tag;
+
+mod octets;
+mod slots;
 
 // Where a row keeps what the rest costs after the second designation, for a class that has two.
 fn second_slot(x: usize, k: usize) -> usize
@@ -40,14 +43,14 @@ fn choose(x: usize, k: usize, work: &[u8], row: usize) -> usize
 {
     let l = numbers::place_in_gl(x);
     let r = numbers::place_in_gr(x);
-    let a = numbers::after_first(x, l, r, k);
+    let a = slots::after_first(x, l, r, k);
     if a == k {
         return k;
     }
     if x < class::DOUBLE {
         return a;
     }
-    let b = numbers::after_second(x, l, r, k);
+    let b = slots::after_second(x, l, r, k);
     if b == k {
         return k;
     }
@@ -81,9 +84,9 @@ fn put_change(k: usize, j: usize, out: &mut [u8], at: usize) -> usize
         return at;
     }
     if j / size::COLUMNS == k / size::COLUMNS {
-        return octets::put_designation(false, numbers::set_in_gr(j % size::COLUMNS), out, at);
+        return octets::put_designation(false, slots::set_in_gr(j % size::COLUMNS), out, at);
     }
-    octets::put_designation(true, numbers::set_in_gl(j / size::COLUMNS), out, at)
+    octets::put_designation(true, slots::set_in_gl(j / size::COLUMNS), out, at)
 }
 
 // Writes the unit of the row that starts at a place, on a side, and answers the next place.

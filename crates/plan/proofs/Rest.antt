@@ -22,7 +22,7 @@ use Rattle.shortest.proofs.Needs.{spent, least-chosen}
 use Rattle.shortest.proofs.Costs.{cost-steady}
 use Rattle.rows.specs.Rows.{tagAt, startFrom, countOf, partOf, unitsIn}
 use Rattle.numbers.specs.Numbers.{numbered, classOf, needOfClass, afterFirst, afterSecond, afterChoice, surcharge}
-use Rattle.costs.specs.Costs.{leastBy, Smooth, changes, Turned, TwoStandings, secondSlot, RowKept}
+use Rattle.plan.specs.Costs.{leastBy, Smooth, changes, Turned, TwoStandings, secondSlot, RowKept}
 use Rattle.plan.specs.Plan.{sizeOf, sizeAt, restFrom, CostsKept, Planned}
 use Rattle.numbers.proofs.Numbers.{choice-at, chosen-base, below, steady-at}
 use Rattle.plan.proofs.Again.{least-again, least-plus, least-space}

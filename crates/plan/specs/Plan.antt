@@ -10,7 +10,7 @@ use Rattle.state.specs.declared.Sets.{Sets}
 use Rattle.rows.specs.Rows.{tagAt, highOctet, lowOctet, startFrom, countOf, partOf, unitsIn}
 use Rattle.shortest.specs.Writing.{cost}
 use Rattle.numbers.specs.Numbers.{numbered, classOf, afterFirst, afterSecond}
-use Rattle.costs.specs.Costs.{TwoStandings, secondSlot}
+use Rattle.plan.specs.Costs.{TwoStandings, secondSlot}
 use Rattle.numbers.specs.Size as size
 use Rattle.rows.specs.Layout as layout
 use Rattle.rows.specs.Tag as tags

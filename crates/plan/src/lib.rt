@@ -14,6 +14,9 @@ use numbers::size;
 use rows::layout;
 use rows::tag;
 
+mod costs;
+mod table;
+
 // The octets of the unit of the row that starts at a place, where the segments stand in m octets.
 fn size_from(work: &[u8], row: usize, m: usize) -> usize
     requires { ⌜ row + layouts.row ≤ length (now work) ⌝ }

@@ -26,7 +26,7 @@ use Rattle.walks.proofs.Filling.{fillFrom}
 use Rattle.cursor.specs.declared.Cursor.{Cursor}
 use Rattle.cursor.specs.declared.Turn.{Turn}
 use Rattle.cursor.specs.Cursor.{cursor, first, turn, advanceOf}
-use Rattle.cursor.proofs.Lenient.{Like, like-itself}
+use Rattle.cursor.proofs.Free.{Like, like}
 use Rattle.cursor.proofs.Turns.{Turns, turns, advance-ahead}
 use Rattle.read.specs.Listing.{readAnswer, storedOf, listAfter}
 use Rattle.read.proofs.Cases.{Case, refuses, lacks, accepts, read-cases}
@@ -73,7 +73,7 @@ short s z = short-by s (ltb limit.octets (length s)) refl z
 all : (s : List ℕ) (ys : List UnitRecord) → checkOf s .number ≡ refusal.accepted → length (recordsOf s) ≤ length ys
     → filledTo s (length (recordsOf s)) first ys ≡ recordsOf s ++ drop (length (recordsOf s)) ys
 unfolding recordsOf
-all s ys z h = fills s (short s z) (from-start s) first (advance-ahead s (short s z) (from-start s) (like-itself fresh)) ys h
+all s ys z h = fills s (short s z) (from-start s) first (advance-ahead s (short s z) (from-start s) like) ys h
 
 -- an answer that refuses stores none
 none-stored : (a : Answer) → (a .number ≡ refusal.accepted → ⊥) → storedOf a ≡ 0

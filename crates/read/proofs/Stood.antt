@@ -19,14 +19,13 @@ use Rattle.charset.specs.Charsets.{no-set}
 use Rattle.state.specs.Directions.{stepOf}
 use Rattle.state.specs.Elements.{part}
 use Rattle.state.specs.declared.Sets.{Sets}
-use Rattle.state.specs.declared.State.{State}
 use Rattle.state.specs.declared.elements.Element.{Element}
 use Rattle.state.specs.declared.elements.Element.the-variants.{Found}
 use Rattle.element.specs.Element.{shapeOf, steppedOf, directedOf, elementOf}
 use Rattle.element.proofs.Sizes.{found}
 use Rattle.grammar.proofs.Places.{at-passed}
 use Rattle.units.specs.Next.{outcomeOf, nextOf}
-use Rattle.cursor.specs.Cursor.{cursor, turn, turnOf, elementTurn, first-double, textOctet, setAt, kindAt, ifGraphic, oneOf, doubleOf, octetOf, quickOf, textTurn, advanceAt, advanceOf}
+use Rattle.cursor.specs.Cursor.{freed, cursor, stateIn, turn, turnOf, elementTurn, first-double, textOctet, setAt, kindAt, ifGraphic, oneOf, doubleOf, octetOf, quickOf, textTurn, advanceAt, advanceOf}
 use Rattle.read.specs.Spans.{any, ones, left-twos, right-twos, singleOf, leftFirst, hasTwo, formAt, lesserOf, anyOf, ofForm, byForm, spanOf, Fits, movedOf, stands, oneAt, twoAt, nthOf}
 use Rattle.cursor.specs.declared.Cursor.{Cursor}
 use Rattle.cursor.specs.declared.Turn.{Turn}
@@ -97,30 +96,30 @@ two-range set e = go (ltb set first-double) refl e
 
 module _ (s : List ℕ) where
   -- an octet that is not an escape: the unit is that of text, or the element's
-  plain-turn : (at : ℕ) (st : State) (r : Turn) → at < length s → (getD s at 0 ≡ 0x1B → ⊥) → r ≡ textTurn s (cursor at st) → r ≡ advanceOf s (cursor at st)
+  plain-turn : (at : ℕ) (to : Sets) (r : Turn) → at < length s → (getD s at 0 ≡ 0x1B → ⊥) → r ≡ textTurn s (cursor at (freed to)) → r ≡ advanceOf s (cursor at (freed to))
   unfolding advanceAt
-  plain-turn at st r h n e = on-advance s at (cursor at st) r h (on-ne (getD s at 0) 0x1B _ _ _ n e)
+  plain-turn at to r h n e = on-advance s at (cursor at (freed to)) r h (on-ne (getD s at 0) 0x1B _ _ _ n e)
 
   -- ---- a character or space of one octet
-  one-text : (at : ℕ) (st : State) → at < length s → 0x20 ≤ getD s at 0 → textOctet (getD s at 0) ≡ true → setAt (getD s at 0) (st .sets) < first-double
-      → turn (oneAt s at (st .sets)) (cursor (at + 1) st) ≡ advanceOf s (cursor at st)
+  one-text : (at : ℕ) (to : Sets) → at < length s → 0x20 ≤ getD s at 0 → textOctet (getD s at 0) ≡ true → setAt (getD s at 0) to < first-double
+      → turn (oneAt s at to) (cursor (at + 1) (freed to)) ≡ advanceOf s (cursor at (freed to))
   unfolding textTurn octetOf
-  one-text at st h k t l =
-      plain-turn at st _ h (λ q. omega (arith, q, k))
-      (on-quick s at st (elementTurn s (cursor at st)) _ h
-      (on-text at (getD s at 0) _ _ st (elementTurn s (cursor at st)) _ t refl (on-lt (setAt (getD s at 0) (st .sets)) first-double _ _ _ l refl)))
+  one-text at to h k t l =
+      plain-turn at to _ h (λ q. omega (arith, q, k))
+      (on-quick s at (freed to) (elementTurn s (cursor at (freed to))) _ h
+      (on-text at (getD s at 0) _ _ (freed to) (elementTurn s (cursor at (freed to))) _ t refl (on-lt (setAt (getD s at 0) to) first-double _ _ _ l refl)))
 
   -- ---- a character of two
-  two-text : (at set : ℕ) (st : State) → at + 1 < length s → 0x20 < getD s at 0 → textOctet (getD s at 0) ≡ true
-      → set ≡ setAt (getD s at 0) (st .sets) → first-double ≤ set → set < no-set
-      → turn (twoAt s at set) (cursor (at + 2) st) ≡ advanceOf s (cursor at st)
+  two-text : (at set : ℕ) (to : Sets) → at + 1 < length s → 0x20 < getD s at 0 → textOctet (getD s at 0) ≡ true
+      → set ≡ setAt (getD s at 0) to → first-double ≤ set → set < no-set
+      → turn (twoAt s at set) (cursor (at + 2) (freed to)) ≡ advanceOf s (cursor at (freed to))
   unfolding textTurn octetOf doubleOf
-  two-text at set st h k t e l m =
-      plain-turn at st _ (omega (arith, h)) (λ q. omega (arith, q, k))
-      (on-quick s at st (elementTurn s (cursor at st)) _ (omega (arith, h))
-      (on-text at (getD s at 0) _ set st (elementTurn s (cursor at st)) _ t e
+  two-text at set to h k t e l m =
+      plain-turn at to _ (omega (arith, h)) (λ q. omega (arith, q, k))
+      (on-quick s at (freed to) (elementTurn s (cursor at (freed to))) _ (omega (arith, h))
+      (on-text at (getD s at 0) _ set (freed to) (elementTurn s (cursor at (freed to))) _ t e
       (on-ge set first-double _ _ _ l
-      (on-double s at (getD s at 0) set st (elementTurn s (cursor at st)) _ h
+      (on-double s at (getD s at 0) set (freed to) (elementTurn s (cursor at (freed to))) _ h
       (on-ne (getD s at 0) 0x20 _ _ _ (λ q. omega (arith, q, k)) (on-lt set no-set _ _ _ m refl))))))
 
   -- ---- a tab or a newline, of kind k
@@ -128,46 +127,46 @@ module _ (s : List ℕ) where
     abbrev lone : ℕ → ℕ → UnitRecord
     lone at k = record { kind = k; set = 0; code = 0; start = at % 2 ^ 32; length = 1 }
 
-    lone-turn : (at k : ℕ) (st : State) → at < length s → elementOf (from at s) st ≡ Found (part k 0 0 0 1 false) st
-        → turn (lone at k) (cursor (at + 1) st) ≡ elementTurn s (cursor at st)
+    lone-turn : (at k : ℕ) (to : Sets) → at < length s → elementOf (from at s) (freed to) ≡ Found (part k 0 0 0 1 false) (freed to)
+        → turn (lone at k) (cursor (at + 1) (freed to)) ≡ elementTurn s (cursor at (freed to))
     unfolding elementTurn nextOf outcomeOf turnOf pick
-    lone-turn at k st h e =
+    lone-turn at k to h e =
         let m : at % 2 ^ 32 ≡ at + 0 = mod-eq-of-lt (omega (arith, h, short)) ∙ (let z : at ≡ at + 0 = omega arith in z) in
         let n : at + 1 ≡ at + (0 + 1) = omega arith in
-        rw (le-ltb limit.octets (length s) short, at-passed s at st _ refl found e, m, n)
+        rw (le-ltb limit.octets (length s) short, at-passed s at (freed to) _ refl found e, m, n)
 
-    lone-advance : (at k : ℕ) (st : State) → at < length s → (getD s at 0 ≡ 0x1B → ⊥) → textOctet (getD s at 0) ≡ false
-        → elementOf (from at s) st ≡ Found (part k 0 0 0 1 false) st
-        → turn (lone at k) (cursor (at + 1) st) ≡ advanceOf s (cursor at st)
+    lone-advance : (at k : ℕ) (to : Sets) → at < length s → (getD s at 0 ≡ 0x1B → ⊥) → textOctet (getD s at 0) ≡ false
+        → elementOf (from at s) (freed to) ≡ Found (part k 0 0 0 1 false) (freed to)
+        → turn (lone at k) (cursor (at + 1) (freed to)) ≡ advanceOf s (cursor at (freed to))
     unfolding textTurn quickOf
-    lone-advance at k st h n t e =
-        plain-turn at st _ h n
-        (on-quick s at st (elementTurn s (cursor at st)) _ h (on-false (textOctet (getD s at 0)) _ _ _ t (lone-turn at k st h e)))
+    lone-advance at k to h n t e =
+        plain-turn at to _ h n
+        (on-quick s at (freed to) (elementTurn s (cursor at (freed to))) _ h (on-false (textOctet (getD s at 0)) _ _ _ t (lone-turn at k to h e)))
 
     -- the octet b of kind k, which is no text and leaves the state
-    blank-advance : (at b k : ℕ) (st : State) → at < length s → getD s at 0 ≡ b → (b ≡ 0x1B → ⊥) → textOctet b ≡ false → oneOf at b (setAt b (st .sets)) ≡ lone at k
-        → ((t : List ℕ) → elementOf (b ∷ t) st ≡ Found (part k 0 0 0 1 false) st) → turn (oneAt s at (st .sets)) (cursor (at + 1) st) ≡ advanceOf s (cursor at st)
-    blank-advance at b k st h e n t g f =
-        let i : elementOf (from at s) st ≡ Found (part k 0 0 0 1 false) st = rw (from-octet s at h, e) (f _) in
-        let j : turn (oneAt s at (st .sets)) (cursor (at + 1) st) ≡ turn (lone at k) (cursor (at + 1) st) = rw (e, g) in
-        j ∙ lone-advance at k st h (rw e n) (rw e t) i
+    blank-advance : (at b k : ℕ) (to : Sets) → at < length s → getD s at 0 ≡ b → (b ≡ 0x1B → ⊥) → textOctet b ≡ false → oneOf at b (setAt b to) ≡ lone at k
+        → ((t : List ℕ) → elementOf (b ∷ t) (freed to) ≡ Found (part k 0 0 0 1 false) (freed to)) → turn (oneAt s at to) (cursor (at + 1) (freed to)) ≡ advanceOf s (cursor at (freed to))
+    blank-advance at b k to h e n t g f =
+        let i : elementOf (from at s) (freed to) ≡ Found (part k 0 0 0 1 false) (freed to) = rw (from-octet s at h, e) (f _) in
+        let j : turn (oneAt s at to) (cursor (at + 1) (freed to)) ≡ turn (lone at k) (cursor (at + 1) (freed to)) = rw (e, g) in
+        j ∙ lone-advance at k to h (rw e n) (rw e t) i
 
-    tab-advance : (at : ℕ) (st : State) → at < length s → getD s at 0 ≡ 0x09 → turn (oneAt s at (st .sets)) (cursor (at + 1) st) ≡ advanceOf s (cursor at st)
+    tab-advance : (at : ℕ) (to : Sets) → at < length s → getD s at 0 ≡ 0x09 → turn (oneAt s at to) (cursor (at + 1) (freed to)) ≡ advanceOf s (cursor at (freed to))
     unfolding shapeOf directedOf steppedOf stepOf textOctet kindAt ifGraphic pick
-    tab-advance at st h e = blank-advance at 0x09 kind.tab st h e (λ q. omega arith) refl refl (λ _. refl)
+    tab-advance at to h e = blank-advance at 0x09 kind.tab to h e (λ q. omega arith) refl refl (λ _. refl)
 
-    newline-advance : (at : ℕ) (st : State) → at < length s → getD s at 0 ≡ 0x0A → turn (oneAt s at (st .sets)) (cursor (at + 1) st) ≡ advanceOf s (cursor at st)
+    newline-advance : (at : ℕ) (to : Sets) → at < length s → getD s at 0 ≡ 0x0A → turn (oneAt s at to) (cursor (at + 1) (freed to)) ≡ advanceOf s (cursor at (freed to))
     unfolding shapeOf directedOf steppedOf stepOf textOctet kindAt ifGraphic pick
-    newline-advance at st h e = blank-advance at 0x0A kind.newline st h e (λ q. omega arith) refl refl (λ _. refl)
+    newline-advance at to h e = blank-advance at 0x0A kind.newline to h e (λ q. omega arith) refl refl (λ _. refl)
 
-    one-advance : (at : ℕ) (st : State) → at < length s → singleOf (getD s at 0) (st .sets) ≡ true
-        → turn (oneAt s at (st .sets)) (cursor (at + 1) st) ≡ advanceOf s (cursor at st)
-    one-advance at st h e = by (singled (getD s at 0) (st .sets) e)
+    one-advance : (at : ℕ) (to : Sets) → at < length s → singleOf (getD s at 0) to ≡ true
+        → turn (oneAt s at to) (cursor (at + 1) (freed to)) ≡ advanceOf s (cursor at (freed to))
+    one-advance at to h e = by (singled (getD s at 0) to e)
       where
-        by : Single (getD s at 0) (st .sets) → turn (oneAt s at (st .sets)) (cursor (at + 1) st) ≡ advanceOf s (cursor at st)
-        by (tab i) = tab-advance at st h i
-        by (newline i) = newline-advance at st h i
-        by (text k t l) = one-text at st h k t l
+        by : Single (getD s at 0) to → turn (oneAt s at to) (cursor (at + 1) (freed to)) ≡ advanceOf s (cursor at (freed to))
+        by (tab i) = tab-advance at to h i
+        by (newline i) = newline-advance at to h i
+        by (text k t l) = one-text at to h k t l
 
 -- ---- the spans
 
@@ -200,6 +199,9 @@ least m n = go (ltb m n) refl
     go false e = let h = ltb-false m n e in (omega (arith, h), (omega arith, λ i j. j))
 
 module _ (s : List ℕ) (c : Cursor) (n : ℕ) where
+  abbrev setsIn : Cursor → Sets
+  setsIn x = stateIn x .sets
+
   abbrev b : ℕ
   b = getD s (c .place) 0
 
@@ -209,16 +211,16 @@ module _ (s : List ℕ) (c : Cursor) (n : ℕ) where
   -- the span at a cursor, by the octet there
   data Spans : Span → Type 0 where
     as-any : Spans (anyOf s c)
-    as-ones : c .place < length s → singleOf b (c .state .sets) ≡ true → Spans (ofForm c ones (lesserOf octets n))
-    as-left : 2 ≤ octets → leftFirst b ≡ true → hasTwo (c .state .sets .gl) ≡ true → Spans (ofForm c left-twos (lesserOf (octets / 2) n))
-    as-right : 2 ≤ octets → 0xA0 ≤ b → hasTwo (c .state .sets .gr) ≡ true → Spans (ofForm c right-twos (lesserOf (octets / 2) n))
+    as-ones : c .place < length s → singleOf b (setsIn c) ≡ true → Spans (ofForm c ones (lesserOf octets n))
+    as-left : 2 ≤ octets → leftFirst b ≡ true → hasTwo (c .gl) ≡ true → Spans (ofForm c left-twos (lesserOf (octets / 2) n))
+    as-right : 2 ≤ octets → 0xA0 ≤ b → hasTwo (c .gr) ≡ true → Spans (ofForm c right-twos (lesserOf (octets / 2) n))
 
   spans-pick : (t : Bool) (x y : Span) → (t ≡ true → Spans x) → (t ≡ false → Spans y) → Spans (pick t x y)
   unfolding pick
   spans-pick true x y h k = h refl
   spans-pick false x y h k = k refl
 
-  by-form : {form : ℕ} → c .place < length s → FormIs b (c .state .sets) form → Spans (byForm s c n form octets)
+  by-form : {form : ℕ} → c .place < length s → FormIs b (setsIn c) form → Spans (byForm s c n form octets)
   unfolding byForm
   by-form h is-any = spans-pick (eqb any any) _ _ (λ _. as-any) (λ e. absurd (eqb-false any any e refl))
   by-form h (is-ones e) =
@@ -236,7 +238,7 @@ module _ (s : List ℕ) (c : Cursor) (n : ℕ) where
   spanned : Spans (spanOf s c n)
   unfolding spanOf
   spanned =
-      spans-pick (leb (length s) (c .place)) _ _ (λ _. as-any) (λ h. by-form (leb-false (length s) (c .place) h) (formed b (c .state .sets)))
+      spans-pick (leb (length s) (c .place)) _ _ (λ _. as-any) (λ h. by-form (leb-false (length s) (c .place) h) (formed b (setsIn c)))
 
   -- ---- its units are in the string, and there is one
   fits-by : {r : Span} → Spans r → Fits s r
@@ -285,19 +287,19 @@ module _ (s : List ℕ) (c : Cursor) (n : ℕ) where
   stood r (suc j) = movedOf r (suc j)
 
   module _ (short : length s ≤ limit.octets) where
-    ones-at : (m j : ℕ) → stood (ofForm c ones m) j ≡ cursor (c .place + j) (c .state)
+    ones-at : (m j : ℕ) → stood (ofForm c ones m) j ≡ cursor (c .place + j) (stateIn c)
     unfolding movedOf pick
-    ones-at m zero = ap (λ (p : ℕ). cursor p (c .state)) at-none
+    ones-at m zero = ap (λ (p : ℕ). cursor p (stateIn c)) at-none
     ones-at m (suc j) = refl
 
-    left-at : (m j : ℕ) → stood (ofForm c left-twos m) j ≡ cursor (c .place + 2 * j) (c .state)
+    left-at : (m j : ℕ) → stood (ofForm c left-twos m) j ≡ cursor (c .place + 2 * j) (stateIn c)
     unfolding movedOf pick
-    left-at m zero = ap (λ (p : ℕ). cursor p (c .state)) at-nothing
+    left-at m zero = ap (λ (p : ℕ). cursor p (stateIn c)) at-nothing
     left-at m (suc j) = refl
 
-    right-at : (m j : ℕ) → stood (ofForm c right-twos m) j ≡ cursor (c .place + 2 * j) (c .state)
+    right-at : (m j : ℕ) → stood (ofForm c right-twos m) j ≡ cursor (c .place + 2 * j) (stateIn c)
     unfolding movedOf pick
-    right-at m zero = ap (λ (p : ℕ). cursor p (c .state)) at-nothing
+    right-at m zero = ap (λ (p : ℕ). cursor p (stateIn c)) at-nothing
     right-at m (suc j) = refl
 
     one-on : (j : ℕ) → c .place + j + 1 ≡ c .place + suc j
@@ -315,19 +317,19 @@ module _ (s : List ℕ) (c : Cursor) (n : ℕ) where
     unfolding stands nthOf pick
     turns-by as-any j h e = any-by j h
     turns-by (as-ones k i) j h e =
-        rw (ones-at (lesserOf octets n) j, ones-at (lesserOf octets n) (suc j), ← (one-on j)) (one-advance s short (c .place + j) (c .state) (omega (arith, h, k, least octets n .0)) e)
+        rw (ones-at (lesserOf octets n) j, ones-at (lesserOf octets n) (suc j), ← (one-on j)) (one-advance s short (c .place + j) (setsIn c) (omega (arith, h, k, least octets n .0)) e)
     turns-by (as-left k l t) j h e =
         let i = left-range (getD s (c .place + 2 * j) 0) e in
-        let u = two-range (c .state .sets .gl) t in
+        let u = two-range (c .gl) t in
         rw (left-at (lesserOf (octets / 2) n) j, left-at (lesserOf (octets / 2) n) (suc j), ← (two-on j))
-        (two-text s (c .place + 2 * j) (c .state .sets .gl) (c .state) (omega (arith, h, k, least (octets / 2) n .0)) (i .0) (left-text (getD s (c .place + 2 * j) 0) (omega (arith, i .0)) (i .1))
-        (left-set (getD s (c .place + 2 * j) 0) (c .state .sets) (i .1)) (u .0) (u .1))
+        (two-text s (c .place + 2 * j) (c .gl) (setsIn c) (omega (arith, h, k, least (octets / 2) n .0)) (i .0) (left-text (getD s (c .place + 2 * j) 0) (omega (arith, i .0)) (i .1))
+        (left-set (getD s (c .place + 2 * j) 0) (setsIn c) (i .1)) (u .0) (u .1))
     turns-by (as-right k l t) j h e =
         let i = leb-true 0xA0 (getD s (c .place + 2 * j) 0) e in
-        let u = two-range (c .state .sets .gr) t in
+        let u = two-range (c .gr) t in
         rw (right-at (lesserOf (octets / 2) n) j, right-at (lesserOf (octets / 2) n) (suc j), ← (two-on j))
-        (two-text s (c .place + 2 * j) (c .state .sets .gr) (c .state) (omega (arith, h, k, least (octets / 2) n .0)) (omega (arith, i)) (right-text (getD s (c .place + 2 * j) 0) i)
-        (right-set (getD s (c .place + 2 * j) 0) (c .state .sets) i) (u .0) (u .1))
+        (two-text s (c .place + 2 * j) (c .gr) (setsIn c) (omega (arith, h, k, least (octets / 2) n .0)) (omega (arith, i)) (right-text (getD s (c .place + 2 * j) 0) i)
+        (right-set (getD s (c .place + 2 * j) 0) (setsIn c) i) (u .0) (u .1))
 
     pub span-turns : (j : ℕ) → j < spanOf s c n .most → stands s (spanOf s c n) j ≡ true
         → turn (nthOf s (spanOf s c n) j) (stood (spanOf s c n) (suc j)) ≡ advanceOf s (stood (spanOf s c n) j)

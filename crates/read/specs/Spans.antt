@@ -9,9 +9,10 @@ use lib.ListN.{length, getD, set}
 use Rattle.base.specs.Choice.{pick}
 use Rattle.base.specs.declared.Unit.{Unit as UnitRecord}
 use Rattle.charset.specs.Charsets.{no-set}
+use Rattle.state.specs.State.{sets}
 use Rattle.state.specs.declared.Sets.{Sets}
 use Rattle.units.specs.Records.{blank}
-use Rattle.cursor.specs.Cursor.{cursor, first-double, setAt, oneOf, twoOf, advanceOf}
+use Rattle.cursor.specs.Cursor.{freed, cursor, stateIn, first-double, setAt, oneOf, twoOf, advanceOf}
 use Rattle.cursor.specs.declared.Cursor.{Cursor}
 use Rattle.read.specs.declared.spans.Span.{Span}
 
@@ -56,12 +57,15 @@ formAt b s =
 unfoldable pub lesserOf : ℕ → ℕ → ℕ
 lesserOf m n = pick (ltb m n) m n
 
+abbrev pub setsOf : Span → Sets
+setsOf r = sets (r .gl) (r .gr)
+
 abbrev pub anyOf : List ℕ → Cursor → Span
 anyOf s c =
-    record { place = advanceOf s c .cursor .place; most = 1; unit = advanceOf s c .unit; form = any; state = advanceOf s c .cursor .state }
+    record { place = advanceOf s c .cursor .place; most = 1; unit = advanceOf s c .unit; form = any; gl = advanceOf s c .cursor .gl; gr = advanceOf s c .cursor .gr }
 
 abbrev pub ofForm : Cursor → ℕ → ℕ → Span
-ofForm c form most = record { place = c .place; most = most; unit = blank; form = form; state = c .state }
+ofForm c form most = record { place = c .place; most = most; unit = blank; form = form; gl = c .gl; gr = c .gr }
 
 -- by the form of its first unit, where so many octets are left
 unfoldable pub byForm : List ℕ → Cursor → ℕ → ℕ → ℕ → Span
@@ -73,7 +77,7 @@ byForm s c n form octets =
 unfoldable pub spanOf : List ℕ → Cursor → ℕ → Span
 spanOf s c n =
     pick (leb (length s) (c .place)) (anyOf s c)
-    (byForm s c n (formAt (getD s (c .place) 0) (c .state .sets)) (length s - c .place))
+    (byForm s c n (formAt (getD s (c .place) 0) (stateIn c .sets)) (length s - c .place))
 
 -- the octets of its units are in the string
 pub record Fits (s : List ℕ) (r : Span) : Type 0 where
@@ -83,15 +87,15 @@ pub record Fits (s : List ℕ) (r : Span) : Type 0 where
 -- the cursor after j of its units
 unfoldable pub movedOf : Span → ℕ → Cursor
 movedOf r j =
-    pick (eqb (r .form) ones) (cursor (r .place + j) (r .state))
-    (pick (ltb ones (r .form)) (cursor (r .place + 2 * j) (r .state)) (cursor (r .place) (r .state)))
+    pick (eqb (r .form) ones) (cursor (r .place + j) (freed (setsOf r)))
+    (pick (ltb ones (r .form)) (cursor (r .place + 2 * j) (freed (setsOf r))) (cursor (r .place) (freed (setsOf r))))
 
 -- ---- the units of a span
 
 -- whether the unit after j units is of its form
 unfoldable pub stands : List ℕ → Span → ℕ → Bool
 stands s r j =
-    pick (eqb (r .form) ones) (singleOf (getD s (r .place + j) 0) (r .state .sets))
+    pick (eqb (r .form) ones) (singleOf (getD s (r .place + j) 0) (setsOf r))
     (pick (eqb (r .form) left-twos) (leftFirst (getD s (r .place + 2 * j) 0))
     (pick (eqb (r .form) right-twos) (leb 0xA0 (getD s (r .place + 2 * j) 0)) true))
 
@@ -106,9 +110,9 @@ twoAt s at set = twoOf at (getD s at 0) (getD s (at + 1) 0) set
 -- the unit after j units
 unfoldable pub nthOf : List ℕ → Span → ℕ → UnitRecord
 nthOf s r j =
-    pick (eqb (r .form) ones) (oneAt s (r .place + j) (r .state .sets))
-    (pick (eqb (r .form) left-twos) (twoAt s (r .place + 2 * j) (r .state .sets .gl))
-    (pick (eqb (r .form) right-twos) (twoAt s (r .place + 2 * j) (r .state .sets .gr)) (r .unit)))
+    pick (eqb (r .form) ones) (oneAt s (r .place + j) (setsOf r))
+    (pick (eqb (r .form) left-twos) (twoAt s (r .place + 2 * j) (r .gl))
+    (pick (eqb (r .form) right-twos) (twoAt s (r .place + 2 * j) (r .gr)) (r .unit)))
 
 -- of a span, of which j units are passed and m more may follow: how many there are
 unfoldable pub countFrom : List ℕ → Span → ℕ → ℕ → ℕ

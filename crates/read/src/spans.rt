@@ -13,7 +13,6 @@ use cursor::advance;
 use cursor::octets::one_octet;
 use cursor::octets::two_octets;
 use cursor::set_at;
-use state::State;
 
 // The forms: any one unit, units of one octet, characters of two octets in GL, and in GR.
 const ANY: u8 = 0;
@@ -24,14 +23,15 @@ const LEFT_TWOS: u8 = 2;
 
 const RIGHT_TWOS: u8 = 3;
 
-// The units of a form that start at a place, so many at most, under this state. Of any one unit the unit is given, and the place and the
-// state are those after it.
+// The units of a form that start at a place, so many at most, under these sets. Of any one unit the unit is given, and the place and the
+// sets are those after it.
 pub struct Span {
     pub place: usize,
     pub most: usize,
     pub unit: Unit,
-    pub state: State,
     pub form: u8,
+    pub gl: u8,
+    pub gr: u8,
 }
 
 // An octet that is a unit: a tab, a newline, a space or a character.
@@ -110,26 +110,26 @@ fn any_unit(s: &[u8], c: Cursor) -> Span
     let t = advance(s, c);
     let next = t.cursor;
     let unit = t.unit;
-    let state = next.state;
     Span {
         place: next.place,
         most: 1,
         unit: unit,
-        state: state,
         form: ANY,
+        gl: next.gl,
+        gr: next.gr,
     }
 }
 
 fn of_form(c: Cursor, form: u8, most: usize) -> Span
     ensures { λ r. ⌜ r ≡ ofForm c form most ⌝ }
 {
-    let state = c.state;
     Span {
         place: c.place,
         most: most,
         unit: Unit::BLANK,
-        state: state,
         form: form,
+        gl: c.gl,
+        gr: c.gr,
     }
 }
 
@@ -141,9 +141,7 @@ pub fn span_at(s: &[u8], c: Cursor, n: usize) -> Span
     if s.len() <= at {
         return any_unit(s, c);
     }
-    let state = c.state;
-    let sets = state.sets;
-    let form = form_at(s[at], sets.gl, sets.gr);
+    let form = form_at(s[at], c.gl, c.gr);
     if form == ANY {
         return any_unit(s, c);
     }
@@ -162,24 +160,26 @@ pub fn moved(r: Span, j: usize) -> Cursor
     requires { ⌜ (r .form ≡ ones → r .place + j < 2 ^ 64) × (ones < r .form → r .place + 2 * j < 2 ^ 64) ⌝ }
     ensures { λ c. ⌜ c ≡ movedOf r j ⌝ }
 {
-    let state = r.state;
     if r.form == ONES {
         let place = r.place + j;
         return Cursor {
             place: place,
-            state: state,
+            gl: r.gl,
+            gr: r.gr,
         };
     }
     if ONES < r.form {
         let place = r.place + 2 * j;
         return Cursor {
             place: place,
-            state: state,
+            gl: r.gl,
+            gr: r.gr,
         };
     }
     Cursor {
         place: r.place,
-        state: state,
+        gl: r.gl,
+        gr: r.gr,
     }
 }
 
@@ -211,10 +211,8 @@ pub fn stands_at(s: &[u8], r: Span, j: usize) -> bool
     requires { ⌜ Fits (now s) r × (j < r .most) ⌝ }
     ensures { λ b. ⌜ b ≡ stands (now (s .entry)) r j ⌝ }
 {
-    let state = r.state;
-    let sets = state.sets;
     if r.form == ONES {
-        return single_at(s, r.place + j, sets.gl, sets.gr);
+        return single_at(s, r.place + j, r.gl, r.gr);
     }
     if r.form == LEFT_TWOS {
         return left_at(s, r.place + 2 * j);
@@ -245,16 +243,14 @@ pub fn nth(s: &[u8], r: Span, j: usize) -> Unit
     requires { ⌜ Fits (now s) r × (j < r .most) ⌝ }
     ensures { λ u. ⌜ u ≡ nthOf (now (s .entry)) r j ⌝ }
 {
-    let state = r.state;
-    let sets = state.sets;
     if r.form == ONES {
-        return one(s, r.place + j, sets.gl, sets.gr);
+        return one(s, r.place + j, r.gl, r.gr);
     }
     if r.form == LEFT_TWOS {
-        return two(s, r.place + 2 * j, sets.gl);
+        return two(s, r.place + 2 * j, r.gl);
     }
     if r.form == RIGHT_TWOS {
-        return two(s, r.place + 2 * j, sets.gr);
+        return two(s, r.place + 2 * j, r.gr);
     }
     r.unit
 }

@@ -11,7 +11,7 @@ use Rattle.base.specs.declared.Unit.{Unit as UnitRecord}
 use Rattle.cursor.specs.Cursor.{cursor, first, turn, advanceOf}
 use Rattle.cursor.specs.declared.Cursor.{Cursor}
 use Rattle.cursor.specs.declared.Turn.{Turn}
-use Rattle.cursor.proofs.Lenient.{Like, like-itself}
+use Rattle.cursor.proofs.Free.{Like, like}
 use Rattle.cursor.proofs.Turns.{Turns, turns, advance-ahead}
 use Rattle.grammar.specs.Reading.{Elements, size, elementsOf}
 use Rattle.grammar.proofs.Places.{Ahead, ends, stops, passes, reads, from-start}
@@ -49,7 +49,7 @@ module _ (s : List ℕ) (short : length s ≤ limit.octets) where
         es = elementsOf s;
         ahead = from-start s;
         are = refl;
-        turns = advance-ahead s short (from-start s) (like-itself fresh);
+        turns = advance-ahead s short (from-start s) like;
       }
 
   next-of : {at : ℕ} {st : State} {es : Elements} → Ahead s at st es → (c : Cursor) → (1 ≤ length (recordsFrom es) → Turns (advanceOf s c) (outcomeOf es))

@@ -5,7 +5,6 @@ ghost use lib.ListN.{getD};
 ghost use Rattle.rows.specs.Rows.{startFrom, highOctet, lowOctet, countOf, partOf};
 
 pub mod layout;
-pub mod record;
 pub mod tag;
 
 // An octet as a number of the machine.

@@ -14,7 +14,7 @@ returns c = search reading depth 9
 returns-2 : tie.Need-returns-2
 unfolding octetOf textTurn
 returns-2 c =
-    let read = c .before .before .before .before .before in
+    let read = c .before .before .before in
     on-quick _ _ _ _ _ (read .before .before .before .if1 .left)
     (on-text _ _ _ _ _ _ _ (sym (read .before .text-octet .ensures) ∙ read .if2 .taken) (c .before .before .set-at .ensures)
     (on-lt _ _ _ _ _ (c .before .if3 .taken) (c .single-turn .ensures)))
@@ -22,7 +22,7 @@ returns-2 c =
 returns-3 : tie.Need-returns-3
 unfolding octetOf textTurn
 returns-3 c =
-    let read = c .before .before .before .before .before in
+    let read = c .before .before .before in
     on-quick _ _ _ _ _ (read .before .before .before .if1 .left)
     (on-text _ _ _ _ _ _ _ (sym (read .before .text-octet .ensures) ∙ read .if2 .taken) (c .before .before .set-at .ensures)
     (on-ge _ _ _ _ _ (c .before .if3 .left) (c .or-two .ensures)))

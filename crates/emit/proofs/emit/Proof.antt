@@ -4,7 +4,7 @@ use native.Mathlib.Omega.{arith}
 use mathlib.Core.Path.{_≡_, refl, _∙_}
 use Prim.Native.Nat.{_-_, _≤_}
 use lib.ListN.{length}
-use Rattle.octets.proofs.Stores.{written-length}
+use Rattle.emit.proofs.Stores.{written-length}
 use Rattle.emit.proofs.Forward.{Going, going-none, j-below, room-change, room-unit, going-more, going-end}
 use Rattle.emit.proofs.emit.Statement.{statement}
 use Rattle.emit.proofs.emit.Tie as tie

@@ -2,7 +2,7 @@
 use native.Mathlib.Omega.{arith}
 use mathlib.Core.Path.{ap}
 use lib.ListN.{length}
-use Rattle.octets.proofs.Stores.{written-none, written-as}
+use Rattle.emit.proofs.Stores.{written-none, written-as}
 use Rattle.emit.proofs.Chosen.{change-none, change-gr, change-gl}
 use borrow.Author.Needs.{needs}
 use Rattle.emit.proofs.put_change.Statement.{statement}

@@ -4,8 +4,8 @@ use Prim.Native.Nat.{_+_}
 use mathlib.Core.Path.{ap}
 use mathlib.Core.Logic.{⊎-elim}
 use lib.ListN.{length, getD}
-use Rattle.octets.specs.Octets.{sideOf}
-use Rattle.octets.proofs.Stores.{written-as, segment-length}
+use Rattle.emit.specs.Octets.{sideOf}
+use Rattle.emit.proofs.Stores.{written-as, segment-length}
 use Rattle.emit.proofs.Row.{text-octets, segment-octets, mark-octets}
 use borrow.Author.Needs.{needs}
 use Rattle.emit.proofs.put_row.Statement.{statement}

@@ -7,7 +7,7 @@ use Rattle.read.proofs.spans.any_unit.Statement.{statement}
 use Rattle.read.proofs.spans.any_unit.Tie as tie
 
 returns : tie.Need-returns
-returns c = rw (c .before .before .before .advance .ensures)
+returns c = rw (c .before .before .advance .ensures)
 
 pub any-unit-spec : {M : Type 1} → statement M
 any-unit-spec =

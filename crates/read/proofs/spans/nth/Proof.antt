@@ -9,42 +9,42 @@ use Rattle.read.proofs.spans.nth.Tie as tie
 
 add-one : tie.Need-add-one
 add-one c =
-    let h = one-within (c .before .before .before .before .before .before .pre) (c .before .if1 .taken) in
+    let h = one-within (c .before .before .before .before .pre) (c .before .if1 .taken) in
     omega (arith, h)
 
 one-requires : tie.Need-one-requires
 one-requires c κs =
-    let h = one-within (c .before .before .before .before .before .before .pre) (c .before .if1 .taken) in
+    let h = one-within (c .before .before .before .before .pre) (c .before .if1 .taken) in
     omega (arith, h)
 
 mul-two : tie.Need-mul-two
 mul-two c =
-    let h = two-within (c .before .before .before .before .before .before .before .pre) (omega (arith, c .if2 .taken)) in
+    let h = two-within (c .before .before .before .before .before .pre) (omega (arith, c .if2 .taken)) in
     record { fits = omega (arith, h) }
 
 add-two : tie.Need-add-two
 add-two c =
-    let h = two-within (c .before .before .before .before .before .before .before .before .pre) (omega (arith, c .before .if2 .taken)) in
+    let h = two-within (c .before .before .before .before .before .before .pre) (omega (arith, c .before .if2 .taken)) in
     omega (arith, h)
 
 two-requires : tie.Need-two-requires
 two-requires c κs =
-    let h = two-within (c .before .before .before .before .before .before .before .before .pre) (omega (arith, c .before .if2 .taken)) in
+    let h = two-within (c .before .before .before .before .before .before .pre) (omega (arith, c .before .if2 .taken)) in
     omega (arith, h)
 
 mul-two-2 : tie.Need-mul-two-2
 mul-two-2 c =
-    let h = two-within (c .before .before .before .before .before .before .before .before .before .pre) (omega (arith, c .if3 .taken)) in
+    let h = two-within (c .before .before .before .before .before .before .before .pre) (omega (arith, c .if3 .taken)) in
     record { fits = omega (arith, h) }
 
 add-two-2 : tie.Need-add-two-2
 add-two-2 c =
-    let h = two-within (c .before .before .before .before .before .before .before .before .before .before .pre) (omega (arith, c .before .if3 .taken)) in
+    let h = two-within (c .before .before .before .before .before .before .before .before .pre) (omega (arith, c .before .if3 .taken)) in
     omega (arith, h)
 
 two-requires-2 : tie.Need-two-requires-2
 two-requires-2 c κs =
-    let h = two-within (c .before .before .before .before .before .before .before .before .before .before .pre) (omega (arith, c .before .if3 .taken)) in
+    let h = two-within (c .before .before .before .before .before .before .before .before .pre) (omega (arith, c .before .if3 .taken)) in
     omega (arith, h)
 
 pub nth-spec : {M : Type 1} → statement M

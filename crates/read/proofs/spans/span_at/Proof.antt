@@ -9,7 +9,7 @@ returns-3 : tie.Need-returns-3
 unfolding byForm spanOf
 returns-3 c =
     let form = c .before .before .before .before in
-    on-gt _ _ _ _ _ (form .before .before .before .before .if1 .left)
+    on-gt _ _ _ _ _ (form .before .before .if1 .left)
     (rw (← (form .form-at .ensures))
     (on-ne _ _ _ _ _ (c .before .before .before .if2 .left) (on-eq _ _ _ _ _ (c .before .before .if3 .taken) (rw (← (c .before .lesser .ensures)) (c .of-form .ensures)))))
 
@@ -17,7 +17,7 @@ returns-4 : tie.Need-returns-4
 unfolding byForm spanOf
 returns-4 c =
     let form = c .before .before .before .before in
-    on-gt _ _ _ _ _ (form .before .before .before .before .if1 .left)
+    on-gt _ _ _ _ _ (form .before .before .if1 .left)
     (rw (← (form .form-at .ensures))
     (on-ne _ _ _ _ _ (c .before .before .before .if2 .left)
     (on-ne _ _ _ _ _ (c .before .before .if3 .left) (on-lt _ _ _ _ _ (c .before .if4 .taken) (c .any-unit3 .ensures)))))
@@ -26,7 +26,7 @@ returns-5 : tie.Need-returns-5
 unfolding byForm spanOf
 returns-5 c =
     let form = c .before .before .before .before .before in
-    on-gt _ _ _ _ _ (form .before .before .before .before .if1 .left)
+    on-gt _ _ _ _ _ (form .before .before .if1 .left)
     (rw (← (form .form-at .ensures))
     (on-ne _ _ _ _ _ (c .before .before .before .before .if2 .left)
     (on-ne _ _ _ _ _ (c .before .before .before .if3 .left)

@@ -9,42 +9,42 @@ use Rattle.read.proofs.spans.stands_at.Tie as tie
 
 add-single-at : tie.Need-add-single-at
 add-single-at c =
-    let h = one-within (c .before .before .before .before .before .before .pre) (c .before .if1 .taken) in
+    let h = one-within (c .before .before .before .before .pre) (c .before .if1 .taken) in
     omega (arith, h)
 
 single-at-requires : tie.Need-single-at-requires
 single-at-requires c κs =
-    let h = one-within (c .before .before .before .before .before .before .pre) (c .before .if1 .taken) in
+    let h = one-within (c .before .before .before .before .pre) (c .before .if1 .taken) in
     omega (arith, h)
 
 mul-left-at : tie.Need-mul-left-at
 mul-left-at c =
-    let h = two-within (c .before .before .before .before .before .before .before .pre) (omega (arith, c .if2 .taken)) in
+    let h = two-within (c .before .before .before .before .before .pre) (omega (arith, c .if2 .taken)) in
     record { fits = omega (arith, h) }
 
 add-left-at : tie.Need-add-left-at
 add-left-at c =
-    let h = two-within (c .before .before .before .before .before .before .before .before .pre) (omega (arith, c .before .if2 .taken)) in
+    let h = two-within (c .before .before .before .before .before .before .pre) (omega (arith, c .before .if2 .taken)) in
     omega (arith, h)
 
 left-at-requires : tie.Need-left-at-requires
 left-at-requires c κs =
-    let h = two-within (c .before .before .before .before .before .before .before .before .pre) (omega (arith, c .before .if2 .taken)) in
+    let h = two-within (c .before .before .before .before .before .before .pre) (omega (arith, c .before .if2 .taken)) in
     omega (arith, h)
 
 mul-right-at : tie.Need-mul-right-at
 mul-right-at c =
-    let h = two-within (c .before .before .before .before .before .before .before .before .before .pre) (omega (arith, c .if3 .taken)) in
+    let h = two-within (c .before .before .before .before .before .before .before .pre) (omega (arith, c .if3 .taken)) in
     record { fits = omega (arith, h) }
 
 add-right-at : tie.Need-add-right-at
 add-right-at c =
-    let h = two-within (c .before .before .before .before .before .before .before .before .before .before .pre) (omega (arith, c .before .if3 .taken)) in
+    let h = two-within (c .before .before .before .before .before .before .before .before .pre) (omega (arith, c .before .if3 .taken)) in
     omega (arith, h)
 
 right-at-requires : tie.Need-right-at-requires
 right-at-requires c κs =
-    let h = two-within (c .before .before .before .before .before .before .before .before .before .before .pre) (omega (arith, c .before .if3 .taken)) in
+    let h = two-within (c .before .before .before .before .before .before .before .before .pre) (omega (arith, c .before .if3 .taken)) in
     omega (arith, h)
 
 pub stands-at-spec : {M : Type 1} → statement M
