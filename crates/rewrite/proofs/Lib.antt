@@ -1,3 +1,3 @@
-pub mod Cursor
+pub mod Coming
 pub mod Turns
 pub mod Whole

@@ -10,53 +10,62 @@ use lib.Seq.{drop-cons}
 use Rattle.base.specs.Limit as limit
 use Rattle.base.specs.Refusal as refusal
 use Rattle.base.specs.declared.Unit.{Unit as UnitRecord}
-use Rattle.cursor.specs.Cursor.{first, advanceOf}
-use Rattle.cursor.specs.declared.Cursor.{Cursor}
-use Rattle.cursor.specs.declared.Turn.{Turn}
+use Rattle.state.specs.State.{fresh}
+use Rattle.state.specs.declared.State.{State}
 use Rattle.grammar.specs.Reading.{checkOf}
 use Rattle.check_list.specs.Turn.{begun, turnOf, roomAfter}
 use Rattle.check_list.specs.declared.Progress.{Progress}
+use Rattle.units.specs.Next.{nextOf}
 use Rattle.units.specs.Records.{recordsOf}
+use Rattle.units.specs.declared.Outcome.{Outcome}
+use Rattle.units.specs.declared.Outcome.the-variants.{Gives}
 use Rattle.write.specs.Stowed.{reached, Stowed}
 use Rattle.shortest.specs.Offence.{noRecord}
 use Rattle.write.proofs.Lists.{stowed-none, stowed-next}
-use Rattle.rewrite.proofs.Cursor.{Comes, Next, comes-first, next}
+use Rattle.rewrite.proofs.Coming.{Comes, Next, comes-first, next}
 
-pub record Head (s before : List ℕ) (i : ℕ) (c : Cursor) (p : Progress) (w : List ℕ) : Type 0 where
+pub record Head (s before : List ℕ) (i at : ℕ) (st : State) (p : Progress) (w : List ℕ) : Type 0 where
   pub few : i ≤ length (recordsOf s)
-  pub comes : Comes s c (drop i (recordsOf s))
+  pub comes : Comes s at st (drop i (recordsOf s))
   pub checked : p ≡ reached s (recordsOf s) i
   pub stowed : Stowed s (recordsOf s) i before w
 
-module _ (s : List ℕ) (short : length s ≤ limit.octets) (before : List ℕ) where
-  pub head-first : Head s before 0 first begun before
+pub head-first : (s before : List ℕ) → Head s before 0 0 fresh begun before
+unfolding reached
+head-first s before =
+    record { few = omega arith; comes = comes-first s; checked = refl; stowed = stowed-none s (recordsOf s) before }
+
+module _ (s : List ℕ) (short : length s ≤ limit.octets) (before : List ℕ) (i at : ℕ) (st : State) (p : Progress) (w : List ℕ)
+    (h : Head s before i at st p w) (more : i < length (recordsOf s)) where
+  comes-next : Next s (nextOf s at st) (drop i (recordsOf s))
+  comes-next = next s short at st (drop i (recordsOf s)) (h .comes) (rw (drop-cons (recordsOf s) i noRecord more) (omega arith))
+
+  -- there is a next unit
+  pub head-more : (o : Outcome) → o ≡ nextOf s at st → ((u : UnitRecord) (place : ℕ) (to : State) → o ≡ Gives u place to → ⊥) → ⊥
+  head-more o e never = never _ _ _ (e ∙ comes-next .gives)
+
+  -- the list from a place on is its record and the rest
+  cut : getD (recordsOf s) i noRecord ∷ drop (suc i) (recordsOf s) ≡ comes-next .unit ∷ comes-next .rest
+  cut = sym (drop-cons (recordsOf s) i noRecord more) ∙ comes-next .is
+
+  first-is : getD (recordsOf s) i noRecord ≡ comes-next .unit
+  first-is = cc cut
+
+  rest-is : drop (suc i) (recordsOf s) ≡ comes-next .rest
+  rest-is = cc cut
+
+  pub head-next : (o : Outcome) (u : UnitRecord) (place : ℕ) (to : State) (q : Progress) (v : List ℕ) → o ≡ nextOf s at st → o ≡ Gives u place to
+      → q ≡ turnOf s u i p → v ≡ roomAfter (turnOf s u i p) u i w → Head s before (i + 1) place to q v
   unfolding reached
-  head-first =
-      record { few = omega arith; comes = comes-first s short; checked = refl; stowed = stowed-none s (recordsOf s) before }
-
-  module _ (i : ℕ) (c : Cursor) (p : Progress) (w : List ℕ) (h : Head s before i c p w) (more : i < length (recordsOf s)) where
-    comes-next : Next s c (drop i (recordsOf s))
-    comes-next = next s short c (drop i (recordsOf s)) (h .comes) (rw (drop-cons (recordsOf s) i noRecord more) (omega arith))
-
-    -- the list from a place on is its record and the rest
-    cut : getD (recordsOf s) i noRecord ∷ drop (suc i) (recordsOf s) ≡ advanceOf s c .unit ∷ comes-next .rest
-    cut = sym (drop-cons (recordsOf s) i noRecord more) ∙ comes-next .is
-
-    unit : getD (recordsOf s) i noRecord ≡ advanceOf s c .unit
-    unit = cc cut
-
-    rest : drop (suc i) (recordsOf s) ≡ comes-next .rest
-    rest = cc cut
-
-    pub head-next : (t : Turn) (q : Progress) (v : List ℕ) → t ≡ advanceOf s c → q ≡ turnOf s (t .unit) i p → v ≡ roomAfter (turnOf s (t .unit) i p) (t .unit) i w
-        → Head s before (i + 1) (t .cursor) q v
-    unfolding reached
-    head-next t q v e f g =
-        let u : t .unit ≡ getD (recordsOf s) i noRecord = ap (λ (x : Turn). x .unit) e ∙ sym unit in
-        let k : i + 1 ≡ suc i = add-one i in
-        record {
-          few = omega arith;
-          comes = rw (k, rest, e) (comes-next .comes);
-          checked = rw (k, f, u, h .checked);
-          stowed = rw (k, g, u, h .checked) (stowed-next s (recordsOf s) i before w (h .stowed));
-        }
+  head-next o u place to q v d e f g =
+      let a : Gives (comes-next .unit) (comes-next .place) (comes-next .to) ≡ Gives u place to = sym (comes-next .gives) ∙ (sym d ∙ e) in
+      let b : u ≡ getD (recordsOf s) i noRecord = (let z : comes-next .unit ≡ u = cc in sym z ∙ sym first-is) in
+      let there : comes-next .place ≡ place = cc in
+      let state : comes-next .to ≡ to = cc in
+      let k : i + 1 ≡ suc i = add-one i in
+      record {
+        few = omega arith;
+        comes = rw (k, rest-is, ← there, ← state) (comes-next .comes);
+        checked = rw (k, f, b, h .checked);
+        stowed = rw (k, g, b, h .checked) (stowed-next s (recordsOf s) i before w (h .stowed));
+      }

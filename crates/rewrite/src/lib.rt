@@ -9,23 +9,28 @@ ghost use Rattle.rewrite.specs.Shortest.{shortestAnswer, shortestOutput}
 use base::Answer;
 use base::refusal;
 use check_list::Progress;
-use cursor::Cursor;
+use state::State;
+use units::Outcome;
 
-// Puts the n units of an accepted string into their rows of the work room.
+// Puts the n units of an accepted string into their rows of the work room. By `next_unit`, and not by the cursor of `read`, which the compiler
+// puts into `read` whole only where nobody else calls it.
 fn stow(s: &[u8], n: usize, work: &mut [u8]) -> Progress
     requires { ⌜ (checkOf (now s) .number ≡ accepted) × (n ≡ length (recordsOf (now s))) ⌝ }
     ensures { λ r. ⌜ (r ≡ reached (now (s .entry)) (recordsOf (now (s .entry))) n)
         × Stowed (now (s .entry)) (recordsOf (now (s .entry))) n (now (work .entry)) (now (work .exit)) ⌝ }
 {
     let mut progress = check_list::begin();
-    let mut c = Cursor::first();
+    let mut at: usize = 0;
+    let mut st = State::FRESH;
     let mut i: usize = 0;
     while i < n {
-        let t = cursor::advance(s, c);
-        let unit = t.unit;
+        let o = units::next_unit(s, at, st);
+        let Outcome::Gives(unit, place, next) = o else {
+            return progress;
+        };
         progress = check_list::turn(progress, unit, i, s, work);
-        let next = t.cursor;
-        c = next;
+        at = place;
+        st = next;
         i += 1;
     }
     progress

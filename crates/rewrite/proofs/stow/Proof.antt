@@ -1,42 +1,55 @@
--- `rewrite::stow` meets its contract. The invariant is `Head`, and each turn is `head-next`.
+-- `rewrite::stow` meets its contract. The invariant is `Head`, each turn is `head-next`, and there is always a next unit (`head-more`).
 use borrow.Author.Needs.{needs}
 use native.Mathlib.Omega.{arith}
 use Prim.Native.Nat.{_-_}
 use mathlib.Core.Path.{_≡_, refl, sym, subst}
 use Rattle.read.proofs.Filled.{short}
-use Rattle.rewrite.proofs.Turns.{Head, head-first, head-next}
+use Rattle.rewrite.proofs.Turns.{Head, head-first, head-more, head-next}
 use Rattle.rewrite.proofs.stow.Statement.{statement}
 use Rattle.rewrite.proofs.stow.Tie as tie
 
 abbrev Inv-loop : tie.InvT-loop
-Inv-loop s n work₀ progress₀ c₀ i₀ work progress c i = Head s work₀ i c progress work
+Inv-loop s n work₀ progress₀ at₀ st₀ i₀ work progress at st i = Head s work₀ i at st progress work
 
 abbrev μ-loop : tie.MeasureT-loop
-μ-loop s n work₀ progress₀ c₀ i₀ work progress c i = n - i
+μ-loop s n work₀ progress₀ at₀ st₀ i₀ work progress at st i = n - i
 
 loop-holds : tie.Need-loop-holds Inv-loop μ-loop
-loop-holds c = rw (c .first .ensures, c .before .begin .ensures) (head-first _ (short _ (c .before .before .before .before .pre .0)) _)
-
-add-i : tie.Need-add-i Inv-loop μ-loop
-add-i c = omega (arith, c .before .before .before .before .before .before .before .before .loop .inv .few)
-
-loop-less : tie.Need-loop-less Inv-loop μ-loop
-loop-less c = omega arith
-
-loop-again : tie.Need-loop-again Inv-loop μ-loop
-loop-again c =
-    let more = c .before .before .before .before .before .before .before .loop-test .taken in
-    let all = c .before .before .before .before .before .before .before .before .before .before .before .before .before .pre .1 in
-    head-next _ (short _ (c .before .before .before .before .before .before .before .before .before .before .before .before .before .pre .0)) _ _ _ _ _ (c .before .before .before .before .before .before .before .before .loop .inv) (omega arith) _ _ _ (c .before .before .before .before .before .before .advance .ensures) (c .before .before .before .turn .ensures .0) (c .before .before .before .turn .ensures .1)
+loop-holds c = rw (c .begin .ensures) (head-first _ _)
 
 same-length : tie.Need-same-length Inv-loop μ-loop
-same-length c = c .before .loop .inv .stowed .same
+same-length c = c .before .before .before .before .loop .inv .stowed .same
 
 returns : tie.Need-returns Inv-loop μ-loop
 returns c =
+    let loop = c .before .before .before .before .loop in
+    let start = c .before .before .before .before .before .before .before .before in
+    let more = c .before .before .before .loop-test .taken in
+    let all = start .pre .1 in
+    absurd
+    (head-more _ (short _ (start .pre .0)) _ _ _ _ _ _ (loop .inv) (omega arith) _ (c .before .before .next-unit .ensures)
+    (λ u place to q. omega (arith, rw q at (c .before .match .keys2))))
+
+add-i : tie.Need-add-i Inv-loop μ-loop
+add-i c = omega (arith, c .before .before .before .before .before .before .before .before .before .loop .inv .few)
+
+loop-again : tie.Need-loop-again Inv-loop μ-loop
+loop-again c =
+    let loop = c .before .before .before .before .before .before .before .before .before .loop in
+    let start = c .before .before .before .before .before .before .before .before .before .before .before .before .before in
+    let more = c .before .before .before .before .before .before .before .before .loop-test .taken in
+    let all = start .pre .1 in
+    head-next _ (short _ (start .pre .0)) _ _ _ _ _ _ (loop .inv) (omega arith) _ _ _ _ _ _ (c .before .before .before .before .before .before .before .next-unit .ensures) (c .before .before .before .before .before .o .given .1)
+    (c .before .before .turn .ensures .0) (c .before .before .turn .ensures .1)
+
+same-length-2 : tie.Need-same-length-2 Inv-loop μ-loop
+same-length-2 c = c .before .loop .inv .stowed .same
+
+returns-2 : tie.Need-returns-2 Inv-loop μ-loop
+returns-2 c =
     let few = c .before .loop .inv .few in
-    let all = c .before .before .before .before .before .before .pre .1 in
-    let e : c .before .loop .i ≡ c .before .before .before .before .before .before .args .n = omega arith in
+    let all = c .before .before .before .before .before .pre .1 in
+    let e : c .before .loop .i ≡ c .before .before .before .before .before .args .n = omega arith in
     (rw e at (c .before .loop .inv .checked), rw e at (c .before .loop .inv .stowed))
 
 pub stow-spec : {M : Type 1} → statement M
@@ -46,12 +59,15 @@ stow-spec =
     Inv-loop
     μ-loop
     (search needs)
-    (search needs)
     loop-holds
     (search needs)
     (search needs)
-    add-i
-    loop-less
-    loop-again
+    (search needs)
     same-length
-    returns)
+    returns
+    (search needs)
+    add-i
+    (λ c. omega arith)
+    loop-again
+    same-length-2
+    returns-2)
