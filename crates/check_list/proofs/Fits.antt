@@ -17,9 +17,9 @@ use Rattle.charset.proofs.Laws.{narrow-form, wide-form}
 use Rattle.grammar.specs.Units.{TextUnit, char, space, control, ext, controlOf, unitOf, codeUsed, segment, good}
 use Rattle.grammar.proofs.Good.{one-code, two-code, GoodSegment, good-segment}
 use Rattle.grammar.specs.Records.{readable, unitRead}
-use Rattle.rows.specs.Rows.{countOf, unitTagged, tagOf, numberOf}
-use Rattle.rows.proofs.Units.{unit-segment}
-use Rattle.check_list.specs.Row.{Stowable}
+use Rattle.rows.specs.Rows.{countOf, textTagged, unitTagged, tagOf, numberOf}
+use Rattle.rows.proofs.Units.{unit-text, unit-segment, unit-mark, mark-of-kind}
+use Rattle.rows.specs.Stowable.{Stowable}
 
 -- ---- what a good unit's record is
 
@@ -38,10 +38,11 @@ no-segment r k e h = record { one-of-eight = omega arith; low = λ q. absurd (om
 
 module _ (o : List ℕ) (r : UnitRecord) (u : TextUnit) (g : good u ≡ true) where
   fits-character : r .kind ≡ kind.character → char (r .set) (r .code) ≡ u → Fits o r u
-  unfolding tagOf numberOf pick good unitTagged
+  unfolding tagOf numberOf pick good textTagged
   fits-character q s =
       record {
-        unit = tagged o r u (r .set) (r .code) (rw q) (rw q) (unit (ltb (r .set) 12) refl);
+        unit = tagged o r u (r .set) (r .code) (rw q) (rw q)
+            (unit-text o (r .set) (r .code / 256) (r .code % 256) (r .start) (omega (arith, below)) ∙ text (ltb (r .set) 12) refl);
         stowable = no-segment r 0 q (omega arith);
       }
     where
@@ -54,16 +55,18 @@ module _ (o : List ℕ) (r : UnitRecord) (u : TextUnit) (g : good u ≡ true) wh
       used : codeUsed (formOf (r .set)) (r .code) ≡ true
       used = and-right (ltb (r .set) 15) (codeUsed (formOf (r .set)) (r .code)) g′
 
-      unit : (b : Bool) → ltb (r .set) 12 ≡ b → unitTagged o (r .set) (r .code / 256) (r .code % 256) (r .start) ≡ u
-      unit true p =
+      text : (b : Bool) → ltb (r .set) 12 ≡ b → textTagged (r .set) (r .code / 256) (r .code % 256) ≡ u
+      text true p =
           let l = one-code (formOf (r .set)) (r .code) (narrow-form (r .set) (ltb-true (r .set) 12 p)) used in
           rw p (ap (char (r .set)) (let z : r .code % 256 % 128 ≡ r .code = omega arith in z) ∙ s)
-      unit false p =
+      text false p =
           let l = two-code (formOf (r .set)) (r .code) (wide-form (r .set) (ltb-false (r .set) 12 p) below) used in
-          rw (p, lt-ltb (r .set) 15 below) (ap (char (r .set)) (let z : r .code / 256 % 128 * 256 + r .code % 256 % 128 ≡ r .code = omega (arith, l .0, l .1) in z) ∙ s)
+          rw (p, lt-ltb (r .set) 15 below)
+          (ap (char (r .set)) (let z : r .code / 256 % 128 * 256 + r .code % 256 % 128 ≡ r .code = omega (arith, l .0, l .1) in z) ∙ s)
 
   -- kinds 1 to 6
-  fits-plain : (k : ℕ) (v : TextUnit) → r .kind ≡ k → k < kind.segment → tagOf r ≡ 14 + k → unitTagged o (14 + k) (numberOf r / 256) (numberOf r % 256) (r .start) ≡ v → v ≡ u → Fits o r u
+  fits-plain : (k : ℕ) (v : TextUnit) → r .kind ≡ k → k < kind.segment → tagOf r ≡ 14 + k
+      → unitTagged o (14 + k) (numberOf r / 256) (numberOf r % 256) (r .start) ≡ v → v ≡ u → Fits o r u
   fits-plain k v q h t w s = record { unit = tagged o r u (14 + k) (numberOf r) t refl (w ∙ s); stowable = no-segment r k q h }
 
   fits-segment : r .kind ≡ kind.segment → r .start + r .length ≤ length o → ext (r .code) (take (r .length) (drop (r .start) o)) ≡ u → Fits o r u
@@ -96,11 +99,12 @@ module _ (o : List ℕ) (r : UnitRecord) (u : TextUnit) (g : good u ≡ true) wh
       unit =
           unit-segment o (r .code - 27) (r .length / 256) (r .length % 256) (r .start) (omega (arith, lo)) (omega (arith, hi))
           ∙ ap₂ (λ (m n : ℕ). ext m (take n (drop (r .start) o)))
-          (let z : 27 + (r .code - 27) ≡ r .code = omega (arith, lo) in z) (let z : countOf (r .length / 256) (r .length % 256) ≡ r .length = omega (arith, few) in z)
+          (let z : 27 + (r .code - 27) ≡ r .code = omega (arith, lo) in z)
+          (let z : countOf (r .length / 256) (r .length % 256) ≡ r .length = omega (arith, few) in z)
           ∙ s
 
   pub fits : unitRead o r ≡ some u → Fits o r u
-  unfolding unitRead readable unitOf tagOf numberOf pick unitTagged
+  unfolding unitRead readable unitOf tagOf numberOf pick unitTagged textTagged
   fits e = start (readable o r) refl e
     where
       xs : List ℕ
@@ -109,19 +113,13 @@ module _ (o : List ℕ) (r : UnitRecord) (u : TextUnit) (g : good u ≡ true) wh
       -- kinds 2 to 6
       fits-control : (r .kind ≡ 0 → ⊥) → (r .kind ≡ 1 → ⊥) → r .kind < 7 → control (controlOf (r .kind)) ≡ u → Fits o r u
       fits-control n m h s =
-          let k : 14 + r .kind - 14 ≡ r .kind = omega arith in
           fits-plain (r .kind) (control (controlOf (r .kind))) refl h
           (rw (ne-eqb (r .kind) 0 n, ne-eqb (r .kind) 7 (λ e. omega arith)))
-          (rw (
-            le-ltb (14 + r .kind) 12 (omega arith),
-            le-ltb (14 + r .kind) 15 (omega arith),
-            ne-eqb (14 + r .kind) 15 (λ e. omega arith),
-            lt-leb 21 (14 + r .kind) (omega arith),
-            k,
-          ))
+          (unit-mark o (14 + r .kind) (numberOf r / 256) (numberOf r % 256) (r .start) (omega arith) (λ l k. omega arith) ∙ mark-of-kind (r .kind))
           s
 
-      last : (b : Bool) → eqb (r .kind) 7 ≡ b → 7 ≤ r .kind → cond b (leb (r .start + r .length) (length o)) (ltb (r .kind) 7) ≡ true → ext (r .code) xs ≡ u → Fits o r u
+      last : (b : Bool) → eqb (r .kind) 7 ≡ b → 7 ≤ r .kind → cond b (leb (r .start + r .length) (length o)) (ltb (r .kind) 7) ≡ true
+          → ext (r .code) xs ≡ u → Fits o r u
       last true q n h s = fits-segment (eqb-true (r .kind) 7 q) (leb-true (r .start + r .length) (length o) h) s
       last false q n h s = absurd (let l = ltb-true (r .kind) 7 h in omega arith)
 

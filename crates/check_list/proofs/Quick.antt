@@ -22,11 +22,11 @@ use Rattle.grammar.specs.Units.{codeUsed}
 use Rattle.grammar.specs.Records.{unitRead}
 use Rattle.shortest.specs.Records.{fault}
 use Rattle.rows.specs.Rows.{withRecord}
-use Rattle.check_list.specs.Row.{Stowable}
+use Rattle.rows.specs.Stowable.{Stowable}
 use Rattle.check_list.specs.Turn.{onFault, turnOf, roomAfter, quickAfter}
 use Rattle.check_list.specs.declared.Progress.{Progress}
 use Rattle.check_list.specs.declared.Progress.the-variants.{Fine, Faulty}
-use Rattle.check_list.specs.Plain.{twoOctets, wider, lowFrom, highFrom, usedBy, setBy, codeBy, plainOf, settledOf}
+use Rattle.check_list.specs.Plain.{isDouble, wider, lowFrom, highFrom, usedBy, setBy, codeBy, plainOf, settledByText}
 use Rattle.check_list.proofs.Refusals.{kind-character, kind-plain, code-fits}
 
 -- ---- a code
@@ -39,7 +39,7 @@ record Within (c k : ℕ) : Type 0 where
   whole : k < 0x10000
   set : c < no-set
   low : lowFrom c k ≤ 0x5D + 2 * wider c
-  high : highFrom c k ≤ 0x5D * twoOctets c
+  high : highFrom c k ≤ 0x5D * isDouble c
 
 within : (c k : ℕ) → usedBy c k ≡ true → Within c k
 unfolding usedBy
@@ -51,14 +51,17 @@ within c k e =
       whole = leb-false 0x10000 k (a .0);
       set = leb-false no-set c (b .0);
       low = ltb-false (0x5D + 2 * wider c) (lowFrom c k) (d .0);
-      high = leb-true (highFrom c k) (0x5D * twoOctets c) (d .1);
+      high = leb-true (highFrom c k) (0x5D * isDouble c) (d .1);
     }
 
 -- by the form of the set
-bounded : (c k t m : ℕ) → Within c k → twoOctets c ≡ t → wider c ≡ m
+bounded : (c k t m : ℕ) → Within c k → isDouble c ≡ t → wider c ≡ m
     → ((k % 256 + 223 + m) % 256 ≤ 0x5D + 2 * m) × ((k / 256 + 256 - 0x21 * t) % 256 ≤ 0x5D * t) × (k < 0x10000)
-bounded c k t m w et em =
-    (subst (λ (m : ℕ). (k % 256 + 223 + m) % 256 ≤ 0x5D + 2 * m) em (w .low), subst (λ (t : ℕ). (k / 256 + 256 - 0x21 * t) % 256 ≤ 0x5D * t) et (w .high), w .whole)
+bounded c k t m w et em = (
+  subst (λ (m : ℕ). (k % 256 + 223 + m) % 256 ≤ 0x5D + 2 * m) em (w .low),
+  subst (λ (t : ℕ). (k / 256 + 256 - 0x21 * t) % 256 ≤ 0x5D * t) et (w .high),
+  w .whole,
+)
 
 code-used : (c k : ℕ) → Within c k → codeUsed (formOf c) k ≡ true
 unfolding formRule codeUsed pick
@@ -81,14 +84,14 @@ code-used c k w = rw (← form-rule c) (go (ltb c 3) refl (ltb c 12) refl)
 
 -- ---- the directions
 
-settled-written : (d : Directions) → settledOf d ≡ true → writtenOf d ≡ Goes d
-unfolding settledOf writtenOf pick
+settled-written : (d : Directions) → settledByText d ≡ true → writtenOf d ≡ Goes d
+unfolding settledByText writtenOf pick
 settled-written d e =
     let p = pick-last (d .marked) (d .texted) e in
     let texted : true ≡ d .texted = sym (p .1) in
     rw (p .0) (ap Goes (λ i. record { depth = d .depth; levels = d .levels; marked = false; texted = texted i }))
 
-text-goes : (k : ℕ) (d : Directions) → k < 2 → settledOf d ≡ true → stepOf (countsAsText k 0) k d ≡ Goes d
+text-goes : (k : ℕ) (d : Directions) → k < 2 → settledByText d ≡ true → stepOf (countsAsText k 0) k d ≡ Goes d
 unfolding stepOf pick
 text-goes k d h e = rw (lt-ltb k 2 h) (settled-written d e)
 
@@ -105,7 +108,7 @@ plain-stowable r e = go (leb (r .kind) 1) refl
         record { one-of-eight = omega arith; low = λ z. absurd (omega arith); high = λ z. absurd (omega arith); few = λ z. absurd (omega arith) }
     go false p = absurd (false≢true (rw p at e))
 
-pub plain-goes : (o : List ℕ) (r : UnitRecord) (d : Directions) → settledOf d ≡ true → plainOf r ≡ true → fault (unitRead o r) d ≡ Goes d
+pub plain-goes : (o : List ℕ) (r : UnitRecord) (d : Directions) → settledByText d ≡ true → plainOf r ≡ true → fault (unitRead o r) d ≡ Goes d
 unfolding plainOf setBy codeBy pick
 plain-goes o r d s e = go (leb (r .kind) 1) refl (eqb (r .kind) 1) refl
   where
@@ -118,7 +121,8 @@ plain-goes o r d s e = go (leb (r .kind) 1) refl (eqb (r .kind) 1) refl
         let n = eqb-false (r .kind) 1 q in
         let k : r .kind ≡ kind.character = omega arith in
         let w = within (r .set) (r .code) (rw (p, q) at e) in
-        sym (kind-character o r d k) ∙ sym (code-fits (r .set) (r .code) d (w .set) (code-used (r .set) (r .code) w)) ∙ text-goes kind.character d (omega arith) s
+        sym (kind-character o r d k) ∙ sym (code-fits (r .set) (r .code) d (w .set) (code-used (r .set) (r .code) w))
+        ∙ text-goes kind.character d (omega arith) s
     go false p u q = absurd (false≢true (rw p at e))
 
 -- ---- a turn

@@ -1,28 +1,29 @@
 -- The refusals of a record, case by case: by its kind, of a character, of a segment; and that a record that is not refused fits a row.
-use Prim.Native.Nat.{ℕ, _+_, _≤_, _<_}
+use Prim.Native.Nat.{ℕ, _+_, _-_, _≤_, _<_}
 use native.Mathlib.Omega.{arith}
 use mathlib.Core.Path.{_≡_, refl, sym, ap, _∙_}
 use mathlib.Core.Bool.{Bool, true, false, cond}
 use mathlib.Core.List.{List}
 use mathlib.Core.Option.{Option, none, some}
 use lib.Dec.{eqb, leb}
-use lib.ListN.{length, take, drop}
+use lib.ListN.{length, take, drop, length-take, length-drop}
 use borrow.Author.Tests.{eqb-true, eqb-false, ne-eqb, le-leb, lt-leb, le-ltb, lt-ltb}
+use Rattle.base.proofs.Ladder.{on-le, on-gt}
 use Rattle.base.specs.Choice.{pick}
 use Rattle.base.specs.Kind as kind
 use Rattle.base.specs.Refusal as refusal
 use Rattle.base.specs.declared.Unit.{Unit as UnitRecord}
 use Rattle.charset.specs.Charsets.{no-set, formOf}
+use Rattle.segment.specs.declared.Name.{Name}
 use Rattle.segment.specs.Segment.{segmentPart, nameOf, contentOf}
 use Rattle.state.specs.Directions.{countsAsText, stepOf}
 use Rattle.state.specs.Elements.{refused}
-use Rattle.state.specs.State.{fresh}
-use Rattle.state.specs.declared.State.{State}
 use Rattle.state.specs.declared.directions.Directions.{Directions}
+use Rattle.state.specs.declared.directions.Step.{Step}
 use Rattle.state.specs.declared.directions.Step.the-variants.{Goes, Stops}
 use Rattle.state.specs.declared.elements.Part.{Part}
-use Rattle.state.specs.declared.elements.Element.{Element}
-use Rattle.state.specs.declared.elements.Element.the-variants.{End, Refused, Silent, Found}
+use Rattle.state.specs.declared.elements.Shape.{Shape}
+use Rattle.state.specs.declared.elements.Shape.the-variants.{Gives}
 use Rattle.grammar.specs.Units.{TextUnit, char, ext, unitOf, textOctets, codeUsed, segment, good}
 use Rattle.grammar.specs.Reading.{direct}
 use Rattle.grammar.proofs.Segment.{content}
@@ -54,7 +55,8 @@ module _ (o : List ℕ) (r : UnitRecord) (d : Directions) where
           rw (six (eqb-false (r .kind) 1 q1) (eqb-false (r .kind) 2 q2) (eqb-false (r .kind) 3 q3) (eqb-false (r .kind) 4 q4) (eqb-false (r .kind) 5 q5))
 
   pub kind-segment : r .kind ≡ kind.segment
-      → pick (leb (r .start + r .length) (length o)) (fault (some (ext (r .code) (take (r .length) (drop (r .start) o)))) d) (Stops refusal.bad-unit) ≡ fault (unitRead o r) d
+      → pick (leb (r .start + r .length) (length o)) (fault (some (ext (r .code) (take (r .length) (drop (r .start) o)))) d) (Stops refusal.bad-unit)
+      ≡ fault (unitRead o r) d
   unfolding unitRead readable unitOf pick
   kind-segment e = rw e (go (leb (r .start + r .length) (length o)))
     where
@@ -85,33 +87,33 @@ module _ (c k : ℕ) (d : Directions) where
 -- ---- an extended segment
 
 module _ (e : ℕ) (xs : List ℕ) (d : Directions) where
-  pub d-low : e < 0x30 → Stops refusal.bad-unit ≡ fault (some (ext e xs)) d
+  d-low : e < 0x30 → Stops refusal.bad-unit ≡ fault (some (ext e xs)) d
   unfolding good
   d-low h = rw (lt-leb 0x30 e h)
 
-  pub d-high : 0x30 ≤ e → 0x34 < e → Stops refusal.bad-unit ≡ fault (some (ext e xs)) d
+  d-high : 0x30 ≤ e → 0x34 < e → Stops refusal.bad-unit ≡ fault (some (ext e xs)) d
   unfolding good
   d-high l h = rw (le-leb 0x30 e l, lt-leb e 0x34 h)
 
   module _ (l : 0x30 ≤ e) (h : e ≤ 0x34) where
-    pub too-many : 16383 < length xs → Stops refusal.bad-segment ≡ fault (some (ext e xs)) d
+    too-many : 16383 < length xs → Stops refusal.bad-segment ≡ fault (some (ext e xs)) d
     unfolding good
     too-many m = rw (le-leb 0x30 e l, le-leb e 0x34 h, lt-leb (length xs) 16383 m)
 
-    module _ (m : length xs ≤ 16383) (n : ℕ) (en : n ≡ length xs) (x : Element) (ex : x ≡ contentOf e n (nameOf xs 0) fresh) where
-      by-content : x ≡ pick (segment e 0 xs) (Found (segmentPart e n (textOctets xs)) fresh) (refused refusal.bad-segment)
-      by-content = let z : n ≡ 0 + length xs = omega arith in ex ∙ content e n fresh xs 0 z
+    module _ (m : length xs ≤ 16383) (n : ℕ) (en : n ≡ length xs) (x : Shape) (ex : x ≡ contentOf e n (nameOf xs 0)) where
+      by-content : x ≡ pick (segment e 0 xs) (Gives (segmentPart e n (textOctets xs))) (refused refusal.bad-segment)
+      by-content = let z : n ≡ 0 + length xs = omega arith in ex ∙ content e n xs 0 z
 
       judged : (b : Bool) → segment e 0 xs ≡ b → cond b (direct d (ext e xs)) (Stops refusal.bad-segment) ≡ fault (some (ext e xs)) d
       unfolding good
       judged true q = rw (le-leb 0x30 e l, le-leb e 0x34 h, le-leb (length xs) 16383 m, q)
       judged false q = rw (le-leb 0x30 e l, le-leb e 0x34 h, le-leb (length xs) 16383 m, q)
 
-      pub content-found : (p : Part) (st : State) → x ≡ Found p st → stepOf (p .text) kind.segment d ≡ fault (some (ext e xs)) d
+      content-found : (p : Part) → x ≡ Gives p → stepOf (p .text) kind.segment d ≡ fault (some (ext e xs)) d
       unfolding pick
-      content-found p st q = go (segment e 0 xs) refl (sym q ∙ by-content)
+      content-found p q = go (segment e 0 xs) refl (sym q ∙ by-content)
         where
-          go : (b : Bool) → segment e 0 xs ≡ b → Found p st ≡ pick b (Found (segmentPart e n (textOctets xs)) fresh) (refused refusal.bad-segment)
+          go : (b : Bool) → segment e 0 xs ≡ b → Gives p ≡ pick b (Gives (segmentPart e n (textOctets xs))) (refused refusal.bad-segment)
               → stepOf (p .text) kind.segment d ≡ fault (some (ext e xs)) d
           go true s f =
               let t : p ≡ segmentPart e n (textOctets xs) = cc in
@@ -120,22 +122,56 @@ module _ (e : ℕ) (xs : List ℕ) (d : Directions) where
               let z : _≡_ {A = ℕ} 0 1 = cc in
               absurd (omega arith)
 
-      pub content-bad : ((p : Part) (st : State) → x ≡ Found p st → ⊥) → Stops refusal.bad-segment ≡ fault (some (ext e xs)) d
+      content-bad : ((p : Part) → x ≡ Gives p → ⊥) → Stops refusal.bad-segment ≡ fault (some (ext e xs)) d
       unfolding pick
       content-bad never = go (segment e 0 xs) refl by-content
         where
-          go : (b : Bool) → segment e 0 xs ≡ b → x ≡ pick b (Found (segmentPart e n (textOctets xs)) fresh) (refused refusal.bad-segment) → Stops refusal.bad-segment ≡ fault (some (ext e xs)) d
-          go true s f = absurd (never _ _ f)
+          go : (b : Bool) → segment e 0 xs ≡ b → x ≡ pick b (Gives (segmentPart e n (textOctets xs))) (refused refusal.bad-segment)
+              → Stops refusal.bad-segment ≡ fault (some (ext e xs)) d
+          go true s f = absurd (never _ f)
           go false s f = judged false s
 
-pub end-not-found : (p : Part) (st : State) → End ≡ Found p st → ⊥
-end-not-found p st e = let z : _≡_ {A = ℕ} 0 1 = cc in omega arith
+-- ---- a segment's part of the octets lent
 
-pub refused-not-found : (n k : ℕ) (p : Part) (st : State) → Refused n k ≡ Found p st → ⊥
-refused-not-found n k p st e = let z : _≡_ {A = ℕ} 0 1 = cc in omega arith
+module _ (o : List ℕ) (e s n : ℕ) (d : Directions) where
+  abbrev part : List ℕ
+  part = take n (drop s o)
 
-pub silent-not-found : (n : ℕ) (s : State) (p : Part) (st : State) → Silent n s ≡ Found p st → ⊥
-silent-not-found n s p st e = let z : _≡_ {A = ℕ} 0 1 = cc in omega arith
+  abbrev pub partFault : Step
+  partFault = pick (leb (s + n) (length o)) (fault (some (ext e part)) d) (Stops refusal.bad-unit)
+
+  pub part-outside : length o < s + n → Stops refusal.bad-unit ≡ partFault
+  part-outside h = on-gt (s + n) (length o) _ _ _ h refl
+
+  module _ (starts : s ≤ length o) (ends : n ≤ length o - s) where
+    inside : (x : Step) → x ≡ fault (some (ext e part)) d → x ≡ partFault
+    inside x q = on-le (s + n) (length o) _ _ _ (omega arith) q
+
+    count : n ≡ length part
+    count = simp (length-take, length-drop) (omega arith)
+
+    pub part-low : e < 0x30 → Stops refusal.bad-unit ≡ partFault
+    part-low h = inside _ (d-low e part d h)
+
+    pub part-high : 0x30 ≤ e → 0x34 < e → Stops refusal.bad-unit ≡ partFault
+    part-high l h = inside _ (d-high e part d l h)
+
+    module _ (l : 0x30 ≤ e) (h : e ≤ 0x34) where
+      pub part-many : 16383 < n → Stops refusal.bad-segment ≡ partFault
+      part-many m = inside _ (too-many e part d l h (omega (arith, count)))
+
+      -- x is what the segment's content is found to be, by where the name in its octets ends
+      module _ (m : n ≤ 16383) (x : Shape) (k : Name) (ek : k ≡ nameOf (take (s + n - s) (drop s o)) 0) (ex : x ≡ contentOf e n k) where
+        content-is : x ≡ contentOf e n (nameOf part 0)
+        content-is =
+            let back : s + n - s ≡ n = omega arith in
+            ex ∙ ap (λ (y : Name). contentOf e n y) (ek ∙ ap (λ (y : ℕ). nameOf (take y (drop s o)) 0) back)
+
+        pub part-found : (p : Part) → x ≡ Gives p → stepOf (p .text) kind.segment d ≡ partFault
+        part-found p q = inside _ (content-found e part d l h (omega (arith, count)) n count x content-is p q)
+
+        pub part-bad : ((p : Part) → x ≡ Gives p → ⊥) → Stops refusal.bad-segment ≡ partFault
+        part-bad never = inside _ (content-bad e part d l h (omega (arith, count)) n count x content-is never)
 
 -- ---- a record that is not refused
 

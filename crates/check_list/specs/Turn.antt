@@ -12,7 +12,7 @@ use Rattle.state.specs.declared.directions.Step.the-variants.{Goes, Stops}
 use Rattle.grammar.specs.Records.{unitRead}
 use Rattle.shortest.specs.Records.{fault}
 use Rattle.rows.specs.Rows.{withRecord}
-use Rattle.check_list.specs.Plain.{settledOf}
+use Rattle.check_list.specs.Plain.{settledByText}
 use Rattle.check_list.specs.declared.Progress.{Progress}
 use Rattle.check_list.specs.declared.Progress.the-variants.{Fine, Faulty}
 
@@ -36,7 +36,7 @@ roomAfter (Faulty n j) r i w = w
 
 -- whether a record that the quick check lets through changes nothing but its row
 abbrev pub quickAfter : Progress → Bool
-quickAfter (Fine d) = settledOf d
+quickAfter (Fine d) = settledByText d
 quickAfter (Faulty n j) = false
 
 -- the end of the records from a place on that the quick check may look at

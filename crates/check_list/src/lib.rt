@@ -7,19 +7,19 @@ ghost use Rattle.base.specs.Choice.{pick};
 ghost use Rattle.grammar.specs.Records.{unitRead};
 ghost use Rattle.shortest.specs.Records.{fault};
 ghost use Rattle.rows.specs.Rows.{withRecord};
-ghost use Rattle.check_list.specs.Plain.{settledOf, plainOf};
+ghost use Rattle.check_list.specs.Plain.{settledByText, plainOf};
 ghost use Rattle.check_list.specs.Turn.{begun, turnOf, roomAfter, lookedAt, quickUntil};
 use base::Unit;
 use base::kind;
 use base::limit;
 use base::refusal;
+use rows::record;
 use state::directions::Directions;
 use state::directions::Step;
 use state::directions::counts_as_text;
 
 mod own;
 mod plain;
-mod row;
 
 // How far a list is checked: what the directions are after the last record, or the number and the index of the first that offends.
 pub enum Progress {
@@ -63,7 +63,7 @@ pub fn looked_at(n: usize) -> usize
 
 // Whether text leaves the directions as they are: there was no mark, and there was text.
 fn settled(directions: Directions) -> bool
-    ensures { λ r. ⌜ r ≡ settledOf directions ⌝ }
+    ensures { λ r. ⌜ r ≡ settledByText directions ⌝ }
 {
     if directions.marked {
         return false;
@@ -91,7 +91,7 @@ pub fn quick_turn(unit: Unit, i: usize, work: &mut [u8]) -> bool
     ensures { λ r. ⌜ (r ≡ plainOf unit) × (now (work .exit) ≡ pick (plainOf unit) (withRecord (now (work .entry)) i unit) (now (work .entry))) ⌝ }
 {
     if plain::plain(unit) {
-        row::put(unit, i, work);
+        record::put(unit, i, work);
         return true;
     }
     false
@@ -107,7 +107,7 @@ pub fn turn(progress: Progress, unit: Unit, i: usize, segments: &[u8], work: &mu
             let step = judge(unit, segments, directions);
             match step {
                 Step::Goes(next) => {
-                    row::put(unit, i, work);
+                    record::put(unit, i, work);
                     Progress::Fine(next)
                 }
                 Step::Stops(number) => Progress::Faulty(number, i),

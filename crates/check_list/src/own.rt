@@ -18,11 +18,10 @@ use charset::NO_SET;
 use charset::form_of;
 use segment::content;
 use segment::name_end;
-use state::State;
 use state::directions::Directions;
 use state::directions::Step;
 use state::directions::counts_as_text;
-use state::elements::Element;
+use state::elements::Shape;
 
 // A code of one octet that a set of 94 uses.
 fn graphic(code: u16) -> bool
@@ -68,7 +67,8 @@ pub fn character(set: u8, code: u16, directions: Directions) -> Step
 
 // An extended segment of n octets that start at a place of those lent.
 pub fn segment(d: u16, start: usize, n: usize, segments: &[u8], directions: Directions) -> Step
-    ensures { λ r. ⌜ r ≡ pick (leb (start + n) (length (now (segments .entry)))) (fault (some (ext d (take n (drop start (now (segments .entry)))))) directions) (Stops refusals.bad-unit) ⌝ }
+    ensures { λ r. ⌜ r ≡ pick (leb (start + n) (length (now (segments .entry))))
+        (fault (some (ext d (take n (drop start (now (segments .entry)))))) directions) (Stops refusals.bad-unit) ⌝ }
 {
     let m = segments.len();
     if m < start {
@@ -87,11 +87,9 @@ pub fn segment(d: u16, start: usize, n: usize, segments: &[u8], directions: Dire
         return Step::Stops(refusal::BAD_SEGMENT);
     }
     let name = name_end(&segments[start..start + n]);
-    let element = content(d as u8, n, name, State::FRESH);
-    match element {
-        Element::Found(part, _) => directions.step(part.text, kind::SEGMENT),
-        Element::End => Step::Stops(refusal::BAD_SEGMENT),
-        Element::Refused(_, _) => Step::Stops(refusal::BAD_SEGMENT),
-        Element::Silent(_, _) => Step::Stops(refusal::BAD_SEGMENT),
-    }
+    let shape = content(d as u8, n, name);
+    let Shape::Gives(part) = shape else {
+        return Step::Stops(refusal::BAD_SEGMENT);
+    };
+    directions.step(part.text, kind::SEGMENT)
 }

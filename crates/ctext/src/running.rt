@@ -1,13 +1,12 @@
 // The runs of a string one after the other, for C: the caller keeps the string, and this value beside it.
 ghost use mathlib.Core.Path.{_≡_};
 ghost use Rattle.ctext.specs.Running.{positionIn, packed, opened, nextOf};
+use crate::stepping::flag;
 use runs::Bounds;
 use runs::stepping::RunPosition;
 use state::Sets;
 use state::State;
 use state::directions::Directions;
-
-use crate::stepping::flag;
 
 // Where a reader of runs stands: its place, the sets in force and the open directions, and whether the whole string is known to be
 // accepted. A flag is 0 for no, and anything else for yes.

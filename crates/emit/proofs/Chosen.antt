@@ -1,15 +1,18 @@
 -- The choice by tests on the two numbers and on what a row keeps.
 use mathlib.Core.Path.{_≡_, refl, _∙_}
 use mathlib.Core.Bool.{Bool, true, false, cond, _||_, Bool·beq, or-true}
-use mathlib.Core.List.{List}
+use mathlib.Core.List.{List, []}
 use Prim.Native.Nat.{ℕ, _+_, _/_, _%_, _≤_, _<_}
 use lib.ListN.{getD}
 use lib.Dec.{eqb, leb}
-use borrow.Author.Tests.{eq-eqb, ne-eqb, lt-ltb, le-ltb, le-leb, lt-leb}
+use borrow.Author.Tests.{eq-eqb, ne-eqb, le-leb, lt-leb}
 use Rattle.base.proofs.Bools.{implies, implies-elim, up-to, upTo}
-use Rattle.plan.specs.Numbers.{setsInGL, servedInGL, servedInGR, afterFirst, afterSecond, chosenBy}
-use Rattle.plan.specs.Costs.{secondSlot}
-use Rattle.plan.proofs.Numbers.{beq-eq}
+use Rattle.state.specs.State.{on}
+use Rattle.grammar.specs.Units.{designation}
+use Rattle.shortest.specs.Writing.{designated}
+use Rattle.numbers.specs.Numbers.{setsInGL, setsInGR, servedInGL, servedInGR, afterFirst, afterSecond, chosenBy, change}
+use Rattle.octets.specs.Octets.{sideOf}
+use Rattle.numbers.proofs.Numbers.{beq-eq}
 
 pub first-stays : (x k a u v : ℕ) → a ≡ afterFirst x k → a ≡ k → k ≡ chosenBy x k u v
 unfolding chosenBy
@@ -29,7 +32,8 @@ all-stay = refl
 stands-stays : (x k u v : ℕ) → x < 17 → k < 80 → stands x k ≡ true → k ≡ chosenBy x k u v
 unfolding chosenBy
 stands-stays x k u v hx hk e =
-    rw (implies-elim (stands x k) (stays x k) (up-to 80 (λ m. implies (stands x m) (stays x m)) (up-to 17 (λ y. upTo 80 (λ m. implies (stands y m) (stays y m))) all-stay x hx) k hk) e)
+    rw (implies-elim (stands x k) (stays x k)
+    (up-to 80 (λ m. implies (stands x m) (stays x m)) (up-to 17 (λ y. upTo 80 (λ m. implies (stands y m) (stays y m))) all-stay x hx) k hk) e)
 
 pub gl-stays : (x k l u v : ℕ) → x < 17 → k < 80 → l ≡ getD servedInGL x 0 → k / 16 ≡ l → k ≡ chosenBy x k u v
 gl-stays x k l u v hx hk el e = stands-stays x k u v hx hk (rw (eq-eqb (k / 16) (getD servedInGL x 0) (e ∙ el)))
@@ -44,33 +48,36 @@ sided = refl
 pub its-place : (x g : ℕ) → x < 15 → g < 5 → eqb g (getD servedInGL x 0) ≡ eqb (getD setsInGL g 0) x
 its-place x g hx hg =
     beq-eq (eqb g (getD servedInGL x 0)) (eqb (getD setsInGL g 0) x)
-    (up-to 5 (λ m. Bool·beq (eqb m (getD servedInGL x 0)) (eqb (getD setsInGL m 0) x)) (up-to 15 (λ y. upTo 5 (λ m. Bool·beq (eqb m (getD servedInGL y 0)) (eqb (getD setsInGL m 0) y))) sided x hx) g hg)
+    (up-to 5 (λ m. Bool·beq (eqb m (getD servedInGL x 0)) (eqb (getD setsInGL m 0) x))
+    (up-to 15 (λ y. upTo 5 (λ m. Bool·beq (eqb m (getD servedInGL y 0)) (eqb (getD setsInGL m 0) y))) sided x hx) g hg)
 
-module _ (x k a b : ℕ) (w : List ℕ) (row : ℕ) (ea : a ≡ afterFirst x k) (eb : b ≡ afterSecond x k) where
-  abbrev u : ℕ
-  u = getD w (row + k % 16) 0
-
-  pub second-stays : b ≡ k → k ≡ chosenBy x k u (getD w (row + secondSlot x k) 0)
+module _ (x k a b u v : ℕ) (ea : a ≡ afterFirst x k) (eb : b ≡ afterSecond x k) where
+  pub second-stays : b ≡ k → k ≡ chosenBy x k u v
   unfolding chosenBy
   second-stays e = rw (← ea, ← eb, eq-eqb b k e) (both (eqb a k))
     where
-      both : (z : Bool) → k ≡ cond (z || true) k (cond (leb u (getD w (row + secondSlot x k) 0)) a b)
+      both : (z : Bool) → k ≡ cond (z || true) k (cond (leb u v) a b)
       both true = refl
       both false = refl
 
   module _ (n : a ≡ k → ⊥) (m : b ≡ k → ⊥) where
-    pub character-first : x < 15 → u ≤ getD w (row + (16 + k / 16)) 0 → a ≡ chosenBy x k u (getD w (row + secondSlot x k) 0)
+    pub first-taken : u ≤ v → a ≡ chosenBy x k u v
     unfolding chosenBy
-    character-first h l = rw (← ea, ← eb, ne-eqb a k n, ne-eqb b k m, lt-ltb x 15 h, le-leb u (getD w (row + (16 + k / 16)) 0) l)
+    first-taken l = rw (← ea, ← eb, ne-eqb a k n, ne-eqb b k m, le-leb u v l)
 
-    pub character-second : x < 15 → getD w (row + (16 + k / 16)) 0 < u → b ≡ chosenBy x k u (getD w (row + secondSlot x k) 0)
+    pub second-taken : v < u → b ≡ chosenBy x k u v
     unfolding chosenBy
-    character-second h l = rw (← ea, ← eb, ne-eqb a k n, ne-eqb b k m, lt-ltb x 15 h, lt-leb u (getD w (row + (16 + k / 16)) 0) l)
+    second-taken l = rw (← ea, ← eb, ne-eqb a k n, ne-eqb b k m, lt-leb u v l)
 
-    pub space-first : 15 ≤ x → u ≤ getD w (row + (16 + k % 16)) 0 → a ≡ chosenBy x k u (getD w (row + secondSlot x k) 0)
-    unfolding chosenBy
-    space-first h l = rw (← ea, ← eb, ne-eqb a k n, ne-eqb b k m, le-ltb x 15 h, le-leb u (getD w (row + (16 + k % 16)) 0) l)
+-- the designation that makes number k number j, by tests on the numbers
+pub change-none : (k j : ℕ) → j ≡ k → designated (change k j) ≡ []
+unfolding change
+change-none k j e = rw (eq-eqb j k e)
 
-    pub space-second : 15 ≤ x → getD w (row + (16 + k % 16)) 0 < u → b ≡ chosenBy x k u (getD w (row + secondSlot x k) 0)
-    unfolding chosenBy
-    space-second h l = rw (← ea, ← eb, ne-eqb a k n, ne-eqb b k m, le-ltb x 15 h, lt-leb u (getD w (row + (16 + k % 16)) 0) l)
+pub change-gr : (k j c : ℕ) → (j ≡ k → ⊥) → j / 16 ≡ k / 16 → c ≡ getD setsInGR (j % 16) 0 → designated (change k j) ≡ designation (on (sideOf false) c)
+unfolding change
+change-gr k j c n e q = rw (ne-eqb j k n, eq-eqb (j / 16) (k / 16) e, q)
+
+pub change-gl : (k j c : ℕ) → (j ≡ k → ⊥) → (j / 16 ≡ k / 16 → ⊥) → c ≡ getD setsInGL (j / 16) 0 → designated (change k j) ≡ designation (on (sideOf true) c)
+unfolding change
+change-gl k j c n e q = rw (ne-eqb j k n, ne-eqb (j / 16) (k / 16) e, q)

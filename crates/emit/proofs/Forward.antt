@@ -15,32 +15,22 @@ use Rattle.state.specs.declared.Sets.{Sets}
 use Rattle.grammar.specs.Units.{TextUnit, octets}
 use Rattle.shortest.specs.Writing.{Need, choose, after, met, need, cost, used, designated, writing}
 use Rattle.shortest.proofs.Needs.{chosen-met}
-use Rattle.rows.specs.Rows.{tagAt, startFrom, unitTagged, unitFrom, unitsIn}
-use Rattle.plan.specs.Numbers.{servedInGL, numbered, classOf, needOfClass, afterFirst, afterSecond, chosenBy, afterChoice, change, sideAt}
-use Rattle.plan.specs.Costs.{restFrom, secondSlot}
-use Rattle.plan.proofs.Numbers.{Choice, choice-at, chosen-base, chosen-single, chosen-free, used-side}
+use Rattle.rows.specs.Rows.{tagAt, highOctet, lowOctet, startFrom, unitFrom, unitsIn}
+use Rattle.numbers.specs.Numbers.{servedInGL, numbered, classOf, needOfClass, afterFirst, afterSecond, chosenBy, afterChoice, change, sideAt}
+use Rattle.costs.specs.Costs.{secondSlot}
+use Rattle.plan.specs.Plan.{restFrom}
+use Rattle.numbers.proofs.Numbers.{Choice, choice-at, chosen-base, chosen-single, chosen-free, used-side}
 use Rattle.plan.proofs.Units.{need-tagged}
 use Rattle.plan.proofs.Rest.{class-below, fresh-number}
-use Rattle.emit.specs.Emit.{Written, sideOf, Ready}
+use Rattle.octets.specs.Octets.{Written, sideOf}
+use Rattle.emit.specs.Emit.{Ready}
 use Rattle.emit.proofs.Chosen.{its-place}
-use Rattle.emit.proofs.Stores.{written-both, written-none, written-length, written-as, segment-octets, fixed-octets}
-
--- the octets of a unit that is no character are the same on each side
-side-free : (o : List ℕ) (t a b s : ℕ) (d e : Side) → 15 ≤ t → octets d (unitTagged o t a b s) ≡ octets e (unitTagged o t a b s)
-side-free o t a b s d e h = go (ltb t 21) refl (ltb t 26) refl
-  where
-    go : (p : Bool) → ltb t 21 ≡ p → (q : Bool) → ltb t 26 ≡ q → octets d (unitTagged o t a b s) ≡ octets e (unitTagged o t a b s)
-    go true p q r =
-        let l = ltb-true t 21 p in
-        fixed-octets o d t a b s h (λ x y. omega arith) ∙ sym (fixed-octets o e t a b s h (λ x y. omega arith))
-    go false p true r =
-        segment-octets o d t a b s _ _ refl refl (ltb-false t 21 p) (ltb-true t 26 r) ∙ sym (segment-octets o e t a b s _ _ refl refl (ltb-false t 21 p) (ltb-true t 26 r))
-    go false p false r =
-        let l = ltb-false t 26 r in
-        fixed-octets o d t a b s h (λ x y. omega arith) ∙ sym (fixed-octets o e t a b s h (λ x y. omega arith))
+use Rattle.emit.proofs.Row.{side-free}
+use Rattle.octets.proofs.Stores.{written-both, written-none, written-length, written-as}
 
 -- one turn of the writing
-turn : (u : TextUnit) (us : List TextUnit) (s t : Sets) (p : Option Standing) (d : Side) → choose (need u) (cost us) s ≡ p → after (choose (need u) (cost us) s) s ≡ t
+turn : (u : TextUnit) (us : List TextUnit) (s t : Sets) (p : Option Standing) (d : Side) → choose (need u) (cost us) s ≡ p
+    → after (choose (need u) (cost us) s) s ≡ t
     → octets (used (need u) t) u ≡ octets d u → writing (u ∷ us) s ≡ designated p ++ (octets d u ++ writing us t)
 unfolding writing
 turn u us s t p d ep et ed =
@@ -68,7 +58,7 @@ module _ (o w : List ℕ) (n i k : ℕ) (h : i < n) (hk : k < 80) where
   its-choice = choice-at (cost rest) (λ m. cost rest (numbered m)) (λ j l. refl) x k hk (class-below (tagAt w i))
 
   its-need : need unit ≡ needOfClass x
-  its-need = need-tagged o (tagAt w i) (getD w (72 * i + 66) 0) (getD w (72 * i + 67) 0) (startFrom w (72 * i))
+  its-need = need-tagged o (tagAt w i) (highOctet w (72 * i)) (lowOctet w (72 * i)) (startFrom w (72 * i))
 
   next-met : met (needOfClass x) (numbered next) ≡ true
   next-met = rw (its-choice .state) (chosen-met (needOfClass x) (cost rest) (numbered k))
@@ -78,7 +68,7 @@ module _ (o w : List ℕ) (n i k : ℕ) (h : i < n) (hk : k < 80) where
     where
       go : (b : Bool) → ltb (tagAt w i) 15 ≡ b → octets (used (need unit) (numbered next)) unit ≡ octets (sideAt (tagAt w i) next) unit
       go false e =
-          side-free o (tagAt w i) (getD w (72 * i + 66) 0) (getD w (72 * i + 67) 0) (startFrom w (72 * i)) (used (need unit) (numbered next)) (sideAt (tagAt w i) next) (ltb-false (tagAt w i) 15 e)
+          side-free o w (72 * i) (used (need unit) (numbered next)) (sideAt (tagAt w i) next) (ltb-false (tagAt w i) 15 e)
       go true e =
           let l = ltb-true (tagAt w i) 15 e in
           let c = class-character (tagAt w i) l in
@@ -86,11 +76,13 @@ module _ (o w : List ℕ) (n i k : ℕ) (h : i < n) (hk : k < 80) where
           (ap (λ (q : Need). used q (numbered next)) (its-need ∙ ap needOfClass c)
           ∙ used-side (tagAt w i) next l (its-choice .below) (subst (λ (y : ℕ). met (needOfClass y) (numbered next) ≡ true) c next-met))
 
-  write-step : writing (unitsIn o w i (n - i)) (numbered k) ≡ designated (change k next) ++ (octets (sideAt (tagAt w i) next) unit ++ writing rest (numbered next))
+  write-step : writing (unitsIn o w i (n - i)) (numbered k)
+      ≡ designated (change k next) ++ (octets (sideAt (tagAt w i) next) unit ++ writing rest (numbered next))
   unfolding unitsIn
   write-step =
       let e : n - i ≡ suc (n - suc i) = omega arith in
-      let c : choose (need unit) (cost rest) (numbered k) ≡ choose (needOfClass x) (cost rest) (numbered k) = ap (λ (q : Need). choose q (cost rest) (numbered k)) its-need in
+      let c : choose (need unit) (cost rest) (numbered k) ≡ choose (needOfClass x) (cost rest) (numbered k) = ap
+      (λ (q : Need). choose q (cost rest) (numbered k)) its-need in
       ap (λ (m : ℕ). writing (unitsIn o w i m) (numbered k)) e
       ∙ turn unit rest (numbered k) (numbered next) (change k next) (sideAt (tagAt w i) next)
       (c ∙ sym (its-choice .changed)) (ap (λ (q : Option Standing). after q (numbered k)) c ∙ sym (its-choice .state)) its-side
@@ -105,15 +97,20 @@ module _ (o w : List ℕ) (n i k : ℕ) (h : i < n) (hk : k < 80) where
       f : ℕ → ℕ
       f m = restFrom o w n (suc i) (numbered m)
 
-      go : (a : Bool) → ltb x 12 ≡ a → (b : Bool) → ltb x 16 ≡ b → chosenBy x k (getD w (72 * i + k % 16) 0) (getD w (72 * i + secondSlot x k) 0) ≡ chosenBy x k (f (afterFirst x k)) (f (afterSecond x k))
-      go true qa b qb = chosen-single x k (getD w (72 * i + k % 16) 0) (getD w (72 * i + secondSlot x k) 0) (f (afterFirst x k)) (f (afterSecond x k)) (ltb-true x 12 qa) hk
+      go : (a : Bool) → ltb x 12 ≡ a → (b : Bool) → ltb x 16 ≡ b
+          → chosenBy x k (getD w (72 * i + k % 16) 0) (getD w (72 * i + secondSlot x k) 0) ≡ chosenBy x k (f (afterFirst x k)) (f (afterSecond x k))
+      go true qa b qb =
+          chosen-single x k (getD w (72 * i + k % 16) 0) (getD w (72 * i + secondSlot x k) 0) (f (afterFirst x k)) (f (afterSecond x k))
+          (ltb-true x 12 qa) hk
       go false qa true qb =
           let c = r i h (ltb-false x 12 qa, ltb-true x 16 qb) in
-          chosen-base x k (c .base) (getD w (72 * i + k % 16) 0) (getD w (72 * i + secondSlot x k) 0) (f (afterFirst x k)) (f (afterSecond x k)) (c .first-cost k hk) (c .second-cost k hk)
+          chosen-base x k (c .base) (getD w (72 * i + k % 16) 0) (getD w (72 * i + secondSlot x k) 0) (f (afterFirst x k)) (f (afterSecond x k))
+          (c .first-cost k hk) (c .second-cost k hk)
       go false qa false qb =
           let l = ltb-false x 16 qb in
           let z : x ≡ 16 = omega (arith, class-below (tagAt w i)) in
-          subst (λ (q : ℕ). chosenBy q k (getD w (72 * i + k % 16) 0) (getD w (72 * i + secondSlot q k) 0) ≡ chosenBy q k (f (afterFirst q k)) (f (afterSecond q k))) (sym z)
+          subst (λ (q : ℕ). chosenBy q k (getD w (72 * i + k % 16) 0) (getD w (72 * i + secondSlot q k) 0)
+          ≡ chosenBy q k (f (afterFirst q k)) (f (afterSecond q k))) (sym z)
           (chosen-free k (getD w (72 * i + k % 16) 0) (getD w (72 * i + secondSlot 16 k) 0) (f (afterFirst 16 k)) (f (afterSecond 16 k)))
 
 -- ---- the loop
@@ -179,17 +176,19 @@ module _ (o w before : List ℕ) (n i k at : ℕ) (after : List ℕ) (g : Going 
       where
         go : (b : Bool) → ltb (tagAt w i) 15 ≡ b → shownNow ≡ unit′
         go false e =
-            side-free o (tagAt w i) (getD w (72 * i + 66) 0) (getD w (72 * i + 67) 0) (startFrom w (72 * i)) (sideOf (eqb (j / 16) l)) (sideAt (tagAt w i) j) (ltb-false (tagAt w i) 15 e)
+            side-free o w (72 * i) (sideOf (eqb (j / 16) l)) (sideAt (tagAt w i) j) (ltb-false (tagAt w i) 15 e)
         go true e =
             let t = ltb-true (tagAt w i) 15 e in
             let g : j / 16 < 5 = omega (arith, j-below) in
             let c : l ≡ getD servedInGL (tagAt w i) 0 = el ∙ ap (λ (y : ℕ). getD servedInGL y 0) (ex ∙ class-character (tagAt w i) t) in
             ap (λ (b : Bool). octets (sideOf b) (unitFrom o w (72 * i))) (ap (λ (y : ℕ). eqb (j / 16) y) c ∙ its-place (tagAt w i) (j / 16) t g)
 
-    pub room-unit : length (whole o w n) ≤ length before → (a : ℕ) (mid : List ℕ) → Written after at (designated (change k j)) a mid → a + length shownNow ≤ length mid
+    pub room-unit : length (whole o w n) ≤ length before → (a : ℕ) (mid : List ℕ) → Written after at (designated (change k j)) a mid
+        → a + length shownNow ≤ length mid
     room-unit fits a mid p = omega (arith, lengths, written-length (g .put), p .next, written-length p, ap length shown-same)
 
-    pub going-more : (a b : ℕ) (mid last : List ℕ) → Written after at (designated (change k j)) a mid → Written mid a shownNow b last → Going o w before n (i + 1) j b last
+    pub going-more : (a b : ℕ) (mid last : List ℕ) → Written after at (designated (change k j)) a mid → Written mid a shownNow b last
+        → Going o w before n (i + 1) j b last
     going-more a b mid last p q =
         record {
           done = g .done ++ (designated (change k j) ++ unit′);
@@ -203,7 +202,8 @@ module _ (o w before : List ℕ) (n i k at : ℕ) (after : List ℕ) (g : Going 
           state = j-below;
         }
 
-pub going-end : (o w before : List ℕ) (n i k at : ℕ) (after : List ℕ) → Going o w before n i k at after → i ≤ n → n ≤ i → Written before 0 (whole o w n) at after
+pub going-end : (o w before : List ℕ) (n i k at : ℕ) (after : List ℕ) → Going o w before n i k at after → i ≤ n → n ≤ i
+    → Written before 0 (whole o w n) at after
 unfolding unitsIn writing
 going-end o w before n i k at after g h h′ =
     let e : n - i ≡ 0 = omega arith in

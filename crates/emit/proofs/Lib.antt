@@ -1,4 +1,4 @@
-pub mod Stores
 pub mod Chosen
+pub mod Row
 pub mod Forward
 pub mod Whole

@@ -19,9 +19,11 @@ use Rattle.shortest.specs.Demand.{writeAnswer, outputAfter}
 use Rattle.shortest.specs.Records.{workRoom}
 use Rattle.shortest.proofs.Costs.{writing-length}
 use Rattle.rows.specs.Rows.{tagAt, startFrom, unitTagged, unitFrom, unitsIn}
-use Rattle.plan.specs.Numbers.{numbered, classOf, afterFirst, afterSecond}
-use Rattle.plan.specs.Costs.{rowsOf, TwoStandings, secondSlot, Planned}
-use Rattle.emit.specs.Emit.{rowsAnswer, rowsOutput, Written, Ready}
+use Rattle.numbers.specs.Numbers.{numbered, classOf, afterFirst, afterSecond}
+use Rattle.costs.specs.Costs.{TwoStandings, secondSlot}
+use Rattle.plan.specs.Plan.{rowsOf, Planned}
+use Rattle.octets.specs.Octets.{Written}
+use Rattle.emit.specs.Emit.{rowsAnswer, rowsOutput, Ready}
 
 -- ---- the rows hold the same units before and after the plan
 
@@ -34,7 +36,13 @@ module _ (a b : List ℕ) (e : Same a b) where
 
   same-start : (i : ℕ) → startFrom a (72 * i) ≡ startFrom b (72 * i)
   same-start i =
-      omega (arith, e i 68 (omega arith) (omega arith), e i 69 (omega arith) (omega arith), e i 70 (omega arith) (omega arith), e i 71 (omega arith) (omega arith))
+      omega (
+        arith,
+        e i 68 (omega arith) (omega arith),
+        e i 69 (omega arith) (omega arith),
+        e i 70 (omega arith) (omega arith),
+        e i 71 (omega arith) (omega arith),
+      )
 
   same-unit : (o : List ℕ) (i : ℕ) → unitFrom o a (72 * i) ≡ unitFrom o b (72 * i)
   same-unit o i =
@@ -110,7 +118,8 @@ module _ (o w : List ℕ) (n : ℕ) (out : List ℕ) where
       wrote-long h =
           let l = le-ltb 65535 n hn in
           let m = le-ltb (length w) (workRoom n) hw in
-          let q : ltb 65535 (cost (unitsIn o w 0 n) (fresh .sets)) ≡ true = lt-ltb 65535 (cost (unitsIn o w 0 n) (fresh .sets)) (subst (λ (y : ℕ). 65535 < y) ec h) in
+          let q : ltb 65535 (cost (unitsIn o w 0 n) (fresh .sets)) ≡ true = lt-ltb 65535 (cost (unitsIn o w 0 n) (fresh .sets))
+          (subst (λ (y : ℕ). 65535 < y) ec h) in
           record { answers = rw (l, m, q); output = rw (l, m, q) }
 
       pub wrote-room : c ≤ 65535 → length out < c → Wrote o w n out (answer refusal.no-room 0 c) out
@@ -118,22 +127,32 @@ module _ (o w : List ℕ) (n : ℕ) (out : List ℕ) where
       wrote-room h k =
           let l = le-ltb 65535 n hn in
           let m = le-ltb (length w) (workRoom n) hw in
-          let q : ltb 65535 (cost (unitsIn o w 0 n) (fresh .sets)) ≡ false = le-ltb 65535 (cost (unitsIn o w 0 n) (fresh .sets)) (subst (λ (y : ℕ). y ≤ 65535) ec h) in
-          let r : ltb (length out) (cost (unitsIn o w 0 n) (fresh .sets)) ≡ true = lt-ltb (length out) (cost (unitsIn o w 0 n) (fresh .sets)) (subst (λ (y : ℕ). length out < y) ec k) in
+          let q : ltb 65535 (cost (unitsIn o w 0 n) (fresh .sets)) ≡ false = le-ltb 65535 (cost (unitsIn o w 0 n) (fresh .sets))
+          (subst (λ (y : ℕ). y ≤ 65535) ec h) in
+          let r : ltb (length out) (cost (unitsIn o w 0 n) (fresh .sets)) ≡ true = lt-ltb (length out) (cost (unitsIn o w 0 n) (fresh .sets))
+          (subst (λ (y : ℕ). length out < y) ec k) in
           record { answers = rw (l, m, q, r) (ap (answer 10 0) ec); output = rw (l, m, q, r) }
 
       pub room-for : (room : List ℕ) → Same room w → c ≤ length out → length (writing (unitsIn o room 0 n) (fresh .sets)) ≤ length out
       room-for room same k =
-          omega (arith, ec, ap (λ (us : List TextUnit). length (writing us (fresh .sets))) (same-units room w same o n 0), writing-length (unitsIn o w 0 n) (fresh .sets))
+          omega (
+            arith,
+            ec,
+            ap (λ (us : List TextUnit). length (writing us (fresh .sets))) (same-units room w same o n 0),
+            writing-length (unitsIn o w 0 n) (fresh .sets),
+          )
 
-      pub wrote-all : (room after : List ℕ) (end : ℕ) → Same room w → c ≤ 65535 → c ≤ length out → Written out 0 (writing (unitsIn o room 0 n) (fresh .sets)) end after
+      pub wrote-all : (room after : List ℕ) (end : ℕ) → Same room w → c ≤ 65535 → c ≤ length out
+          → Written out 0 (writing (unitsIn o room 0 n) (fresh .sets)) end after
           → Wrote o w n out (answer refusal.accepted n c) after
       unfolding rowsAnswer rowsOutput writeAnswer outputAfter pick
       wrote-all room after end same h k p =
           let l = le-ltb 65535 n hn in
           let m = le-ltb (length w) (workRoom n) hw in
-          let q : ltb 65535 (cost (unitsIn o w 0 n) (fresh .sets)) ≡ false = le-ltb 65535 (cost (unitsIn o w 0 n) (fresh .sets)) (subst (λ (y : ℕ). y ≤ 65535) ec h) in
-          let r : ltb (length out) (cost (unitsIn o w 0 n) (fresh .sets)) ≡ false = le-ltb (length out) (cost (unitsIn o w 0 n) (fresh .sets)) (subst (λ (y : ℕ). y ≤ length out) ec k) in
+          let q : ltb 65535 (cost (unitsIn o w 0 n) (fresh .sets)) ≡ false = le-ltb 65535 (cost (unitsIn o w 0 n) (fresh .sets))
+          (subst (λ (y : ℕ). y ≤ 65535) ec h) in
+          let r : ltb (length out) (cost (unitsIn o w 0 n) (fresh .sets)) ≡ false = le-ltb (length out) (cost (unitsIn o w 0 n) (fresh .sets))
+          (subst (λ (y : ℕ). y ≤ length out) ec k) in
           let s : length (writing (unitsIn o w 0 n) (fresh .sets)) ≡ cost (unitsIn o w 0 n) (fresh .sets) = writing-length (unitsIn o w 0 n) (fresh .sets) in
           record {
             answers = rw (l, m, q, r) (ap₂ (answer 0) (sym (units-length o w n 0)) ec);

@@ -104,7 +104,7 @@ less b t (suc k) h =
 
 module _ (b : ℕ) (t : List ℕ) (st : State) (l : Legal (st .sets))
     (at : ℕ) (go : (k : ℕ) (next : State) → Legal (next .sets) → (count : ℕ) → answerOf count (elements t k (at + 1) next) .number ≡ 0
-      → Told next (drop k t) (unitsOf (drop k t) (elements t k (at + 1) next))) where
+    → Told next (drop k t) (unitsOf (drop k t) (elements t k (at + 1) next))) where
   turn : {e : Element} → Right st (b ∷ t) e → (count : ℕ) → answerOf count (onward at e (λ k next. elements t k (at + 1) next)) .number ≡ 0
       → Told st (b ∷ t) (unitsOf (b ∷ t) (onward at e (λ k next. elements t k (at + 1) next)))
   unfolding onward answerOf unitsOf directed
@@ -206,7 +206,7 @@ answered {s} (show {t = t} {us = us} u b g h r) d l e at count =
 
 -- ---- what is not refused is answered 0
 
-zero-none : (s : List ℕ) (count : ℕ) {at : ℕ} {st : State} {es : Elements} → Ahead s at st es → answerOf count es .number ≡ 0 → noneRefused es ≡ true
+pub zero-none : (s : List ℕ) (count : ℕ) {at : ℕ} {st : State} {es : Elements} → Ahead s at st es → answerOf count es .number ≡ 0 → noneRefused es ≡ true
 unfolding answerOf noneRefused
 zero-none s count (ends e) z = refl
 zero-none s count (stops {n = n} h e) z = absurd (let y : n ≡ 0 = z in omega arith)

@@ -106,7 +106,7 @@ run-kind-by k z false false false true x e f r = absurd (false≢true r)
 run-kind-by k z false false false false true e f r = absurd (false≢true r)
 run-kind-by k z false false false false false e f r = absurd (false≢true r)
 
-run-kind : (k b : ℕ) → isRun (pieceKindOf k b) ≡ true → (k < 2) × (pieceKindOf k b ≡ sideKindOf b)
+pub run-kind : (k b : ℕ) → isRun (pieceKindOf k b) ≡ true → (k < 2) × (pieceKindOf k b ≡ sideKindOf b)
 unfolding pieceKindOf
 run-kind k b r = run-kind-by k (sideKindOf b) (eqb k kind.character) (eqb k kind.space) (eqb k kind.tab) (eqb k kind.newline) (eqb k kind.segment) refl refl r
 

@@ -51,7 +51,7 @@ char-side true f d k t e g =
     let b = two-code f k e g in
     two-octets (top d + k / 256) (top d + k % 256) t (top-side d (k % 256) (k / 256) (omega (arith, b .1)) (omega (arith, b .0)))
 
-no-text : (x : Control) → controlKind x < 2 → ⊥
+pub no-text : (x : Control) → controlKind x < 2 → ⊥
 no-text tab h = omega arith
 no-text newline h = omega arith
 no-text ltr h = omega arith

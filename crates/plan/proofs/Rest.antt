@@ -21,9 +21,10 @@ use Rattle.shortest.specs.Writing.{Need, least, choose, after, price, cost}
 use Rattle.shortest.proofs.Needs.{spent, least-chosen}
 use Rattle.shortest.proofs.Costs.{cost-steady}
 use Rattle.rows.specs.Rows.{tagAt, startFrom, countOf, partOf, unitsIn}
-use Rattle.plan.specs.Numbers.{numbered, classOf, needOfClass, afterFirst, afterSecond, afterChoice, surcharge}
-use Rattle.plan.specs.Costs.{sizeOf, sizeAt, restFrom, leastBy, Smooth, changes, Turned, TwoStandings, secondSlot, RowKept, CostsKept, Planned}
-use Rattle.plan.proofs.Numbers.{choice-at, chosen-base, below, steady-at}
+use Rattle.numbers.specs.Numbers.{numbered, classOf, needOfClass, afterFirst, afterSecond, afterChoice, surcharge}
+use Rattle.costs.specs.Costs.{leastBy, Smooth, changes, Turned, TwoStandings, secondSlot, RowKept}
+use Rattle.plan.specs.Plan.{sizeOf, sizeAt, restFrom, CostsKept, Planned}
+use Rattle.numbers.proofs.Numbers.{choice-at, chosen-base, below, steady-at}
 use Rattle.plan.proofs.Again.{least-again, least-plus, least-space}
 use Rattle.plan.proofs.Units.{rest-end, rest-cons}
 
@@ -77,7 +78,8 @@ rest-most o w h n (suc m) i s e l =
       arith,
       rest-cons o w n i s (omega arith),
       least-most (needOfClass (classOf (tagAt w i))) (restFrom o w n (suc i)) (16393 * m) s (λ t. rest-most o w h n m (suc i) t (omega arith) (omega arith)),
-      size-most (tagAt w i) (partOf (countOf (getD w (72 * i + 66) 0) (getD w (72 * i + 67) 0)) (startFrom w (72 * i)) (length o)) (omega (arith, h (72 * i + 67))),
+      size-most (tagAt w i) (partOf (countOf (getD w (72 * i + 66) 0) (getD w (72 * i + 67) 0)) (startFrom w (72 * i)) (length o))
+          (omega (arith, h (72 * i + 67))),
     )
 
 -- ---- the costs of all numbers, less a base, are those of the rows from i on
@@ -112,10 +114,17 @@ least-rest o before n i base next h v k hk = omega (arith, m, rest-cons o before
     j = afterChoice x k (λ i. getD next i 0)
 
     e : j ≡ afterChoice x k (λ i. base + getD next i 0)
-    e = chosen-base x k base (getD next (afterFirst x k) 0) (getD next (afterSecond x k) 0) (base + getD next (afterFirst x k) 0) (base + getD next (afterSecond x k) 0) refl refl
+    e =
+        chosen-base x k base (getD next (afterFirst x k) 0) (getD next (afterSecond x k) 0) (base + getD next (afterFirst x k) 0)
+        (base + getD next (afterSecond x k) 0) refl refl
 
     m : base + (surcharge x k j + getD next j 0) ≡ least (needOfClass x) f (numbered k)
-    m = omega (arith, choice-at f (λ i. base + getD next i 0) v x k hk (class-below (tagAt before i)) .cost, ap (λ (i : ℕ). surcharge x k i + (base + getD next i 0)) e)
+    m =
+        omega (
+          arith,
+          choice-at f (λ i. base + getD next i 0) v x k hk (class-below (tagAt before i)) .cost,
+          ap (λ (i : ℕ). surcharge x k i + (base + getD next i 0)) e,
+        )
 
 costs-step : (o before : List ℕ) (n i base c : ℕ) (next cur : List ℕ) → i < n → CostsAre o before n (suc i) base next
     → ((k : ℕ) → k < 80 → c + getD cur k 0 ≡ leastBy (classOf (tagAt before i)) next k)
@@ -158,7 +167,8 @@ calm o before n i last x d e = go (eqb x 16) refl (eqb x last) refl (eqb x 15) r
     space-settled : Settled o before n i 0 → Settled o before n i 15
     space-settled g = least-space (restFrom o before n i) g
 
-    go : (a : Bool) → eqb x 16 ≡ a → (b : Bool) → eqb x last ≡ b → (c : Bool) → eqb x 15 ≡ c → (f : Bool) → eqb last 0 ≡ f → pick a false (pick b false (pick c (not f) true)) ≡ false → Settled o before n i x
+    go : (a : Bool) → eqb x 16 ≡ a → (b : Bool) → eqb x last ≡ b → (c : Bool) → eqb x 15 ≡ c → (f : Bool) → eqb last 0 ≡ f
+        → pick a false (pick b false (pick c (not f) true)) ≡ false → Settled o before n i x
     go true qa b qb c qc f qf r = alike 16 (eqb-true x 16 qa) (settled-none o before n i)
     go false qa true qb c qc f qf r = alike last (eqb-true x last qb) d
     go false qa false qb true qc true qf r = alike 15 (eqb-true x 15 qc) (space-settled (subst (λ (z : ℕ). Settled o before n i z) (eqb-true last 0 qf) d))
@@ -176,7 +186,8 @@ pub known-none : (o before : List ℕ) (n : ℕ) (cur : List ℕ) → ((k : ℕ)
 known-none o before n cur z =
     record { values = λ k h. omega (arith, z k, rest-end o before n (numbered k)); settled = settled-none o before n n; low = omega (arith, z 1) }
 
-known-near : {o before : List ℕ} {n i base last : ℕ} {cur : List ℕ} → Known o before n i base last cur → (j k : ℕ) → j < 80 → k < 80 → getD cur j 0 ≤ 8 + getD cur k 0
+known-near : {o before : List ℕ} {n i base last : ℕ} {cur : List ℕ} → Known o before n i base last cur → (j k : ℕ) → j < 80 → k < 80
+    → getD cur j 0 ≤ 8 + getD cur k 0
 known-near {o} {before} {n} {i} v j k hj hk = omega (arith, v .values j hj, v .values k hk, near (unitsIn o before i (n - i)) (numbered j) (numbered k))
 
 pub known-low : {o before : List ℕ} {n i base last : ℕ} {cur : List ℕ} → length cur ≡ 80 → Known o before n i base last cur → (j : ℕ) → getD cur j 0 ≤ 208
@@ -186,15 +197,28 @@ known-low {cur = cur} l v j = go (ltb j 80) refl
     go true e = omega (arith, v .low, known-near v j 1 (ltb-true j 80 e) (omega arith))
     go false e = let m = ltb-false j 80 e in let d : getD cur j 0 ≡ 0 = List·getD-eq-default cur 0 (omega arith) in omega arith
 
-pub known-bound : {o before : List ℕ} {n i base last : ℕ} {cur : List ℕ} → ((p : ℕ) → getD before p 0 < 256) → n ≤ 65535 → i ≤ n → Known o before n i base last cur
+pub known-bound : {o before : List ℕ} {n i base last : ℕ} {cur : List ℕ} → ((p : ℕ) → getD before p 0 < 256) → n ≤ 65535 → i ≤ n
+    → Known o before n i base last cur
     → base ≤ 1074400000
 known-bound {o} {before} {n} {i} h hn hi v = omega (arith, v .values 1 (omega arith), rest-most o before h n (n - i) i (numbered 1) refl hi)
 
 pub known-smooth : {o before : List ℕ} {n i base last : ℕ} {cur : List ℕ} (x : ℕ) → length cur ≡ 80 → Known o before n i base last cur → x < 17 → Smooth x cur
 known-smooth {o} {before} {n} {i} x l v hx =
     record {
-      first-near = λ k hk. omega (arith, v .values k hk, v .values (afterFirst x k) (below x k hx hk .0), steady-at (restFrom o before n i) (cost-steady (unitsIn o before i (n - i))) x k hx hk .0);
-      second-near = λ k hk. omega (arith, v .values k hk, v .values (afterSecond x k) (below x k hx hk .1), steady-at (restFrom o before n i) (cost-steady (unitsIn o before i (n - i))) x k hx hk .1);
+      first-near =
+          λ k hk. omega (
+            arith,
+            v .values k hk,
+            v .values (afterFirst x k) (below x k hx hk .0),
+            steady-at (restFrom o before n i) (cost-steady (unitsIn o before i (n - i))) x k hx hk .0,
+          );
+      second-near =
+          λ k hk. omega (
+            arith,
+            v .values k hk,
+            v .values (afterSecond x k) (below x k hx hk .1),
+            steady-at (restFrom o before n i) (cost-steady (unitsIn o before i (n - i))) x k hx hk .1,
+          );
       small = known-low l v;
     }
 
@@ -202,13 +226,6 @@ known-smooth {o} {before} {n} {i} x l v hx =
 
 pub planned-none : (o before : List ℕ) (n : ℕ) → Planned o before n n before
 planned-none o before n = record { costs = λ j h l. absurd (omega arith); kept = λ j q h l. refl; long = refl }
-
-slot-most : (x k : ℕ) → k < 80 → secondSlot x k < 65
-slot-most x k h = go (ltb x 15)
-  where
-    go : (t : Bool) → 16 + cond t (k / 16) (k % 16) < 65
-    go true = omega arith
-    go false = omega arith
 
 planned-step : (o before : List ℕ) (n i base : ℕ) (cur room after : List ℕ) → i < n → CostsAre o before n (suc i) base cur → Planned o before n (suc i) room
     → RowKept (classOf (tagAt before i)) cur room (72 * i) after
@@ -233,7 +250,9 @@ planned-step o before n i base cur room after h v p s =
         record {
           base = c .base;
           first-cost = λ k hk. ap (λ (y : ℕ). c .base + y) (s .kept (72 * j + k % 16) (inr (omega arith))) ∙ c .first-cost k hk;
-          second-cost = λ k hk. ap (λ (y : ℕ). c .base + y) (s .kept (72 * j + secondSlot (classOf (tagAt before j)) k) (inr (omega arith))) ∙ c .second-cost k hk;
+          second-cost =
+              λ k hk. ap (λ (y : ℕ). c .base + y) (s .kept (72 * j + secondSlot (classOf (tagAt before j)) k) (inr (omega arith)))
+              ∙ c .second-cost k hk;
         }
 
     here : (j : ℕ) → TwoStandings (classOf (tagAt before j)) → j ≡ i → CostsKept o before n j after
@@ -260,7 +279,8 @@ planned-step o before n i base cur room after h v p s =
 
 -- ---- one turn of the plan: the unit before row i, which is read in the room as it then is
 
-module _ (o before : List ℕ) (n i j base last : ℕ) (cur room : List ℕ) (e : i ≡ suc j) (h : i ≤ n) (v : Known o before n i base last cur) (p : Planned o before n i room)
+module _ (o before : List ℕ) (n i j base last : ℕ) (cur room : List ℕ) (e : i ≡ suc j) (h : i ≤ n) (v : Known o before n i base last cur)
+    (p : Planned o before n i room)
     (x w : ℕ) (ex : x ≡ classOf (tagAt room j)) (ew : w ≡ sizeAt o room j) where
   hj : j < n
   hj = omega arith
@@ -301,7 +321,8 @@ module _ (o before : List ℕ) (n i j base last : ℕ) (cur room : List ℕ) (e 
     where
       go : (b : Bool) → changes last x ≡ b → Known o before n j (base + w + r) last′ after
       go false q =
-          let d : Settled o before n (suc j) (classOf (tagAt before j)) = subst (λ (y : ℕ). Settled o before n (suc j) y) its-class (calm o before n (suc j) last x (v′ .settled) q) in
+          let d : Settled o before n (suc j) (classOf (tagAt before j)) = subst (λ (y : ℕ). Settled o before n (suc j) y) its-class
+          (calm o before n (suc j) last x (v′ .settled) q) in
           let z : base + w + r ≡ base + sizeAt o before j = omega (arith, t .still q .0, its-size) in
           record {
             values = rw (z, t .still q .2) (costs-skip o before n j hj d base cur (v′ .values));
@@ -311,7 +332,9 @@ module _ (o before : List ℕ) (n i j base last : ℕ) (cur room : List ℕ) (e 
       go true q =
           let z : base + w + r ≡ base + sizeAt o before j + r = omega (arith, its-size) in
           record {
-            values = rw z (costs-step o before n j base r cur after hj (v′ .values) (subst (λ (y : ℕ). (k : ℕ) → k < 80 → r + getD after k 0 ≡ leastBy y cur k) its-class (t .moved q .1)));
+            values =
+                rw z (costs-step o before n j base r cur after hj (v′ .values)
+                (subst (λ (y : ℕ). (k : ℕ) → k < 80 → r + getD after k 0 ≡ leastBy y cur k) its-class (t .moved q .1)));
             settled = rw (t .moved q .0 ∙ its-class) (settled-new o before n j hj);
             low = t .low;
           }
@@ -321,11 +344,13 @@ pub fresh-number : numbered 1 ≡ fresh .sets
 unfolding numbered
 fresh-number = refl
 
-pub plan-end : (o before : List ℕ) (n i base last : ℕ) (cur room : List ℕ) (r : ℕ) → i ≤ 0 → Known o before n i base last cur → Planned o before n i room → r ≡ base + getD cur 1 0
+pub plan-end : (o before : List ℕ) (n i base last : ℕ) (cur room : List ℕ) (r : ℕ) → i ≤ 0 → Known o before n i base last cur
+    → Planned o before n i room → r ≡ base + getD cur 1 0
     → (r ≡ cost (unitsIn o before 0 n) (fresh .sets)) × Planned o before n 0 room
 plan-end o before n i base last cur room r h v p er =
     let e : i ≡ 0 = omega arith in
     let z : n - 0 ≡ n = omega arith in (
-      er ∙ subst (λ (m : ℕ). CostsAre o before n m base cur) e (v .values) 1 (omega arith) ∙ ap₂ (λ (m : ℕ) (s : Sets). cost (unitsIn o before 0 m) s) z fresh-number,
+      er ∙ subst (λ (m : ℕ). CostsAre o before n m base cur) e (v .values) 1 (omega arith)
+          ∙ ap₂ (λ (m : ℕ) (s : Sets). cost (unitsIn o before 0 m) s) z fresh-number,
       subst (λ (m : ℕ). Planned o before n m room) e p,
     )

@@ -16,7 +16,8 @@ use Rattle.read.proofs.Filled.{short}
 use Rattle.check_list.specs.Turn.{lookedAt}
 use Rattle.check_list.specs.declared.Progress.{Progress}
 use Rattle.units.specs.Records.{recordsOf}
-use Rattle.units.proofs.Records.{from-start, records-count, few-records}
+use Rattle.units.proofs.Records.{records-count, few-records}
+use Rattle.grammar.proofs.Places.{from-start}
 use Rattle.write.specs.Stowed.{reached, Stowed, finishAnswer, finishOutput}
 use Rattle.write.proofs.Whole.{Finished, finished}
 use Rattle.rewrite.specs.Shortest.{shortestAnswer, shortestOutput}

@@ -1,48 +1,71 @@
--- The unit of a row with a segment's tag, with a tag that is none, and the octets of a segment's part.
-use Prim.Native.Nat.{ℕ, _+_, _-_, _≤_, _<_}
+-- The unit of a row by its tag: text, a segment, a mark; and the octets of a segment's part.
+use Prim.Native.Nat.{ℕ, _+_, _≤_, _<_}
 use native.Mathlib.Omega.{arith}
 use mathlib.Core.Path.{_≡_}
-use mathlib.Core.Bool.{false}
+use mathlib.Core.Bool.{Bool, true, false, cond, _&&_}
 use mathlib.Core.List.{List}
+use mathlib.Core.Path.{refl}
 use lib.ListN.{length, take, drop, length-take, length-drop}
-use lib.Dec.{eqb, ltb}
-use borrow.Author.Tests.{le-ltb, le-leb, lt-leb, ne-eqb}
-use Rattle.grammar.specs.Units.{control, revert, ext}
-use Rattle.rows.specs.Rows.{countOf, partOf, unitTagged}
+use lib.Dec.{eqb, leb, ltb}
+use borrow.Author.Tests.{eqb-true, eqb-false, eq-eqb, lt-ltb, le-ltb, le-leb, lt-leb, ltb-true, ltb-false, ne-eqb}
+use Rattle.base.specs.Choice.{pick}
+use Rattle.grammar.specs.Units.{control, tab, newline, ltr, rtl, revert, ext, controlOf}
+use Rattle.rows.specs.Rows.{countOf, partOf, textTagged, markTagged, unitTagged}
+use Rattle.rows.specs.Tag as tag
 
 pub part-length : (o : List ℕ) (n s : ℕ) → length (take n (drop s o)) ≡ partOf n s (length o)
 part-length o n s = simp (length-take, length-drop) (omega arith)
 
-pub ltb-ge : (t b c : ℕ) → b ≤ c → c ≤ t → ltb t b ≡ false
-ltb-ge t b c h k = le-ltb t b (omega arith)
-
-eqb-ge : (t b c : ℕ) → b < c → c ≤ t → eqb t b ≡ false
-eqb-ge t b c h k = ne-eqb t b (λ e. omega arith)
+-- a tag that is no segment's
+outside : (t : ℕ) → (tag.segment ≤ t → t < tag.spare → ⊥) → (leb tag.segment t && ltb t tag.spare) ≡ false
+outside t n = go (ltb t tag.segment) refl (ltb t tag.spare) refl
+  where
+    go : (b : Bool) → ltb t tag.segment ≡ b → (d : Bool) → ltb t tag.spare ≡ d → (leb tag.segment t && ltb t tag.spare) ≡ false
+    go true e d f = rw (lt-leb tag.segment t (ltb-true t tag.segment e))
+    go false e true f = absurd (n (ltb-false t tag.segment e) (ltb-true t tag.spare f))
+    go false e false f = rw (le-leb tag.segment t (ltb-false t tag.segment e), f)
 
 module _ (o : List ℕ) (t a b s : ℕ) where
-  -- a segment's tag, and a tag that is none
-  pub unit-segment : 21 ≤ t → t < 26 → unitTagged o t a b s ≡ ext (27 + t) (take (countOf a b) (drop s o))
+  pub unit-text : t < tag.tab → unitTagged o t a b s ≡ textTagged t a b
   unfolding unitTagged
-  unit-segment h k =
-      simp (
-        ltb-ge t 12 21 (omega arith) h,
-        ltb-ge t 15 21 (omega arith) h,
-        eqb-ge t 15 21 (omega arith) h,
-        le-leb 21 t h,
-        le-leb t 25 (omega arith),
-      )
+  unit-text h = rw (lt-ltb t tag.tab h)
 
-  pub unit-spare : 26 ≤ t → unitTagged o t a b s ≡ control revert
+  pub unit-segment : tag.segment ≤ t → t < tag.spare → unitTagged o t a b s ≡ ext (tag.d + t) (take (countOf a b) (drop s o))
   unfolding unitTagged
-  unit-spare h =
-      simp (
-        ltb-ge t 12 26 (omega arith) h,
-        ltb-ge t 15 26 (omega arith) h,
-        eqb-ge t 15 26 (omega arith) h,
-        le-leb 21 t (omega arith),
-        lt-leb t 25 (omega arith),
-        eqb-ge (t - 14) 2 12 (omega arith) (omega arith),
-        eqb-ge (t - 14) 3 12 (omega arith) (omega arith),
-        eqb-ge (t - 14) 4 12 (omega arith) (omega arith),
-        eqb-ge (t - 14) 5 12 (omega arith) (omega arith),
-      )
+  unit-segment h k = rw (le-ltb t tag.tab (omega arith), le-leb tag.segment t h, lt-ltb t tag.spare k)
+
+  pub unit-mark : tag.tab ≤ t → (tag.segment ≤ t → t < tag.spare → ⊥) → unitTagged o t a b s ≡ markTagged t
+  unfolding unitTagged
+  unit-mark h n = rw (le-ltb t tag.tab h, outside t n)
+
+-- from a revert's tag on, every mark is a revert
+pub mark-revert : (t : ℕ) → tag.revert ≤ t → markTagged t ≡ control revert
+unfolding markTagged pick
+mark-revert t h =
+    rw (
+      ne-eqb t tag.tab (λ e. omega arith),
+      ne-eqb t tag.newline (λ e. omega arith),
+      ne-eqb t tag.left-to-right (λ e. omega arith),
+      ne-eqb t tag.right-to-left (λ e. omega arith),
+    )
+
+-- the unit of a tag that is a kind's, for the kinds that are neither character, space nor segment
+same-test : (k n : ℕ) → eqb (tag.kind + k) (tag.kind + n) ≡ eqb k n
+same-test k n = go (eqb k n) refl
+  where
+    go : (b : Bool) → eqb k n ≡ b → eqb (tag.kind + k) (tag.kind + n) ≡ b
+    go true e = let h = eqb-true k n e in eq-eqb (tag.kind + k) (tag.kind + n) (omega arith)
+    go false e = let h = eqb-false k n e in ne-eqb (tag.kind + k) (tag.kind + n) (λ q. h (omega arith))
+
+pub mark-of-kind : (k : ℕ) → markTagged (tag.kind + k) ≡ control (controlOf k)
+unfolding markTagged pick
+mark-of-kind k =
+    rw (same-test k 2, same-test k 3, same-test k 4, same-test k 5) (go (eqb k 2) (eqb k 3) (eqb k 4) (eqb k 5))
+  where
+    go : (a b c d : Bool) → pick a (control tab) (pick b (control newline) (pick c (control ltr) (pick d (control rtl) (control revert))))
+        ≡ control (cond a tab (cond b newline (cond c ltr (cond d rtl revert))))
+    go true b c d = refl
+    go false true c d = refl
+    go false false true d = refl
+    go false false false true = refl
+    go false false false false = refl

@@ -2,7 +2,11 @@
 ghost use mathlib.Core.Path.{_≡_};
 ghost use Prim.Native.Nat.{_+_, _≤_};
 ghost use lib.ListN.{getD};
-ghost use Rattle.rows.specs.Rows.{startFrom, countOf, partOf};
+ghost use Rattle.rows.specs.Rows.{startFrom, highOctet, lowOctet, countOf, partOf};
+
+pub mod layout;
+pub mod record;
+pub mod tag;
 
 // An octet as a number of the machine.
 pub fn wide(x: u8) -> usize
@@ -11,25 +15,25 @@ pub fn wide(x: u8) -> usize
     x as usize
 }
 
-// The octet at a place of the room, 0 beyond its end.
-fn octet_at(work: &[u8], at: usize) -> u8
-    ensures { λ r. ⌜ r ≡ getD (now (work .entry)) at 0 ⌝ }
+// The octet at a place of the row that starts at a place of the room, 0 beyond the room's end.
+fn octet_at(work: &[u8], row: usize, place: usize) -> u8
+    ensures { λ r. ⌜ r ≡ getD (now (work .entry)) (row + place) 0 ⌝ }
 {
-    if at < work.len() {
-        return work[at];
+    let m = work.len();
+    if row < m {
+        if place < m - row {
+            return work[row + place];
+        }
     }
     0
 }
 
 // The n of the segment of the row that starts at a place.
 pub fn count_at(work: &[u8], row: usize) -> usize
-    ensures { λ r. ⌜ (r ≡ countOf (getD (now (work .entry)) (row + 66) 0) (getD (now (work .entry)) (row + 67) 0)) × (r ≤ 16383) ⌝ }
+    ensures { λ r. ⌜ (r ≡ countOf (highOctet (now (work .entry)) row) (lowOctet (now (work .entry)) row)) × (r ≤ 16383) ⌝ }
 {
-    if work.len() <= row {
-        return 0;
-    }
-    let high = octet_at(work, row + 66);
-    let low = octet_at(work, row + 67);
+    let high = octet_at(work, row, layout::HIGH);
+    let low = octet_at(work, row, layout::LOW);
     wide(high % 64) * 256 + wide(low)
 }
 
@@ -37,13 +41,10 @@ pub fn count_at(work: &[u8], row: usize) -> usize
 pub fn start_at(work: &[u8], row: usize) -> usize
     ensures { λ r. ⌜ r ≡ startFrom (now (work .entry)) row ⌝ }
 {
-    if work.len() <= row {
-        return 0;
-    }
-    let a = wide(octet_at(work, row + 68));
-    let b = wide(octet_at(work, row + 69));
-    let c = wide(octet_at(work, row + 70));
-    let d = wide(octet_at(work, row + 71));
+    let a = wide(octet_at(work, row, layout::START));
+    let b = wide(octet_at(work, row, layout::START + 1));
+    let c = wide(octet_at(work, row, layout::START + 2));
+    let d = wide(octet_at(work, row, layout::START + 3));
     ((a * 256 + b) * 256 + c) * 256 + d
 }
 

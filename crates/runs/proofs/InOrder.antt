@@ -16,8 +16,9 @@ use Rattle.base.specs.Limit as limit
 use Rattle.base.specs.Refusal as refusal
 use Rattle.base.specs.declared.Answer.{Answer}
 use Rattle.element.proofs.Sizes.{Fit}
-use Rattle.grammar.specs.Reading.{elements, answerOf, checkOf, noneRefused}
-use Rattle.grammar.proofs.Places.{Ahead, ends, passes, reads, ahead, ahead-from, step-silent, step-found}
+use Rattle.grammar.specs.Reading.{Elements, checkOf, noneRefused}
+use Rattle.grammar.proofs.Places.{Ahead, ends, passes, reads, ahead-from, from-start}
+use Rattle.grammar.proofs.Agrees.{zero-none}
 use Rattle.grammar.proofs.Places as places
 use Rattle.reader.specs.Step.{mayStand}
 use Rattle.reader.proofs.Whole.{may-stand, fresh-fit}
@@ -30,11 +31,11 @@ use Rattle.pieces.specs.declared.Piece.{Piece}
 use Rattle.pieces.proofs.Laws.{StateAfter, stateFrom, state-after, first-state}
 use Rattle.pieces.proofs.Step.{Step, stops, goes, step, elementAt, pieceAt, rest, noRefusal}
 use Rattle.runs.specs.Runs.{runsIn, runsOf, shownOf, noRun, nthOf, runAt}
-use Rattle.runs.specs.Steps.{firstPosition, stays, stepTo, stopAt, lastOf, firstOf, runFrom, checkedFrom, nextRunOf, positionAfter}
+use Rattle.runs.specs.Steps.{firstPosition, stays, stepTo, stopAt, lastOf, firstOf, runFrom, knownOf, checkedFrom, nextRunOf, positionAfter}
 use Rattle.runs.specs.declared.stepping.RunPosition.{RunPosition}
 use Rattle.runs.specs.declared.stepping.RunStep.{RunStep}
 use Rattle.runs.proofs.Turn.{runs-first, runs-other}
-use Rattle.runs.proofs.Steps.{first-run, first-other, lastFrom}
+use Rattle.runs.proofs.Steps.{first-run, first-other, lastFrom, fit-piece}
 
 -- ---- the pieces that follow a piece
 
@@ -65,15 +66,10 @@ module _ (s : List ℕ) (there : ℕ → State) (ok : Bool) where
   abbrev Agrees : ℕ → State → Type 0
   Agrees at st = (i : ℕ) → at ≤ i → there i ≡ stateFrom s at st i
 
-  fit-piece : (at : ℕ) (st : State) (e : Element) → elementAt s at st ≡ e → Fit st → Fit (pieceOf s at e .state)
-  unfolding pieceOf
-  fit-piece at st End is f = fresh-fit
-  fit-piece at st (Refused n o) is f = fresh-fit
-  fit-piece at st (Silent k next) is f = step-silent s at st (Silent k next) (sym is) refl .fit f
-  fit-piece at st (Found p next) is f = step-found s at st (Found p next) (sym is) refl .fit f
-
-  cuts-step : (n at : ℕ) (st : State) {q : Piece} → Step s at st q → Fit (q .state) → StateAfter s at st q → length s - at < suc n → Agrees at st → noRefusal s at st ≡ ok
-      → ((b : ℕ) (next : State) → Fit next → length s - b < n → Agrees b next → noRefusal s b next ≡ ok → Cuts s there ok (rest s b next)) → Cuts s there ok (rest s at st)
+  cuts-step : (n at : ℕ) (st : State) {q : Piece} → Step s at st q → Fit (q .state) → StateAfter s at st q → length s - at < suc n → Agrees at st
+      → noRefusal s at st ≡ ok
+      → ((b : ℕ) (next : State) → Fit next → length s - b < n → Agrees b next → noRefusal s b next ≡ ok → Cuts s there ok (rest s b next))
+      → Cuts s there ok (rest s at st)
   cuts-step n at st (stops e x) f after k a o go = rw e nil
   cuts-step n at st (goes {q} b l u e x) f after k a o go =
       let later : Agrees (q .end) (q .state) = λ i h. a i (omega arith) ∙ after i (λ z. absurd (omega arith)) .1 h in
@@ -91,7 +87,8 @@ module _ (s : List ℕ) (there : ℕ → State) (ok : Bool) where
   cuts : (n at : ℕ) (st : State) → Fit st → length s - at < n → Agrees at st → noRefusal s at st ≡ ok → Cuts s there ok (rest s at st)
   cuts zero at st f k a o = absurd (not-suc-le-zero k)
   cuts (suc n) at st f k a o =
-      cuts-step n at st (step s at st) (fit-piece at st (elementAt s at st) refl f) (state-after s at st (elementAt s at st) refl) k a o (λ b next g h i j. cuts n b next g h i j)
+      cuts-step n at st (step s at st) (fit-piece s at st (elementAt s at st) refl f) (state-after s at st (elementAt s at st) refl) k a o
+      (λ b next g h i j. cuts n b next g h i j)
 
 -- ---- a step among pieces: no run is left, or the first is shown
 
@@ -111,7 +108,8 @@ module _ (s : List ℕ) (there : ℕ → State) (ok : Bool) (none : RunStep) whe
   walked [] nil = over refl refl
   walked (p ∷ ps) (cut c h) = by (isRun (p .kind)) refl (walked ps h)
     where
-      by : (t : Bool) → isRun (p .kind) ≡ t → Walked s there ok none ps (firstOf (length s) there none ps) → Walked s there ok none (p ∷ ps) (firstOf (length s) there none (p ∷ ps))
+      by : (t : Bool) → isRun (p .kind) ≡ t → Walked s there ok none ps (firstOf (length s) there none ps)
+          → Walked s there ok none (p ∷ ps) (firstOf (length s) there none (p ∷ ps))
       by true e w = shows (runs-first p ps e) c (first-run (length s) there none p ps e)
       by false e w = passed p ps e w
 
@@ -127,21 +125,14 @@ record Done (s : List ℕ) (r : RunStep) : Type 0 where
   empty : rest s place state ≡ []
   clear : noRefusal s place state ≡ true
 
-last-done : (s : List ℕ) {at : ℕ} {st : State} {es : List Element} → Ahead s at st es → at ≤ length s → Fit st → noneRefused es ≡ true → Done s (lastOf at st es)
+last-done : (s : List ℕ) {at : ℕ} {st : State} {es : Elements} → Ahead s at st es → at ≤ length s → Fit st → noneRefused es ≡ true
+    → Done s (lastOf st es)
 unfolding lastOf stopAt noneRefused piecesFrom
 last-done s {at} {st} (ends e) h f n =
-    record { place = at; state = st; is = refl; within = h; fit = f; empty = ap (piecesFrom s at) e; clear = ap noneRefused e }
+    record { place = at; state = st; is = refl; within = h; fit = f; empty = ap (piecesFrom s) e; clear = ap noneRefused e }
 last-done s (places.stops g e) h f n = absurd (false≢true n)
 last-done s (passes t e a) h f n = last-done s a (t .fits) (t .fit f) n
 last-done s (reads t m e a) h f n = last-done s a (t .fits) (t .fit f) n
-
--- elements that answer 0 are not refused
-none-refused : (s : List ℕ) {at : ℕ} {st : State} {es : List Element} → Ahead s at st es → (count : ℕ) → answerOf at count es .number ≡ refusal.accepted → noneRefused es ≡ true
-unfolding answerOf noneRefused
-none-refused s (ends e) count h = refl
-none-refused s (places.stops {n = n} g e) count h = absurd (let z : n ≡ 0 = h in omega arith)
-none-refused s (passes t e a) count h = none-refused s a count h
-none-refused s (reads t m e a) count h = none-refused s a (count + 1) h
 
 -- ---- the steps of an accepted string
 
@@ -159,7 +150,7 @@ good s e = by (ltb limit.octets (length s)) refl
     by true l = absurd (let z : _≡_ {A = ℕ} 1 0 = rw l at (eqb-true (checkOf s .number) refusal.accepted e) in omega arith)
     by false l =
         let z = rw l at (eqb-true (checkOf s .number) refusal.accepted e) in
-        record { accepted = e; short = ltb-false limit.octets (length s) l; clear = none-refused s (ahead-from s 0 fresh) 0 z }
+        record { accepted = e; short = ltb-false limit.octets (length s) l; clear = zero-none s 0 (from-start s) z }
 
 -- a position from which the runs are those of the string from number k on
 record Stands (s : List ℕ) (k : ℕ) (p : RunPosition) : Type 0 where
@@ -175,7 +166,7 @@ record Stepped (s : List ℕ) (k : ℕ) (r : RunStep) : Type 0 where
 
 module _ (s : List ℕ) (g : Good s) (k : ℕ) (p : RunPosition) (h : Stands s k p) where
   known-by : (b : Bool) → p .checked ≡ b → checkedFrom s p ≡ runFrom s (p .place) (p .state)
-  unfolding checkedFrom pick
+  unfolding checkedFrom knownOf pick
   known-by true e = rw e
   known-by false e = rw (e, g .accepted)
 
@@ -217,7 +208,8 @@ module _ (s : List ℕ) (g : Good s) (k : ℕ) (p : RunPosition) (h : Stands s k
           clear = c .clear;
           runs = λ j.
               let m : k + suc j ≡ suc k + j = omega arith in
-              ap (λ (ps : List Piece). nthOf (length s) j (runsIn ps)) (sym (c .follows)) ∙ (sym (ap (nthOf (length s) (suc j)) x) ∙ rw m at (h .runs (suc j)));
+              ap (λ (ps : List Piece). nthOf (length s) j (runsIn ps)) (sym (c .follows)) ∙
+              (sym (ap (nthOf (length s) (suc j)) x) ∙ rw m at (h .runs (suc j)));
         };
       })
 
@@ -244,7 +236,7 @@ module _ (s : List ℕ) (g : Good s) where
 
 module _ (s : List ℕ) (no : eqb (checkOf s .number) refusal.accepted ≡ false) where
   refused-by : (b : Bool) → ltb limit.octets (length s) ≡ b → nextRunOf s firstPosition ≡ stays firstPosition (checkOf s)
-  unfolding nextRunOf checkedFrom checkOf pick
+  unfolding nextRunOf checkedFrom knownOf checkOf pick
   refused-by true l = rw l
   refused-by false l =
       let m : mayStand (length s) 0 fresh ≡ true = may-stand (length s) 0 fresh zero-le fresh-fit in

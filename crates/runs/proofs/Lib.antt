@@ -1,4 +1,5 @@
 pub mod Turn
+pub mod Spans
 pub mod Steps
 pub mod InOrder
 pub mod Lies

@@ -5,12 +5,12 @@ use mathlib.Core.Bool.{Bool, true, false}
 use mathlib.Core.List.{List, [], _∷_}
 use lib.Dec.{eqb, ltb}
 use lib.ListN.{length}
-use Rattle.base.specs.Answers.{refusedAt}
+use Rattle.base.specs.Answers.{answer, refusedAt}
 use Rattle.base.specs.Choice.{pick, from}
 use Rattle.base.specs.Limit as limit
 use Rattle.base.specs.Refusal as refusal
 use Rattle.base.specs.declared.Answer.{Answer}
-use Rattle.grammar.specs.Reading.{size, elements, checkOf}
+use Rattle.grammar.specs.Reading.{Elements, end-at, refused-at, silent-at, found-at, elements, checkOf}
 use Rattle.state.specs.State.{fresh}
 use Rattle.state.specs.declared.State.{State}
 use Rattle.state.specs.declared.elements.Element.{Element}
@@ -49,13 +49,12 @@ stopAt at st (Refused n o) = stepTo at st (noRun (refusedAt n (at + o)))
 stopAt at st (Silent k next) = stepTo at st (noRun (refusedAt refusal.bad-unit 0))
 stopAt at st (Found p next) = stepTo at st (noRun (refusedAt refusal.bad-unit 0))
 
--- no run is left among elements that start at a place under a state: the position is then at their end, or before the refused element
-unfoldable pub lastOf : ℕ → State → List Element → RunStep
-lastOf at st [] = stopAt at st End
-lastOf at st (End ∷ es) = stopAt at st End
-lastOf at st (Refused n o ∷ es) = stopAt at st (Refused n o)
-lastOf at st (Silent k next ∷ es) = lastOf (at + k) next es
-lastOf at st (Found p next ∷ es) = lastOf (at + size p) next es
+-- no run is left among elements under a state: the position is then at their end, or before the refused element
+unfoldable pub lastOf : State → Elements → RunStep
+lastOf st (end-at at) = stopAt at st End
+lastOf st (refused-at at n o) = stopAt at st (Refused n o)
+lastOf st (silent-at at k next es) = lastOf next es
+lastOf st (found-at at p next es) = lastOf next es
 
 -- the first run among pieces of a string of n octets; the position is then at the run's end, in the state there. Where there is none: the
 -- step given
@@ -67,14 +66,17 @@ firstOf n there none (p ∷ ps) =
 -- the first run from a place and a state on
 abbrev pub runFrom : List ℕ → ℕ → State → RunStep
 runFrom s at st =
-    firstOf (length s) (λ i. stateAt at st (elements (from at s) 0 st) i) (lastOf at st (elements (from at s) 0 st))
-    (piecesFrom s at (elements (from at s) 0 st))
+    let es = elements (from at s) 0 at st in
+    firstOf (length s) (λ i. stateAt st es i) (lastOf st es) (piecesFrom s es)
+
+-- the answer of the check, which is not asked for where a position says that it is known and accepts
+unfoldable pub knownOf : List ℕ → Bool → Answer
+knownOf s checked = pick checked (answer refusal.accepted 0 0) (checkOf s)
 
 -- runs are "shown only for accepted strings": a position that is not known to be of an accepted string has the string checked first
 unfoldable pub checkedFrom : List ℕ → RunPosition → RunStep
 checkedFrom s p =
-    pick (p .checked) (runFrom s (p .place) (p .state))
-    (pick (eqb (checkOf s .number) refusal.accepted) (runFrom s (p .place) (p .state)) (stays p (checkOf s)))
+    pick (eqb (knownOf s (p .checked) .number) refusal.accepted) (runFrom s (p .place) (p .state)) (stays p (knownOf s (p .checked)))
 
 -- the step from any position, also one made by hand: as for a reader, 1 for a string that is too long comes first, then 11 for a position that
 -- cannot be

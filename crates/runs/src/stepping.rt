@@ -1,14 +1,29 @@
 // The runs of a string one after the other, in one pass: a step from run to run.
 ghost use mathlib.Core.Path.{_≡_};
+ghost use mathlib.Core.Bool.{true};
+ghost use Prim.Native.Nat.{_≤_};
+ghost use lib.ListN.{length};
 ghost use Rattle.base.specs.Choice.{from};
 ghost use Rattle.element.specs.Element.{elementOf};
-ghost use Rattle.runs.specs.Steps.{firstPosition, stays, stepTo, stopAt, runFrom, checkedFrom, nextRunOf};
+ghost use Rattle.pieces.specs.Pieces.{piece};
+ghost use Rattle.reader.specs.Step.{mayStand};
+ghost use Rattle.runs.specs.Spans.{OnesTo, TwosTo, TextTo};
+ghost use Rattle.runs.specs.Steps.{firstPosition, stays, stepTo, stopAt, runFrom, knownOf, checkedFrom, nextRunOf};
 use crate::Bounds;
 use base::Answer;
 use base::limit;
 use base::refusal;
+use charset::FORM_94X94;
+use charset::FORM_96;
+use charset::NO_SET;
+use pieces::GL_RUN;
+use pieces::Piece;
+use pieces::TAB;
+use state::Sets;
 use state::State;
 use state::elements::Element;
+use stretch::characters::settled;
+use stretch::designation::designation_at;
 
 // A place of a string and the state there, and whether the whole string is known to be accepted.
 pub struct RunPosition {
@@ -58,6 +73,17 @@ fn step_to(place: usize, state: State, run: Bounds) -> RunStep
     }
 }
 
+fn run_of(start: usize, end: usize, kind: u8, state: State) -> Piece
+    ensures { λ r. ⌜ r ≡ piece start end kind state ⌝ }
+{
+    Piece {
+        start: start,
+        end: end,
+        state: state,
+        kind: kind,
+    }
+}
+
 // No run is left where an element is reached.
 fn stop_at(s: &[u8], at: usize, st: State) -> RunStep
     ensures { λ r. ⌜ r ≡ stopAt at st (elementOf (from at (now (s .entry))) st) ⌝ }
@@ -75,37 +101,131 @@ fn stop_at(s: &[u8], at: usize, st: State) -> RunStep
     }
 }
 
-// The first run from a place and a state on. The piece that was read last is kept until the one after it is known.
+// The end of the octets of a span that start at a place.
+fn ones(s: &[u8], at: usize, first: u8, last: u8) -> usize
+    requires { ⌜ at ≤ length (now s) ⌝ }
+    ensures { λ r. ⌜ OnesTo (now (s .entry)) first last at r ⌝ }
+{
+    let mut i = at;
+    while i < s.len() {
+        let b = s[i];
+        if b < first {
+            return i;
+        }
+        if last < b {
+            return i;
+        }
+        i += 1;
+    }
+    i
+}
+
+// The end of the octets of a span that start at a place, two by two.
+fn twos(s: &[u8], at: usize, first: u8, last: u8) -> usize
+    requires { ⌜ at ≤ length (now s) ⌝ }
+    ensures { λ r. ⌜ TwosTo (now (s .entry)) first last at r ⌝ }
+{
+    let mut i = at;
+    while 1 < s.len() - i {
+        let b = s[i];
+        let d = s[i + 1];
+        if b < first {
+            return i;
+        }
+        if last < b {
+            return i;
+        }
+        if d < first {
+            return i;
+        }
+        if last < d {
+            return i;
+        }
+        i += 2;
+    }
+    i
+}
+
+// The end of a run of a kind that reaches a place, in a state that text leaves as it is.
+fn text_end(s: &[u8], at: usize, sets: Sets, kind: u8) -> usize
+    requires { ⌜ at ≤ length (now s) ⌝ }
+    ensures { λ r. ⌜ TextTo (now (s .entry)) sets kind at r ⌝ }
+{
+    if kind == GL_RUN {
+        if charset::form_of(sets.gl) == FORM_94X94 {
+            return twos(s, at, 0x21, 0x7E);
+        }
+        return ones(s, at, 0x20, 0x7E);
+    }
+    let form = charset::form_of(sets.gr);
+    if form == FORM_96 {
+        return ones(s, at, 0xA0, 0xFF);
+    }
+    if form == FORM_94X94 {
+        return twos(s, at, 0xA1, 0xFE);
+    }
+    ones(s, at, 0xA1, 0xFE)
+}
+
+// The first run from a place and a state on. Designations, and text that leaves the state as it is, are passed by their octets, and any other
+// element by itself.
 fn run_from(s: &[u8], place: usize, state: State) -> RunStep
+    requires { ⌜ mayStand (length (now s)) place state ≡ true ⌝ }
     ensures { λ r. ⌜ r ≡ runFrom (now (s .entry)) place state ⌝ }
 {
     let mut at = place;
     let mut st = state;
-    let mut last = pieces::no_piece(place);
-    loop {
+    while at < s.len() {
+        let b = s[at];
+        if b == 0x1B {
+            let d = designation_at(s, at);
+            let set = d.set;
+            if set < NO_SET {
+                let side = d.side;
+                at += d.octets;
+                st = st.designated(side, set);
+                continue;
+            }
+        } else if settled(st.directions) {
+            let kind = pieces::side_kind(b);
+            let end = text_end(s, at, st.sets, kind);
+            if at < end {
+                let run = run_of(at, end, kind, st);
+                return step_to(end, st, crate::shown(s.len(), run));
+            }
+        }
         let next = pieces::piece_at(s, at, st);
-        let ending = pieces::ending(last.kind, next.kind);
-        if 0 < ending {
-            return step_to(at, st, crate::shown(s.len(), last));
+        let after = next.state;
+        if next.kind < TAB {
+            let end = text_end(s, next.end, after.sets, next.kind);
+            let run = run_of(next.start, end, next.kind, after);
+            return step_to(end, after, crate::shown(s.len(), run));
         }
         if next.end == at {
             return stop_at(s, at, st);
         }
-        last = pieces::extended(last, next);
         at = next.end;
-        let state = next.state;
-        st = state;
+        st = after;
     }
+    stop_at(s, at, st)
+}
+
+// The answer of the check, which is not asked for where it is known that it accepts.
+fn known(s: &[u8], checked: bool) -> Answer
+    ensures { λ r. ⌜ r ≡ knownOf (now (s .entry)) checked ⌝ }
+{
+    if checked {
+        return Answer::accepted(0, 0);
+    }
+    check_string::answer(s)
 }
 
 // The first run from a position on, which may stand in the string; the string is checked where that is not done yet.
 fn checked_from(s: &[u8], p: RunPosition) -> RunStep
+    requires { ⌜ mayStand (length (now s)) (p .place) (p .state) ≡ true ⌝ }
     ensures { λ r. ⌜ r ≡ checkedFrom (now (s .entry)) p ⌝ }
 {
-    if p.checked {
-        return run_from(s, p.place, p.state);
-    }
-    let answer = check_string::answer(s);
+    let answer = known(s, p.checked);
     if answer.number == refusal::ACCEPTED {
         return run_from(s, p.place, p.state);
     }
@@ -113,7 +233,7 @@ fn checked_from(s: &[u8], p: RunPosition) -> RunStep
 }
 
 // The next run from a position, and the position after it. The whole string is checked in the first step alone, and each octet is then read
-// once or twice.
+// once, or twice.
 pub fn next_run(s: &[u8], p: RunPosition) -> RunStep
     ensures { λ r. ⌜ r ≡ nextRunOf (now (s .entry)) p ⌝ }
 {

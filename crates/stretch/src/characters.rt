@@ -185,7 +185,7 @@ fn pairs(s: &[u8], at: usize, side: u8) -> usize
 }
 
 // Whether text leaves the directions as they are.
-fn settled(d: Directions) -> bool
+pub fn settled(d: Directions) -> bool
     ensures { λ r. ⌜ r ≡ settledOf d ⌝ }
 {
     if d.texted {

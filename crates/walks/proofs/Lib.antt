@@ -5,3 +5,6 @@ pub mod Locals
 pub mod Filling
 pub mod Passing
 pub mod Lent
+pub mod Frame
+pub mod Steps
+pub mod Loop

@@ -24,6 +24,7 @@ module _ (p : Progress) (n : ℕ) (o w out : List ℕ) where
   unfolding finishAnswer finishOutput pick
   finish-fine d h e = let l = le-ltb limit.units n h in (rw (l, e), rw (l, e))
 
-  pub finish-faulty : (k i : ℕ) → n ≤ limit.units → p ≡ Faulty k i → (refusedAt k i ≡ finishAnswer p n o w (length out)) × (out ≡ finishOutput p n o w out)
+  pub finish-faulty : (k i : ℕ) → n ≤ limit.units → p ≡ Faulty k i → (refusedAt k i ≡ finishAnswer p n o w (length out)) ×
+      (out ≡ finishOutput p n o w out)
   unfolding finishAnswer finishOutput pick
   finish-faulty k i h e = let l = le-ltb limit.units n h in (rw (l, e), rw (l, e))

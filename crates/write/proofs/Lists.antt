@@ -135,14 +135,16 @@ stowed-next o rs k before after s =
     r : UnitRecord
     r = getD rs k noRecord
 
-    row : (d d′ : Directions) → reached o rs k ≡ Fine d′ → (i : ℕ) → i < suc k → 72 * i + 72 ≤ length before → (t : Bool) → ltb i k ≡ t → HoldsRecord (withRecord after k r) i (getD rs i noRecord)
+    row : (d d′ : Directions) → reached o rs k ≡ Fine d′ → (i : ℕ) → i < suc k → 72 * i + 72 ≤ length before → (t : Bool)
+        → ltb i k ≡ t → HoldsRecord (withRecord after k r) i (getD rs i noRecord)
     row d d′ e i h m true q = let l = ltb-true i k q in holds-old after k i r (getD rs i noRecord) l (s .rows d′ e i l m)
     row d d′ e i h m false q =
         let l = ltb-false i k q in
         let z : k ≡ i = omega arith in
         subst (λ (j : ℕ). HoldsRecord (withRecord after k r) j (getD rs j noRecord)) z (holds-new after k r (omega (arith, s .same)))
 
-    by-progress : (p : Progress) → reached o rs k ≡ p → (d : Directions) → turnOf o r k p ≡ Fine d → (i : ℕ) → i < suc k → 72 * i + 72 ≤ length before
+    by-progress : (p : Progress) → reached o rs k ≡ p → (d : Directions) → turnOf o r k p ≡ Fine d → (i : ℕ) → i < suc k
+        → 72 * i + 72 ≤ length before
         → HoldsRecord (roomAfter (turnOf o r k p) r k after) i (getD rs i noRecord)
     by-progress (Faulty n j) ep d e i h m = absurd (fine-faulty n j d e)
     by-progress (Fine d′) ep d e i h m =
@@ -153,7 +155,8 @@ stowed-next o rs k before after s =
 abbrev HoldFrom : List ℕ → ℕ → List UnitRecord → Type 0
 HoldFrom w i rs = (j : ℕ) → j < length rs → HoldsRecord w (i + j) (getD rs j noRecord)
 
-row-unit : (o w : List ℕ) (i : ℕ) (r : UnitRecord) (u : TextUnit) → HoldsRecord w i r → unitRead o r ≡ some u → good u ≡ true → unitFrom o w (72 * i) ≡ u
+row-unit : (o w : List ℕ) (i : ℕ) (r : UnitRecord) (u : TextUnit) → HoldsRecord w i r → unitRead o r ≡ some u → good u ≡ true
+    → unitFrom o w (72 * i) ≡ u
 row-unit o w i r u h e g =
     ap₂ (λ (x y : ℕ). unitTagged o x (getD w (72 * i + 66) 0) (getD w (72 * i + 67) 0) y) (at 65 0 refl (omega arith)) start
     ∙ ap₂ (λ (x y : ℕ). unitTagged o (tagOf r) x y (r .start)) (at 66 1 refl (omega arith)) (at 67 2 refl (omega arith))
@@ -165,10 +168,12 @@ row-unit o w i r u h e g =
     start : startFrom w (72 * i) ≡ r .start
     start = omega (arith, at 68 3 refl (omega arith), at 69 4 refl (omega arith), at 70 5 refl (omega arith), at 71 6 refl (omega arith))
 
-pub rows-units : (o w : List ℕ) (rs : List UnitRecord) (i : ℕ) (us : List TextUnit) → HoldFrom w i rs → listReading o rs ≡ some us → Good us → unitsIn o w i (length rs) ≡ us
+pub rows-units : (o w : List ℕ) (rs : List UnitRecord) (i : ℕ) (us : List TextUnit) → HoldFrom w i rs → listReading o rs ≡ some us → Good us
+    → unitsIn o w i (length rs) ≡ us
 unfolding unitsIn listReading
 rows-units o w [] i us h e g = Option·some-injective [] us e
-rows-units o w (r ∷ rs) i us h e g = go (unitRead o r) (listReading o rs) refl refl e (λ vs q gs. rows-units o w rs (suc i) vs (λ j l. subst (λ (m : ℕ). HoldsRecord w m (getD rs j noRecord)) (shift j) (h (suc j) (omega arith))) q gs)
+rows-units o w (r ∷ rs) i us h e g = go (unitRead o r) (listReading o rs) refl refl e
+    (λ vs q gs. rows-units o w rs (suc i) vs (λ j l. subst (λ (m : ℕ). HoldsRecord w m (getD rs j noRecord)) (shift j) (h (suc j) (omega arith))) q gs)
   where
     shift : (j : ℕ) → i + suc j ≡ suc i + j
     shift j = omega arith
@@ -177,7 +182,8 @@ rows-units o w (r ∷ rs) i us h e g = go (unitRead o r) (listReading o rs) refl
     first = subst (λ (m : ℕ). HoldsRecord w m r) (let z : i + 0 ≡ i = omega arith in z) (h 0 (omega arith))
 
     go : (x : Option TextUnit) (y : Option (List TextUnit)) → unitRead o r ≡ x → listReading o rs ≡ y → prepend x y ≡ some us
-        → ((vs : List TextUnit) → listReading o rs ≡ some vs → Good vs → unitsIn o w (suc i) (length rs) ≡ vs) → unitFrom o w (72 * i) ∷ unitsIn o w (suc i) (length rs) ≡ us
+        → ((vs : List TextUnit) → listReading o rs ≡ some vs → Good vs → unitsIn o w (suc i) (length rs) ≡ vs)
+        → unitFrom o w (72 * i) ∷ unitsIn o w (suc i) (length rs) ≡ us
     go none y p q e k = absurd (Option·none-ne-some us e)
     go (some u) none p q e k = absurd (Option·none-ne-some us e)
     go (some u) (some vs) p q e k =
@@ -237,7 +243,8 @@ length-quick false r i w = refl
 pub passed-none : (p : Progress) (rs : List UnitRecord) (i : ℕ) (w : List ℕ) → Passed p rs i i w w
 passed-none p rs i w = record { onwards = omega arith; same = refl; stays = λ o e. e; stowed = λ o room e s. s }
 
-pub passed-next : (p : Progress) (rs : List UnitRecord) (from i : ℕ) (before after : List ℕ) → quickAfter p ≡ true → plainOf (getD rs i noRecord) ≡ true
+pub passed-next : (p : Progress) (rs : List UnitRecord) (from i : ℕ) (before after : List ℕ) → quickAfter p ≡ true
+    → plainOf (getD rs i noRecord) ≡ true
     → Passed p rs from i before after → Passed p rs from (suc i) before (withRecord after i (getD rs i noRecord))
 unfolding reached
 passed-next p rs from i before after q t s =
@@ -245,7 +252,8 @@ passed-next p rs from i before after q t s =
       onwards = omega (arith, s .onwards);
       same = length-with after i r ∙ s .same;
       stays = λ o e. turn o e;
-      stowed = λ o room e h. subst (Stowed o rs (suc i) room) (ap (λ (z : Progress). roomAfter z r i after) (turn o e) ∙ quick-room p r i after q) (stowed-next o rs i room after (s .stowed o room e h));
+      stowed = λ o room e h. subst (Stowed o rs (suc i) room) (ap (λ (z : Progress). roomAfter z r i after) (turn o e) ∙ quick-room p r i after q)
+          (stowed-next o rs i room after (s .stowed o room e h));
     }
   where
     r : UnitRecord

@@ -41,7 +41,8 @@ pub record Finished (rs : List UnitRecord) (o : List ℕ) (work : ℕ) (out : Li
 
 module _ (rs : List UnitRecord) (o before after out : List ℕ) where
   -- a list that is too long
-  long : limit.units < length rs → (p : Progress) → Finished rs o (length before) out (finishAnswer p (length rs) o after (length out)) (finishOutput p (length rs) o after out)
+  long : limit.units < length rs → (p : Progress) → Finished rs o (length before) out (finishAnswer p (length rs) o after (length out))
+      (finishOutput p (length rs) o after out)
   unfolding finishAnswer finishOutput writerAnswer writerOutput pick
   long h p = let l = lt-ltb limit.units (length rs) h in record { answers = rw l; output = rw l }
 
@@ -82,7 +83,8 @@ module _ (rs : List UnitRecord) (o before after out : List ℕ) where
           same false = refl
 
   pub finished : Stowed o rs (lookedAt (length rs)) before after
-      → Finished rs o (length before) out (finishAnswer (reached o rs (lookedAt (length rs))) (length rs) o after (length out)) (finishOutput (reached o rs (lookedAt (length rs))) (length rs) o after out)
+      → Finished rs o (length before) out (finishAnswer (reached o rs (lookedAt (length rs))) (length rs) o after (length out))
+      (finishOutput (reached o rs (lookedAt (length rs))) (length rs) o after out)
   unfolding lookedAt pick
   finished s = go (ltb limit.units (length rs)) refl
     where
@@ -93,21 +95,25 @@ module _ (rs : List UnitRecord) (o before after out : List ℕ) where
           let c : checkRecords o rs 0 undirected ≡ fine = reached-checked o rs ∙ ap checkedOf e in
           let f = fine-units o rs 0 undirected c in
           room (ltb (length after) (workRoom (length rs))) refl c (f .units) (f .reading)
-          (λ w. rows-units o after rs 0 (f .units) (λ j k. subst (λ (m : ℕ). HoldsRecord after m (getD rs j noRecord)) (let z : j ≡ 0 + j = omega arith in z) (s .rows d e j k (omega (arith, s .same)))) (f .reading) (f .good-ones))
+          (λ w. rows-units o after rs 0 (f .units) (λ j k. subst (λ (m : ℕ). HoldsRecord after m (getD rs j noRecord))
+          (let z : j ≡ 0 + j = omega arith in z) (s .rows d e j k (omega (arith, s .same)))) (f .reading) (f .good-ones))
         where
-          room : (b : Bool) → ltb (length after) (workRoom (length rs)) ≡ b → checkRecords o rs 0 undirected ≡ fine → (us : List TextUnit) → listReading o rs ≡ some us
+          room : (b : Bool) → ltb (length after) (workRoom (length rs)) ≡ b → checkRecords o rs 0 undirected ≡ fine → (us : List TextUnit)
+              → listReading o rs ≡ some us
               → (workRoom (length rs) ≤ length after → unitsIn o after 0 (length rs) ≡ us)
               → Finished rs o (length before) out (finishAnswer (Fine d) (length rs) o after (length out)) (finishOutput (Fine d) (length rs) o after out)
           room true q c us r u = short h d c us r (sym (s .same)) (ltb-true (length after) (workRoom (length rs)) q)
           room false q c us r u = let l = ltb-false (length after) (workRoom (length rs)) q in written h d c us r (sym (s .same)) l (u l)
 
       go : (b : Bool) → ltb limit.units (length rs) ≡ b
-          → Finished rs o (length before) out (finishAnswer (reached o rs (lookedAt (length rs))) (length rs) o after (length out)) (finishOutput (reached o rs (lookedAt (length rs))) (length rs) o after out)
+          → Finished rs o (length before) out (finishAnswer (reached o rs (lookedAt (length rs))) (length rs) o after (length out))
+          (finishOutput (reached o rs (lookedAt (length rs))) (length rs) o after out)
       go true q = long (ltb-true limit.units (length rs) q) (reached o rs (lookedAt (length rs)))
       go false q =
           let h = ltb-false limit.units (length rs) q in
           let z : lookedAt (length rs) ≡ length rs = rw (le-leb (length rs) limit.units h) in
-          subst (λ (k : ℕ). Finished rs o (length before) out (finishAnswer (reached o rs k) (length rs) o after (length out)) (finishOutput (reached o rs k) (length rs) o after out)) (sym z)
+          subst (λ (k : ℕ). Finished rs o (length before) out (finishAnswer (reached o rs k) (length rs) o after (length out))
+          (finishOutput (reached o rs k) (length rs) o after out)) (sym z)
           (fits h (subst (λ (k : ℕ). Stowed o rs k before after) z s) (reached o rs (length rs)) refl)
 
 -- and so they are what demand 3 asks

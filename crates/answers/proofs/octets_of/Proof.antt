@@ -14,47 +14,14 @@ Inv-loop line octets₀ n k₀ octets k = (length octets ≡ length octets₀) �
 abbrev μ-loop : tie.MeasureT-loop
 μ-loop line octets₀ n k₀ octets k = length octets - k
 
-loop-holds : tie.Need-loop-holds Inv-loop μ-loop
-loop-holds c = search needs
-
-same-length : tie.Need-same-length Inv-loop μ-loop
-same-length c = search needs
-
 returns : tie.Need-returns Inv-loop μ-loop
 returns c = (search needs, sym (length-take-le _ _ (search needs)))
-
-mul-octet : tie.Need-mul-octet Inv-loop μ-loop
-mul-octet c = search needs
-
-shared-slice-read-octet : tie.Need-shared-slice-read-octet Inv-loop μ-loop
-shared-slice-read-octet c = search needs
-
-mul-octet-2 : tie.Need-mul-octet-2 Inv-loop μ-loop
-mul-octet-2 c = search needs
-
-add-octet : tie.Need-add-octet Inv-loop μ-loop
-add-octet c = search needs
-
-shared-slice-read-octet-2 : tie.Need-shared-slice-read-octet-2 Inv-loop μ-loop
-shared-slice-read-octet-2 c = search needs
-
-octet-requires : tie.Need-octet-requires Inv-loop μ-loop
-octet-requires c κs = search needs
-
-slice-write-octets : tie.Need-slice-write-octets Inv-loop μ-loop
-slice-write-octets c = search needs
-
-add-k : tie.Need-add-k Inv-loop μ-loop
-add-k c = search needs
 
 loop-less : tie.Need-loop-less Inv-loop μ-loop
 loop-less c = simp length-set (omega arith)
 
 loop-again : tie.Need-loop-again Inv-loop μ-loop
 loop-again c = (simp length-set (omega arith), simp length-set (omega arith), search needs)
-
-same-length-2 : tie.Need-same-length-2 Inv-loop μ-loop
-same-length-2 c = search needs
 
 returns-2 : tie.Need-returns-2 Inv-loop μ-loop
 returns-2 c = (search needs, sym (length-take-le _ _ (search needs)))
@@ -65,18 +32,18 @@ octets-of-spec =
     (tie.spec
     Inv-loop
     μ-loop
-    loop-holds
-    same-length
+    (search needs)
+    (search needs)
     returns
-    mul-octet
-    shared-slice-read-octet
-    mul-octet-2
-    add-octet
-    shared-slice-read-octet-2
-    octet-requires
-    slice-write-octets
-    add-k
+    (search needs)
+    (search needs)
+    (search needs)
+    (search needs)
+    (search needs)
+    (search needs)
+    (search needs)
+    (search needs)
     loop-less
     loop-again
-    same-length-2
+    (search needs)
     returns-2)

@@ -1,7 +1,10 @@
 -- `by_value::read_eight` meets its contract: its code is followed by hand, for it lends a list of structs. A local array is lent as a slice to `read`,
 -- for a lifetime of the call's own, and comes back as the list of the contract of `read`.
 -- Assumes nothing.
-use Rattle.walks.proofs.Names.{_≡_, refl, ap, _∙_, ℕ, _<_, _^_, [], _∷_, List, length, replicate, URA, fullShare, named, tyArray, Val, SProp, ent, emp, via, fst∗, id⊢, sep, ex, guard, Lft, Share, GName, Fml, ftrue, flft, flent, fat, Memory, Routine, Heap, Calls, Loops, WpFn, Atoms, sem, Fun, fact, givenOf, Given, ‵, raw, _⊛_, some, later, ⋆, _$_, _∵_, !, qed, by, move, keep, use1, use2, use3, split, join, pick, feqL, fsplit, fjoin, check, show, suffices, frame, await, done, look, init, forget, stop, from, load, lit, of-opd, addr, and-then, no-more, assigns, land, returns, enter, alloc1, alloc0, params1, pass1, pass0, agg, rep, cells, Arr, lft-new, lft-end, FmC, fmOf, owns, Is, shows, mem, u8, RefT, sliceVal, ShrSlice, MutSlice, finally, slice-vals, shr-slice-tells, shr-slice-copy, Held, lends-slice, slice-back, only, owned, peeks, nothing, heard, plain, onEntry, tripleOf, Contract, Triple, Lasts, lasts, cited, says, Stays, stay-none, stay-none-slice, walkOf, goes-none, goes-none-slice, ends-at, walked, yes}
+use Rattle.walks.proofs.Names.{_≡_, refl, ℕ, _<_, _^_, [], _∷_, List, length, replicate, URA, fullShare, named, Val, SProp, Sq, prop, ex, guard}
+use Rattle.walks.proofs.Names.{GName, Fml, ftrue, flft, Memory, Heap, Atoms, sem, Fun, givenOf, ‵, raw, _⊛_, later, _$_, _∵_, !, qed, move, keep}
+use Rattle.walks.proofs.Names.{use1, use2, split, join, fsplit, frame, await, done, lit, Is, mem, u8, RefT, sliceVal, finally, plain, yes}
+use Rattle.walks.proofs.Names as kit
 use lib.Dec.{lit<}
 use contract.Running.{tablesOf}
 use denote.Array.{Array, array-vals, array-lawful, array-makes, arrayVal}
@@ -12,27 +15,25 @@ use Rattle.base.proofs.Unit as U
 use Rattle.base.proofs.Unit.Laws as U′
 use Rattle.base.proofs.Answer as N
 use Rattle.base.proofs.Answer.Laws as N′
-use Rattle.walks.proofs.Body.{frees-all, proved, 𝓣of}
+use Rattle.walks.proofs.Body.{𝓣of, proved-by}
 use Rattle.walks.proofs.Calls.{calls-ends}
+use Rattle.walks.proofs.Frame.{enters, leaves}
+use Rattle.walks.proofs.Steps.{var, arg, sets, lands-in, sliced, beside, copies, joins, fjoins}
 use Rattle.walks.proofs.Locals.{array-out, array-in}
 use Rattle.read.specs.Listing.{readAnswer, listAfter}
 use Rattle.read.proofs.read as read
-use Rattle.read.proofs.read.Symbol as read-def
-use Rattle.read.proofs.read.Symbol.{name as #read}
-use Rattle.read.proofs.read.Met as read-thm
-use Rattle.by_value.proofs.read_eight.Key.{name as #read-eight}
 use Rattle.by_value.proofs.read_eight as eight
-use Rattle.by_value.proofs.read_eight.Statement as stated
 use Rattle.by_value.proofs.read_eight.Code as code
 
 -- the contract that the proof cites
-abbrev Reads : {M : Type 1} (𝓤 : URA M) (H : Heap 𝓤) (A : Atoms 𝓤) (mem : Memory → SProp 𝓤) (run : Routine → Fun 𝓤) → Contract 𝓤
-Reads 𝓤 H A mem run = tripleOf 𝓤 H A read.signature (read.spec 𝓤 H A mem run)
+abbrev Reads : {M : Type 1} (𝓤 : URA M) (H : Heap 𝓤) (A : Atoms 𝓤) (mem : Memory → SProp 𝓤) (run : kit.Routine → Fun 𝓤) → kit.Contract 𝓤
+Reads 𝓤 H A mem run = kit.tripleOf 𝓤 H A read.signature (read.spec 𝓤 H A mem run)
 
-abbrev stayed : Stays (eight.ended .signature .params) (eight.ended .kept)
-stayed = (stay-none-slice (0 ∷ []) tt (plain (λ _. u8)) yes, (stay-none (λ _. U.the-row) yes, tt))
+abbrev stayed : kit.Stays (eight.ended .signature .params) (eight.ended .kept)
+stayed = (kit.stay-none-slice (0 ∷ []) tt (plain (λ _. u8)) yes, (kit.stay-none (λ _. U.the-row) yes, tt))
 
-module _ {M : Type 1} (𝓤 : URA M) (H : Heap 𝓤) (A : Atoms 𝓤) (W : Given 𝓤 H A) (at-mem : Memory → SProp 𝓤) (run : Routine → Fun 𝓤) (κ : Lft) (q : Share) (s : RefT (List ℕ)) (mark : UnitRecord) (s-fits : length (s .now) < 2 ^ 64)
+module _ {M : Type 1} (𝓤 : URA M) (H : Heap 𝓤) (A : Atoms 𝓤) (W : kit.Given 𝓤 H A) (at-mem : Memory → SProp 𝓤) (run : kit.Routine → Fun 𝓤)
+    (κ : kit.Lft) (q : kit.Share) (s : RefT (List ℕ)) (mark : UnitRecord) (s-fits : length (s .now) < 2 ^ 64)
     (is-mark : Is U.the-row mark (U′.lowered mark ∷ [])) where
   abbrev xs : List ℕ
   xs = s .now
@@ -60,20 +61,22 @@ module _ {M : Type 1} (𝓤 : URA M) (H : Heap 𝓤) (A : Atoms 𝓤) (W : Given
   ans = readAnswer xs 8
 
   abbrev Post : Val → SProp 𝓤
-  Post = walkOf 𝓤 H A eight.ended stayed (eight.clauses 𝓤 H A at-mem run) .post (((κ, tt), (q, tt), tt, a, vals), tt)
+  Post = kit.walkOf 𝓤 H A eight.ended stayed (eight.clauses 𝓤 H A at-mem run) .post (((κ, tt), (q, tt), tt, a, vals), tt)
 
   abbrev Own : Fml
-  Own = ShrSlice (named 0) κ u8 .own s (v ∷ [])
+  Own = kit.ShrSlice (named 0) κ u8 .own s (v ∷ [])
 
   -- the machine value of a list
   abbrev low : List UnitRecord → Val
-  low zs = only (array-vals (LL.vals U.the-type U′.the-laws) zs)
+  low zs = kit.only (array-vals (LL.vals U.the-type U′.the-laws) zs)
 
-  exits : (zs : List UnitRecord) → zs ≡ listAfter xs marks → ent 𝓤 (⋆ 𝓤 H A (‵ (Array U.the-row 8 .own zs (low zs ∷ [])) ∷ ‵ ftrue ∷ ‵ (flft κ q) ∷ ‵ Own ∷ [])) (Post (low zs))
+  exits : (zs : List UnitRecord) → zs ≡ listAfter xs marks
+      → Sq W (‵ (Array U.the-row 8 .own zs (low zs ∷ [])) ∷ ‵ ftrue ∷ ‵ (flft κ q) ∷ ‵ Own ∷ []) (prop (Post (low zs)))
   exits zs e =
-      qed W (‵ (Array U.the-row 8 .own zs (low zs ∷ [])) ∷ ‵ ftrue ∷ ‵ (flft κ q) ∷ ‵ Own ∷ []) ∵
-      suffices ! _ (ends-at 𝓤 H A eight.ended stayed (eight.clauses 𝓤 H A at-mem run) W (((κ, tt), (q, tt), tt, a, vals), tt) (low zs) zs (tt, (tt, tt)) (tt, (tt, tt))) $ says ! e $
-      move ! (2 ∷ 1 ∷ []) $ join ! $ frame ! $ nothing ! $ owned ! U.the-row (Is U.the-row) (LL.makes U.the-type U′.the-plain 𝓤 H A) mark _ is-mark $ fjoin ! $ move ! (2 ∷ 0 ∷ []) $ fjoin ! $ frame ! $ done !
+      kit.suffices ! _ (kit.ends-at 𝓤 H A eight.ended stayed (eight.clauses 𝓤 H A at-mem run) W (((κ, tt), (q, tt), tt, a, vals), tt) (low zs) zs
+      (tt, (tt, tt)) (tt, (tt, tt))) $ kit.says ! e $
+      move ! (2 ∷ 1 ∷ []) $ join ! $ frame ! $ kit.nothing ! $ beside ! U.the-row (LL.makes U.the-type U′.the-plain 𝓤 H A) mark _ is-mark $
+      fjoins ! 1 refl $ frame ! $ done !
 
   -- ---- `read`, on the local at l for the lifetime ν
   module _ (l ν : ℕ) (δ : GName) where
@@ -81,64 +84,90 @@ module _ {M : Type 1} (𝓤 : URA M) (H : Heap 𝓤) (A : Atoms 𝓤) (W : Given
     x = record { ptr = (l, 0); name = δ; now = marks }
 
     abbrev Lent : Fml
-    Lent = MutSlice (named 1) (ν ∷ []) U.the-row .own x (sliceVal (l, 0) 8 ∷ [])
+    Lent = kit.MutSlice (named 1) (ν ∷ []) U.the-row .own x (sliceVal (l, 0) 8 ∷ [])
 
     abbrev to : Reads 𝓤 H A at-mem run .Ghost
     to = (((κ, (ν ∷ [], tt)), (q, (fullShare, tt)), tt, (s, (x, tt)), (v ∷ [], (sliceVal (l, 0) 8 ∷ [], tt))), tt)
 
-    asks : ent 𝓤 (⋆ 𝓤 H A ((‵ Own ⊛ ‵ Lent) ∷ ((‵ (flft κ q) ⊛ ‵ ftrue) ⊛ ‵ (flft (ν ∷ []) fullShare)) ∷ [])) (Reads 𝓤 H A at-mem run .pre to)
+    asks : Sq W ((‵ Own ⊛ ‵ Lent) ∷ ((‵ (flft κ q) ⊛ ‵ ftrue) ⊛ ‵ (flft (ν ∷ []) fullShare)) ∷ [])
+        (prop (Reads 𝓤 H A at-mem run .pre to))
     asks =
-        qed W ((‵ Own ⊛ ‵ Lent) ∷ ((‵ (flft κ q) ⊛ ‵ ftrue) ⊛ ‵ (flft (ν ∷ []) fullShare)) ∷ []) ∵ split ! $ nothing ! $ move ! (2 ∷ 0 ∷ []) $ fjoin ! $ move ! (1 ∷ 0 ∷ []) $ fjoin ! $
-        move ! (1 ∷ []) $ split ! $ split ! $ move ! (2 ∷ 1 ∷ []) $ join ! $ move ! (1 ∷ 0 ∷ []) $ join ! $ join ! $ frame ! $ done !
+        split ! $ kit.nothing ! $ fjoins ! 1 refl $ fjoins ! 0 refl $
+        move ! (1 ∷ []) $ split ! $ split ! $ move ! (2 ∷ 1 ∷ []) $ join ! $ joins ! 0 refl $ join ! $ frame ! $ done !
 
     -- what the contract of `read` says of its answer m and of the list after it
     abbrev Said : Answer → List UnitRecord → Type 0
     Said m zs = (m ≡ ans) × (zs ≡ listAfter xs marks)
 
-    gives : (m : Answer) (ws : Lasts read.ended (κ, (ν ∷ [], tt)) (s, (x, tt)))
-        → ent 𝓤 (sep 𝓤 (sem 𝓤 H A (lasts read.ended (κ, (ν ∷ [], tt)) (s, (x, tt)) ws)) (fact 𝓤 (Said m (ws .1 .0)))) (ex 𝓤 (λ (zs : List UnitRecord). guard 𝓤 (Said m zs) (sem 𝓤 H A (finally U.the-row δ zs))))
+    gives : (m : Answer) (ws : kit.Lasts read.ended (κ, (ν ∷ [], tt)) (s, (x, tt)))
+        → Sq W (‵ (kit.lasts read.ended (κ, (ν ∷ [], tt)) (s, (x, tt)) ws) ∷ raw (kit.fact 𝓤 (Said m (ws .1 .0))) ∷ [])
+        (prop (ex 𝓤 (λ (zs : List UnitRecord). guard 𝓤 (Said m zs) (sem 𝓤 H A (finally U.the-row δ zs)))))
     gives m ws =
-        qed W (‵ (lasts read.ended (κ, (ν ∷ [], tt)) (s, (x, tt)) ws) ∷ raw (fact 𝓤 (Said m (ws .1 .0))) ∷ []) ∵ move ! (1 ∷ []) $
-        heard ! (Said m (ws .1 .0)) (λ e. fsplit ! $ move ! (1 ∷ []) $ fsplit ! $ fsplit ! $ keep ! (0 ∷ []) $
-        show ! (λ (zs : List UnitRecord). guard 𝓤 (Said m zs) (sem 𝓤 H A (finally U.the-row δ zs))) (ws .1 .0) $ check ! e $ done !)
+        move ! (1 ∷ []) $
+        kit.heard ! (Said m (ws .1 .0)) (λ e. fsplit ! $ move ! (1 ∷ []) $ fsplit ! $ fsplit ! $ keep ! (0 ∷ []) $
+        kit.show ! (λ (zs : List UnitRecord). guard 𝓤 (Said m zs) (sem 𝓤 H A (finally U.the-row δ zs))) (ws .1 .0) $ kit.check ! e $ done !)
 
-  module _ (C : Calls 𝓤 H) (Λ : Loops 𝓤 H) (fm : FmC 𝓤 H (W .laws) C) (known : Triple 𝓤 (C #read) (Reads 𝓤 H A at-mem run)) where
-    walk : ent 𝓤 (onEntry 𝓤 H A eight.signature (κ, tt) (q, tt) a vals) (WpFn 𝓤 H C Λ code.function (v ∷ U′.lowered mark ∷ []) Post)
+  module _ (C : kit.Calls 𝓤 H) (Λ : kit.Loops 𝓤 H) (fm : kit.FmC 𝓤 H (W .laws) C)
+      (known : kit.Triple 𝓤 (C read.Symbol.name) (Reads 𝓤 H A at-mem run)) where
+    walk : kit.ent 𝓤 (kit.onEntry 𝓤 H A eight.signature (κ, tt) (q, tt) a vals)
+        (kit.WpFn 𝓤 H C Λ code.function (v ∷ U′.lowered mark ∷ []) Post)
     walk =
-        qed W ((‵ (flft κ q) ⊛ ‵ ftrue) ∷ ‵ (owns (ShrSlice (named 0) κ u8 ∷ U.the-row ∷ []) a vals) ∷ []) ∵ move ! (1 ∷ []) $ fsplit ! $ keep ! (2 ∷ 0 ∷ []) $
-        enter ! C Λ code.function (v ∷ U′.lowered mark ∷ []) _ $
-        alloc1 ! (λ l₀. alloc1 ! (λ l₁. alloc1 ! (λ l₂. alloc1 ! (λ l₃. alloc1 ! (λ l₄. alloc1 ! (λ l₅. alloc1 ! (λ l₆. alloc0 ! $ params1 ! $
-        pass1 ! (init ! 10 refl (tt, (tt, (record { fits = s-fits }, tt)))) $ pass1 ! (init ! 8 refl (LL.lawful U.the-type U′.the-laws 𝓤 H A W .typed mark _ is-mark .0)) $ pass0 ! $
-        assigns ! (rep ! 8 (load ! (from ! (stop !)) (look ! 8 refl))) (from ! (stop !)) (init ! 6 refl (array-lawful 𝓤 H A W U.the-row (LL.lawful U.the-type U′.the-laws 𝓤 H A W) 8 .typed marks _ is-marks .0)) $
-        assigns ! (addr ! (from ! (stop !))) (from ! (stop !)) (init ! 2 refl (tt, tt)) $
-        assigns ! (agg ! (and-then ! (load ! (from ! (stop !)) (look ! 2 refl)) (and-then ! (lit ! tt) (no-more !)))) (from ! (stop !)) (init ! 0 refl (tt, (tt, (record { fits = lit< tt }, tt)))) $
+        qed W ((‵ (flft κ q) ⊛ ‵ ftrue) ∷ ‵ (kit.owns (kit.ShrSlice (named 0) κ u8 ∷ U.the-row ∷ []) a vals) ∷ []) ∵ move ! (1 ∷ []) $
+        fsplit ! $ keep ! (2 ∷ 0 ∷ []) $
+        enters ! C Λ code.function (v ∷ U′.lowered mark ∷ []) _ (λ bs.
+        (sliced s-fits, (LL.lawful U.the-type U′.the-laws 𝓤 H A W .typed mark _ is-mark .0, tt))) (λ bs.
+        let array : ℕ = bs .1 .1 .1 .0 in
+        sets ! 6 (kit.rep ! 8 (var ! 8 refl)) refl (array-lawful 𝓤 H A W U.the-row (LL.lawful U.the-type U′.the-laws 𝓤 H A W)
+        8 .typed marks _ is-marks .0) $
+        sets ! 2 (kit.addr ! (kit.from ! (kit.stop !))) refl (tt, tt) $
+        sets ! 0 (kit.agg ! (arg ! 2 refl (kit.and-then ! (lit ! tt) (kit.no-more !)))) refl (sliced (lit< tt)) $
         -- the array is lent for a lifetime ν of the call
-        move ! (6 ∷ []) $ owned ! (Array U.the-row 8) (Is (Array U.the-row 8)) (array-makes 𝓤 H A W U.the-row (LL.makes U.the-type U′.the-plain 𝓤 H A) 8) marks _ is-marks $ move ! (1 ∷ 0 ∷ []) $
-        use2 W (‵ (cells (mem U.the-row) marks l₃ 0)) (array-out 𝓤 H A W U.the-row 8 marks l₃ tt v₀) $ lft-new ! tt (λ ν. move ! (1 ∷ []) $
-        use1 W (later (some (λ (δ : GName). ‵ (Lent l₃ ν δ) ⊛ ‵ (flent (ν ∷ []) (Held U.the-row 8 l₃ 0 δ))))) (lends-slice 𝓤 H A W U.the-row (named 1) (ν ∷ []) marks l₃ 0 (lit< tt, lit< tt)) $ await ! tt $ pick ! (λ δ. split ! $
+        move ! (6 ∷ []) $ kit.owned ! (Array U.the-row 8) (Is (Array U.the-row 8))
+        (array-makes 𝓤 H A W U.the-row (LL.makes U.the-type U′.the-plain 𝓤 H A) 8) marks _ is-marks $ move ! (1 ∷ 0 ∷ []) $
+        use2 W (‵ (kit.cells (mem U.the-row) marks array 0)) (array-out 𝓤 H A W U.the-row 8 marks array tt v₀) $
+        kit.lft-new ! tt (λ ν. move ! (1 ∷ []) $
+        use1 W (later (kit.some (λ (δ : GName). ‵ (Lent array ν δ) ⊛ ‵ (kit.flent (ν ∷ []) (kit.Held U.the-row 8 array 0 δ)))))
+        (kit.lends-slice 𝓤 H A W U.the-row (named 1) (ν ∷ []) marks array 0 (lit< tt, lit< tt)) $ await ! tt $ kit.pick ! (λ δ. split ! $
         -- [the slice; what comes back; the token of ν; the locals, _6 first, without the cell of _3; the token of s; what s owns]
-        move ! (17 ∷ []) $ use1 W (‵ Own ⊛ ‵ Own) (shr-slice-copy 𝓤 H A W (named 0) κ u8 .twice s (v ∷ [])) $ split ! $ move ! (18 ∷ 4 ∷ []) $ join ! $ move ! (1 ∷ 3 ∷ []) $ join ! $
-        use2 W (raw (Reads 𝓤 H A at-mem run .pre (to l₃ ν δ))) (asks l₃ ν δ) $
-        calls-ends ! fm read.ended (read.clauses 𝓤 H A at-mem run) known (to l₃ ν δ) ans (λ (zs : List UnitRecord). zs ≡ listAfter xs marks) (λ zs. finally U.the-row δ zs) (gives l₃ ν δ) (LL.vals N.the-type N′.the-laws) (LL.tells N.the-type N′.the-laws)
-        (and-then ! (load ! (from ! (stop !)) (look ! 12 refl)) (and-then ! (load ! (from ! (stop !)) (look ! 3 refl)) (no-more !))) (λ zs e is.
-        use1 W (‵ (flft κ q) ⊛ ‵ (flft (ν ∷ []) fullShare) ⊛ ‵ ftrue) (id⊢ 𝓤 _) $ land ! (from ! (stop !)) (init ! 8 refl (LL.lawful N.the-type N′.the-laws 𝓤 H A W .typed ans _ is .0)) $
+        move ! (17 ∷ []) $ copies ! (named 0) κ u8 s (v ∷ []) $ move ! (18 ∷ 4 ∷ []) $ join ! $ move ! (1 ∷ 3 ∷ []) $ join ! $
+        use2 W (raw (Reads 𝓤 H A at-mem run .pre (to array ν δ))) (asks array ν δ .prf) $
+        calls-ends ! fm read.ended (read.clauses 𝓤 H A at-mem run) known (to array ν δ) ans (λ (zs : List UnitRecord). zs ≡ listAfter xs marks)
+        (λ zs. finally U.the-row δ zs) (λ m ws. gives array ν δ m ws .prf) (LL.vals N.the-type N′.the-laws) (LL.tells N.the-type N′.the-laws)
+        (arg ! 12 refl (arg ! 3 refl (kit.no-more !))) (λ zs e is.
+        use1 W (‵ (flft κ q) ⊛ ‵ (flft (ν ∷ []) fullShare) ⊛ ‵ ftrue) (kit.id⊢ 𝓤 _) $
+        lands-in ! 8 refl (LL.lawful N.the-type N′.the-laws 𝓤 H A W .typed ans _ is .0) $
         -- the lifetime is ended, and the array is back
-        split ! $ move ! (1 ∷ []) $ split ! $ lft-end ! tt $ move ! (0 ∷ 5 ∷ 3 ∷ []) $
-        use3 W (later (‵ (Arr (mem U.the-row) 8 .lies zs l₃ 0))) (slice-back 𝓤 H A W U.the-row (ν ∷ []) δ zs 8 l₃ 0) $ await ! tt $ fsplit ! $ feqL ! (λ len.
-        use1 W (‵ (fat fullShare (tyArray U′.mir 8) l₃ 0 (low zs)) ⊛ ‵ (Array U.the-row 8 .own zs (low zs ∷ []))) (array-in 𝓤 H A W U.the-row 8 zs l₃ (LL.vals U.the-type U′.the-laws) (LL.tells U.the-type U′.the-laws) len) $ split ! $
-        move ! (1 ∷ []) $ peeks ! (Array U.the-row 8) (Is (Array U.the-row 8)) (shows 𝓤 H A (Array U.the-row 8)) zs (low zs ∷ []) (λ is-zs. move ! (1 ∷ 0 ∷ []) $
+        split ! $ move ! (1 ∷ []) $ split ! $ kit.lft-end ! tt $ move ! (0 ∷ 5 ∷ 3 ∷ []) $
+        kit.use3 W (later (‵ (kit.Arr (mem U.the-row) 8 .lies zs array 0))) (kit.slice-back 𝓤 H A W U.the-row (ν ∷ []) δ zs 8 array 0) $ await ! tt $
+        fsplit ! $
+        kit.feqL ! (λ len.
+        use1 W (‵ (kit.fat fullShare (kit.tyArray U′.mir 8) array 0 (low zs)) ⊛ ‵ (Array U.the-row 8 .own zs (low zs ∷ [])))
+        (array-in 𝓤 H A W U.the-row 8 zs array (LL.vals U.the-type U′.the-laws) (LL.tells U.the-type U′.the-laws) len) $ split ! $
+        move ! (1 ∷ []) $ kit.peeks ! (Array U.the-row 8) (Is (Array U.the-row 8)) (kit.shows 𝓤 H A (Array U.the-row 8)) zs (low zs ∷ []) (λ is-zs.
+        move ! (1 ∷ 0 ∷ []) $
         -- [_3; what it owns; true; the token of s; what s owns; the other locals]
-        assigns ! (of-opd ! (load ! (from ! (stop !)) (look ! 0 refl))) (from ! (stop !)) (init ! 16 refl (array-lawful 𝓤 H A W U.the-row (LL.lawful U.the-type U′.the-laws 𝓤 H A W) 8 .typed zs _ is-zs .0)) $
-        returns ! (look ! 16 refl) $ forget ! 0 refl $ forget ! 5 refl $ forget ! 7 refl $ forget ! 9 refl $ forget ! 12 refl $ forget ! 14 refl $ forget ! 16 refl $
-        move ! (16 ∷ 17 ∷ 14 ∷ 15 ∷ 12 ∷ 13 ∷ 0 ∷ 11 ∷ 9 ∷ 10 ∷ 7 ∷ 8 ∷ 5 ∷ 6 ∷ []) $ frees-all ! _ $ by ! (exits zs e)))))))))))))
+        sets ! 16 (kit.of-opd ! (var ! 0 refl)) refl
+        (array-lawful 𝓤 H A W U.the-row (LL.lawful U.the-type U′.the-laws 𝓤 H A W) 8 .typed zs _ is-zs .0) $
+        kit.returns ! (kit.look ! 16 refl) $ move ! (1 ∷ 2 ∷ 3 ∷ 4 ∷ 5 ∷ 6 ∷ 7 ∷ 8 ∷ 9 ∷ 10 ∷ 0 ∷ []) $ leaves ! 4 refl refl $
+        (exits zs e)))))))
 
-pub read-eight-spec : {M : Type 1} → stated.statement M
+pub read-eight-spec : {M : Type 1} → eight.Statement.statement M
 unfolding code.routine tablesOf
 read-eight-spec 𝓤 H 𝓜 𝓖 𝓡 =
-    proved 𝓤 H 𝓜 𝓖 𝓡 code.env #read-eight code.function (code.unfolded 𝓤 H 𝓜 𝓡) eight.ended stayed (eight.clauses 𝓤 H (𝓖 .A) (𝓜 .mem) (𝓡 .run))
-    (goes-none-slice 𝓤 H (𝓖 .A) (givenOf 𝓤 H 𝓜 𝓖) 1 (0 ∷ []) tt (plain (λ _. u8)) yes, (goes-none 𝓤 H (𝓖 .A) (givenOf 𝓤 H 𝓜 𝓖) 1 (λ _. U.the-row) yes (λ κs x f. refl), tt))
-    (walked 𝓤 H (𝓖 .A) eight.ended stayed (eight.clauses 𝓤 H (𝓖 .A) (𝓜 .mem) (𝓡 .run)) (WpFn 𝓤 H (𝓣of 𝓤 H 𝓜 𝓖 𝓡 code.env .C) (𝓣of 𝓤 H 𝓜 𝓖 𝓡 code.env .Λ) code.function)
-    (λ κs. (slice-vals, (LL.vals U.the-type U′.the-laws, tt))) (λ κs. (shr-slice-tells (named 0) (κs .0) u8, (LL.tells U.the-type U′.the-laws, tt)))
-    (λ κs qs bounds a g are. via 𝓤 _ (fst∗ 𝓤 _ (emp 𝓤)) (walk 𝓤 H (𝓖 .A) (givenOf 𝓤 H 𝓜 𝓖) (𝓜 .mem) (𝓡 .run) (κs .0) (qs .0) (a .0) (a .1 .0) (are .0 .0 .1 .0) (are .1 .0)
-    (𝓣of 𝓤 H 𝓜 𝓖 𝓡 code.env .C) (𝓣of 𝓤 H 𝓜 𝓖 𝓡 code.env .Λ) (fmOf 𝓤 H (givenOf 𝓤 H 𝓜 𝓖 .laws) (𝓣of 𝓤 H 𝓜 𝓖 𝓡 code.env))
-    (cited 𝓤 H (Reads 𝓤 H (𝓖 .A) (𝓜 .mem) (𝓡 .run)) 𝓜 𝓡 code.env #read read-def.routine code.calls-read·read (read-thm.met 𝓤 H 𝓜 𝓖 𝓡)))))
+    let W = givenOf 𝓤 H 𝓜 𝓖 in
+    let T = 𝓣of 𝓤 H 𝓜 𝓖 𝓡 code.env in
+    let A = 𝓖 .A in
+    proved-by 𝓤 H 𝓜 𝓖 𝓡 code.env eight.Key.name code.function (code.unfolded 𝓤 H 𝓜 𝓡) eight.ended stayed
+    (eight.clauses 𝓤 H A (𝓜 .mem) (𝓡 .run)) (
+      kit.goes-none-slice 𝓤 H A W 1 (0 ∷ []) tt (plain (λ _. u8)) yes,
+      (kit.goes-none 𝓤 H A W 1 (λ _. U.the-row) yes (λ κs x f. refl), tt),
+    )
+    (λ κs. (kit.slice-vals, (LL.vals U.the-type U′.the-laws, tt)))
+    (λ κs. (kit.shr-slice-tells (named 0) (κs .0) u8, (LL.tells U.the-type U′.the-laws, tt)))
+    (λ κs qs bounds a g are. kit.via 𝓤 _ (kit.fst∗ 𝓤 _ (kit.emp 𝓤)) (walk 𝓤 H A W (𝓜 .mem) (𝓡 .run)
+    (κs .0)
+    (qs .0) (a .0) (a .1 .0) (are .0 .0 .1 .0) (are .1 .0)
+    (T .C) (T .Λ)
+    (kit.fmOf 𝓤 H (W .laws) T)
+    (kit.cited 𝓤 H (Reads 𝓤 H A (𝓜 .mem) (𝓡 .run)) 𝓜 𝓡 code.env read.Symbol.name read.Symbol.routine code.calls-read·read
+    (read.Met.met 𝓤 H 𝓜 𝓖 𝓡))))

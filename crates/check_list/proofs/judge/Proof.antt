@@ -8,29 +8,15 @@ use borrow.Author.Needs.{needs}
 use Rattle.check_list.proofs.judge.Statement.{statement}
 use Rattle.check_list.proofs.judge.Tie as tie
 
-character-requires : tie.Need-character-requires
-character-requires c κs = search needs
-
 returns : tie.Need-returns
 returns c = c .character .ensures ∙ kind-character _ _ _ (c .before .if1 .taken)
 
-counts-as-text-requires : tie.Need-counts-as-text-requires
-counts-as-text-requires c κs = search needs
-
-step-requires : tie.Need-step-requires
-step-requires c κs = search needs
-
 returns-2 : tie.Need-returns-2
-returns-2 c = c .step .ensures ∙ ap (λ (t : Bool). stepOf t (c .before .before .before .before .before .args .unit .kind) (c .before .before .before .before .before .args .directions)) (c .before .counts-as-text .ensures) ∙ kind-plain _ _ _ (c .before .before .before .if1 .left) (c .before .before .if2 .taken)
-
-cast-start : tie.Need-cast-start
-cast-start c = search needs
-
-cast-length : tie.Need-cast-length
-cast-length c = search needs
-
-segment-requires : tie.Need-segment-requires
-segment-requires c κs = search needs
+returns-2 c =
+    let args = c .before .before .before .before .before .args in
+    c .step .ensures
+    ∙ ap (λ (t : Bool). stepOf t (args .unit .kind) (args .directions)) (c .before .counts-as-text .ensures)
+    ∙ kind-plain _ _ _ (c .before .before .before .if1 .left) (c .before .before .if2 .taken)
 
 returns-3 : tie.Need-returns-3
 returns-3 c = c .segment .ensures ∙ kind-segment _ _ _ (c .before .before .before .if3 .taken)
@@ -42,13 +28,13 @@ pub judge-spec : {M : Type 1} → statement M
 judge-spec =
     tie.close
     (tie.spec
-    character-requires
+    (search needs)
     returns
-    counts-as-text-requires
-    step-requires
+    (search needs)
+    (search needs)
     returns-2
-    cast-start
-    cast-length
-    segment-requires
+    (search needs)
+    (search needs)
+    (search needs)
     returns-3
     returns-4)

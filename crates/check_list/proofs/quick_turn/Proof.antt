@@ -1,20 +1,13 @@
 -- `check_list::quick_turn` meets its contract, by what the quick check says.
 use mathlib.Core.Path.{sym, _∙_}
-use mathlib.Core.Bool.{true}
 use Rattle.base.specs.Choice.{pick}
 use Rattle.check_list.proofs.Quick.{plain-stowable}
 use borrow.Author.Needs.{needs}
 use Rattle.check_list.proofs.quick_turn.Statement.{statement}
 use Rattle.check_list.proofs.quick_turn.Tie as tie
 
-plain-requires : tie.Need-plain-requires
-plain-requires c κs = search needs
-
 put-requires : tie.Need-put-requires
 put-requires c κs = plain-stowable _ (sym (c .before .before .plain .ensures) ∙ c .before .if1 .taken)
-
-same-length : tie.Need-same-length
-same-length c = search needs
 
 returns : tie.Need-returns
 unfolding pick
@@ -29,4 +22,4 @@ returns-2 c =
     (sym plain, rw plain)
 
 pub quick-turn-spec : {M : Type 1} → statement M
-quick-turn-spec = tie.close (tie.spec plain-requires put-requires same-length returns returns-2)
+quick-turn-spec = tie.close (tie.spec (search needs) put-requires (search needs) returns returns-2)

@@ -5,17 +5,8 @@ use borrow.Author.Needs.{needs}
 use Rattle.check_list.proofs.quick_until.Statement.{statement}
 use Rattle.check_list.proofs.quick_until.Tie as tie
 
-enum-known-progress : tie.Need-enum-known-progress
-enum-known-progress c = search needs
-
-settled-requires : tie.Need-settled-requires
-settled-requires c κs = search needs
-
 returns : tie.Need-returns
 returns c = until-settled _ _ _ _ (c .before .before .before .progress .given .1) (sym (c .before .settled .ensures) ∙ c .if1 .taken)
-
-enum-told : tie.Need-enum-told
-enum-told c = search needs
 
 returns-2 : tie.Need-returns-2
 returns-2 c = until-unsettled _ _ _ _ (c .before .before .before .progress .given .1) (sym (c .before .settled .ensures) ∙ c .if1 .left)
@@ -25,4 +16,4 @@ returns-3 c = until-faulty _ _ _ _ _ (c .enum-told .given .1)
 
 pub quick-until-spec : {M : Type 1} → statement M
 quick-until-spec =
-    tie.close (tie.spec enum-known-progress settled-requires returns enum-told returns-2 returns-3)
+    tie.close (tie.spec (search needs) (search needs) returns (search needs) returns-2 returns-3)

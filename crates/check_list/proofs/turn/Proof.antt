@@ -5,26 +5,8 @@ use borrow.Author.Needs.{needs}
 use Rattle.check_list.proofs.turn.Statement.{statement}
 use Rattle.check_list.proofs.turn.Tie as tie
 
-enum-known-progress : tie.Need-enum-known-progress
-enum-known-progress c = search needs
-
-judge-requires : tie.Need-judge-requires
-judge-requires c κs = search needs
-
-enum-known-step : tie.Need-enum-known-step
-enum-known-step c = search needs
-
 put-requires : tie.Need-put-requires
 put-requires c κs = stowable _ _ _ _ (sym (c .before .before .before .before .judge .ensures) ∙ c .before .before .step .given .1)
-
-enum-known-step-2 : tie.Need-enum-known-step-2
-enum-known-step-2 c = search needs
-
-enum-known-progress-2 : tie.Need-enum-known-progress-2
-enum-known-progress-2 c = search needs
-
-same-length : tie.Need-same-length
-same-length c = search needs
 
 returns : tie.Need-returns
 returns c =
@@ -35,7 +17,9 @@ returns c =
     (t .0, c .before .before .put .ensures ∙ t .1)
 
 returns-2 : tie.Need-returns-2
-returns-2 c = turn-stops _ _ _ _ _ _ _ (c .before .before .before .before .before .progress .given .1) (sym (c .before .before .before .judge .ensures) ∙ c .before .step2 .given .1)
+returns-2 c =
+    turn-stops _ _ _ _ _ _ _ (c .before .before .before .before .before .progress .given .1)
+    (sym (c .before .before .before .judge .ensures) ∙ c .before .step2 .given .1)
 
 returns-3 : tie.Need-returns-3
 returns-3 c = turn-faulty _ _ _ _ _ _ _ (c .before .progress2 .given .1)
@@ -44,13 +28,13 @@ pub turn-spec : {M : Type 1} → statement M
 turn-spec =
     tie.close
     (tie.spec
-    enum-known-progress
-    judge-requires
-    enum-known-step
+    (search needs)
+    (search needs)
+    (search needs)
     put-requires
-    enum-known-step-2
-    enum-known-progress-2
-    same-length
+    (search needs)
+    (search needs)
+    (search needs)
     returns
     returns-2
     returns-3)

@@ -3,11 +3,8 @@ use borrow.Author.Needs.{needs}
 use Rattle.check_string.proofs.check.Statement.{statement}
 use Rattle.check_string.proofs.check.Tie as tie
 
-whole-requires : tie.Need-whole-requires
-whole-requires c κs = search needs
-
 returns : tie.Need-returns
 returns c = rw (c .whole .ensures)
 
 pub check-spec : {M : Type 1} → statement M
-check-spec = tie.close (tie.spec whole-requires returns)
+check-spec = tie.close (tie.spec (search needs) returns)

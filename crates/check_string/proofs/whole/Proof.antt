@@ -17,9 +17,6 @@ Inv-loop s at₀ count₀ st₀ at count st = Head s at count st
 abbrev μ-loop : tie.MeasureT-loop
 μ-loop s at₀ count₀ st₀ at count st = length s - at
 
-refused-requires : tie.Need-refused-requires Inv-loop μ-loop
-refused-requires c κs = search needs
-
 returns : tie.Need-returns Inv-loop μ-loop
 unfolding checkOf
 returns c = on-lt _ _ _ _ _ (c .before .if1 .taken) (c .refused .ensures)
@@ -27,20 +24,11 @@ returns c = on-lt _ _ _ _ _ (c .before .if1 .taken) (c .refused .ensures)
 loop-holds : tie.Need-loop-holds Inv-loop μ-loop
 loop-holds c = head-first _
 
-shared-slice-read-if2 : tie.Need-shared-slice-read-if2 Inv-loop μ-loop
-shared-slice-read-if2 c = search needs
-
-designation-at-requires : tie.Need-designation-at-requires Inv-loop μ-loop
-designation-at-requires c κs = search needs
-
 add-at : tie.Need-add-at Inv-loop μ-loop
 add-at c =
     let head = c .before .before .before .before .before .before .loop .inv in
     let h = turn-designation _ _ _ _ head _ (c .before .before .designation-at .ensures) (c .before .if3 .taken) in
     omega (arith, h .fits)
-
-designated-requires : tie.Need-designated-requires Inv-loop μ-loop
-designated-requires c κs = search needs
 
 loop-less : tie.Need-loop-less Inv-loop μ-loop
 loop-less c =
@@ -53,9 +41,6 @@ loop-again c =
     let head = c .before .before .before .before .before .before .before .loop .inv in
     let h = turn-designation _ _ _ _ head _ (c .before .before .before .designation-at .ensures) (c .before .before .if3 .taken) in
     rw (c .designated .ensures) (h .head)
-
-stretch-at-requires : tie.Need-stretch-at-requires Inv-loop μ-loop
-stretch-at-requires c κs = search needs
 
 add-at-2 : tie.Need-add-at-2 Inv-loop μ-loop
 add-at-2 c =
@@ -81,15 +66,6 @@ loop-again-2 c =
     let h = turn-stretch _ _ _ _ head _ (c .before .before .stretch-at .ensures) (c .before .if4 .taken) in
     h .head
 
-element-requires : tie.Need-element-requires Inv-loop μ-loop
-element-requires c κs = search needs
-
-enum-told : tie.Need-enum-told Inv-loop μ-loop
-enum-told c = search needs
-
-accepted-requires : tie.Need-accepted-requires Inv-loop μ-loop
-accepted-requires c κs = search needs
-
 returns-2 : tie.Need-returns-2 Inv-loop μ-loop
 unfolding checkOf
 returns-2 c =
@@ -97,17 +73,11 @@ returns-2 c =
     let end = turn-end _ _ _ _ _ (c .before .before .before .element .ensures) head (c .before .enum-told .given .1) in
     on-ge _ _ _ _ _ (c .before .before .before .before .before .before .before .before .if1 .left) (c .accepted .ensures ∙ end)
 
-enum-known-e : tie.Need-enum-known-e Inv-loop μ-loop
-enum-known-e c = search needs
-
 add-place : tie.Need-add-place Inv-loop μ-loop
 add-place c =
     let head = c .before .before .before .before .before .before .before .loop .inv in
     let h = turn-short _ _ _ _ _ (c .before .before .before .element .ensures) head (c .before .e .given .1) in
     omega (arith, h, head .within)
-
-refused-requires-2 : tie.Need-refused-requires-2 Inv-loop μ-loop
-refused-requires-2 c κs = search needs
 
 returns-3 : tie.Need-returns-3 Inv-loop μ-loop
 unfolding checkOf
@@ -115,9 +85,6 @@ returns-3 c =
     let head = c .before .before .before .before .before .before .before .before .loop .inv in
     let refused = turn-refused _ _ _ _ _ (c .before .before .before .before .element .ensures) head (c .before .before .e .given .1) in
     on-ge _ _ _ _ _ (c .before .before .before .before .before .before .before .before .before .if1 .left) (c .refused2 .ensures ∙ refused)
-
-enum-known-e-2 : tie.Need-enum-known-e-2 Inv-loop μ-loop
-enum-known-e-2 c = search needs
 
 add-at-3 : tie.Need-add-at-3 Inv-loop μ-loop
 add-at-3 c =
@@ -136,9 +103,6 @@ loop-again-3 c =
     let head = c .before .before .before .before .before .before .before .loop .inv in
     let h = turn-silent _ _ _ _ _ (c .before .before .before .element .ensures) head (c .before .e2 .given .1) in
     h .head
-
-enum-known-e-3 : tie.Need-enum-known-e-3 Inv-loop μ-loop
-enum-known-e-3 c = search needs
 
 add-at-4 : tie.Need-add-at-4 Inv-loop μ-loop
 add-at-4 c =
@@ -169,9 +133,6 @@ loop-again-4 c =
     let h = turn-found _ _ _ _ _ (c .before .before .before .before .element .ensures) head (c .before .before .e3 .given .1) in
     h .head
 
-accepted-requires-2 : tie.Need-accepted-requires-2 Inv-loop μ-loop
-accepted-requires-2 c κs = search needs
-
 returns-4 : tie.Need-returns-4 Inv-loop μ-loop
 unfolding checkOf
 returns-4 c =
@@ -184,37 +145,37 @@ whole-spec =
     (tie.spec
     Inv-loop
     μ-loop
-    refused-requires
+    (search needs)
     returns
     loop-holds
-    shared-slice-read-if2
-    designation-at-requires
+    (search needs)
+    (search needs)
     add-at
-    designated-requires
+    (search needs)
     loop-less
     loop-again
-    stretch-at-requires
+    (search needs)
     add-at-2
     add-count
     loop-less-2
     loop-again-2
-    element-requires
-    enum-told
-    accepted-requires
+    (search needs)
+    (search needs)
+    (search needs)
     returns-2
-    enum-known-e
+    (search needs)
     add-place
-    refused-requires-2
+    (search needs)
     returns-3
-    enum-known-e-2
+    (search needs)
     add-at-3
     loop-less-3
     loop-again-3
-    enum-known-e-3
+    (search needs)
     add-at-4
     add-at-5
     add-count-2
     loop-less-4
     loop-again-4
-    accepted-requires-2
+    (search needs)
     returns-4)

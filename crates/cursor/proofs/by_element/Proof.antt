@@ -5,15 +5,6 @@ use borrow.Author.Needs.{needs}
 use Rattle.cursor.proofs.by_element.Statement.{statement}
 use Rattle.cursor.proofs.by_element.Tie as tie
 
-next-unit-requires : tie.Need-next-unit-requires
-next-unit-requires c κs = search needs
-
-enum-known-o : tie.Need-enum-known-o
-enum-known-o c = search needs
-
-enum-known-o-2 : tie.Need-enum-known-o-2
-enum-known-o-2 c = search needs
-
 returns : tie.Need-returns
 unfolding turnOf elementTurn
 returns c = ap (turnOf _) (sym (c .before .o .given .1) ∙ c .before .before .before .next-unit .ensures)
@@ -23,4 +14,4 @@ unfolding turnOf elementTurn
 returns-2 c = ap (turnOf _) (sym (c .before .o2 .given .1) ∙ c .before .before .before .next-unit .ensures)
 
 pub by-element-spec : {M : Type 1} → statement M
-by-element-spec = tie.close (tie.spec next-unit-requires enum-known-o enum-known-o-2 returns returns-2)
+by-element-spec = tie.close (tie.spec (search needs) (search needs) (search needs) returns returns-2)

@@ -8,9 +8,6 @@ use borrow.Author.Needs.{needs}
 use Rattle.cursor.proofs.placed.Statement.{statement}
 use Rattle.cursor.proofs.placed.Tie as tie
 
-designated-requires : tie.Need-designated-requires
-designated-requires c κs = search needs
-
 add-place : tie.Need-add-place
 add-place c =
     let start = c .before .before .before .before .before .before in
@@ -21,9 +18,6 @@ returns : tie.Need-returns
 unfolding placedOf
 returns c = on-lt _ _ _ _ _ (c .before .before .before .before .if1 .taken) (rw (c .before .before .designated .ensures))
 
-returns-2 : tie.Need-returns-2
-unfolding placedOf
-returns-2 c = search ladder
-
 pub placed-spec : {M : Type 1} → statement M
-placed-spec = tie.close (tie.spec designated-requires add-place returns returns-2)
+unfolding placedOf
+placed-spec = tie.close (tie.spec (search needs) add-place returns (λ c. search ladder))

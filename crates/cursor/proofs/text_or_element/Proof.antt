@@ -7,24 +7,9 @@ use borrow.Author.Needs.{needs}
 use Rattle.cursor.proofs.text_or_element.Statement.{statement}
 use Rattle.cursor.proofs.text_or_element.Tie as tie
 
-by-element-requires : tie.Need-by-element-requires
-by-element-requires c κs = search needs
-
 returns : tie.Need-returns
 unfolding quickOf textTurn
 returns c = search reading depth 9
-
-shared-slice-read-b : tie.Need-shared-slice-read-b
-shared-slice-read-b c = search needs
-
-text-octet-requires : tie.Need-text-octet-requires
-text-octet-requires c κs = search needs
-
-set-at-requires : tie.Need-set-at-requires
-set-at-requires c κs = search needs
-
-single-turn-requires : tie.Need-single-turn-requires
-single-turn-requires c κs = search needs
 
 returns-2 : tie.Need-returns-2
 unfolding octetOf textTurn
@@ -34,9 +19,6 @@ returns-2 c =
     (on-text _ _ _ _ _ _ _ (sym (read .before .text-octet .ensures) ∙ read .if2 .taken) (c .before .before .set-at .ensures)
     (on-lt _ _ _ _ _ (c .before .if3 .taken) (c .single-turn .ensures)))
 
-or-two-requires : tie.Need-or-two-requires
-or-two-requires c κs = search needs
-
 returns-3 : tie.Need-returns-3
 unfolding octetOf textTurn
 returns-3 c =
@@ -44,9 +26,6 @@ returns-3 c =
     on-quick _ _ _ _ _ (read .before .before .before .if1 .left)
     (on-text _ _ _ _ _ _ _ (sym (read .before .text-octet .ensures) ∙ read .if2 .taken) (c .before .before .set-at .ensures)
     (on-ge _ _ _ _ _ (c .before .if3 .left) (c .or-two .ensures)))
-
-by-element-requires-2 : tie.Need-by-element-requires-2
-by-element-requires-2 c κs = search needs
 
 returns-4 : tie.Need-returns-4
 unfolding quickOf textTurn
@@ -56,14 +35,14 @@ pub text-or-element-spec : {M : Type 1} → statement M
 text-or-element-spec =
     tie.close
     (tie.spec
-    by-element-requires
+    (search needs)
     returns
-    shared-slice-read-b
-    text-octet-requires
-    set-at-requires
-    single-turn-requires
+    (search needs)
+    (search needs)
+    (search needs)
+    (search needs)
     returns-2
-    or-two-requires
+    (search needs)
     returns-3
-    by-element-requires-2
+    (search needs)
     returns-4)

@@ -5,27 +5,6 @@ use borrow.Author.Needs.{needs}
 use Rattle.element.proofs.directed.Statement.{statement}
 use Rattle.element.proofs.directed.Tie as tie
 
-enum-told : tie.Need-enum-told
-enum-told c = search needs
-
-enum-known-shape : tie.Need-enum-known-shape
-enum-known-shape c = search needs
-
-enum-known-shape-2 : tie.Need-enum-known-shape-2
-enum-known-shape-2 c = search needs
-
-designated-requires : tie.Need-designated-requires
-designated-requires c κs = search needs
-
-enum-known-shape-3 : tie.Need-enum-known-shape-3
-enum-known-shape-3 c = search needs
-
-step-requires : tie.Need-step-requires
-step-requires c κs = search needs
-
-stepped-requires : tie.Need-stepped-requires
-stepped-requires c κs = search needs
-
 returns : tie.Need-returns
 unfolding directedOf
 returns c = rw (c .enum-told .given .1)
@@ -46,13 +25,13 @@ pub directed-spec : {M : Type 1} → statement M
 directed-spec =
     tie.close
     (tie.spec
-    enum-told
-    enum-known-shape
-    enum-known-shape-2
-    designated-requires
-    enum-known-shape-3
-    step-requires
-    stepped-requires
+    (search needs)
+    (search needs)
+    (search needs)
+    (search needs)
+    (search needs)
+    (search needs)
+    (search needs)
     returns
     returns-2
     returns-3

@@ -9,36 +9,9 @@ returns : tie.Need-returns
 unfolding shapeOf
 returns c = search shaping depth 12
 
-shared-slice-read-b : tie.Need-shared-slice-read-b
-shared-slice-read-b c = search needs
-
-add-escape : tie.Need-add-escape
-add-escape c = search needs
-
-escape-requires : tie.Need-escape-requires
-escape-requires c κs = search needs
-
-add-csi : tie.Need-add-csi
-add-csi c = search needs
-
-csi-requires : tie.Need-csi-requires
-csi-requires c κs = search needs
-
-bare-requires : tie.Need-bare-requires
-bare-requires c κs = search needs
-
-bare-requires-2 : tie.Need-bare-requires-2
-bare-requires-2 c κs = search needs
-
 returns-2 : tie.Need-returns-2
 unfolding shapeOf
 returns-2 c = search shaping depth 12
-
-add-text : tie.Need-add-text
-add-text c = search needs
-
-text-requires : tie.Need-text-requires
-text-requires c κs = search needs
 
 returns-3 : tie.Need-returns-3
 unfolding shapeOf
@@ -47,12 +20,6 @@ returns-3 c = search shaping depth 12
 returns-4 : tie.Need-returns-4
 unfolding shapeOf
 returns-4 c = search shaping depth 12
-
-add-text-2 : tie.Need-add-text-2
-add-text-2 c = search needs
-
-text-requires-2 : tie.Need-text-requires-2
-text-requires-2 c κs = search needs
 
 returns-5 : tie.Need-returns-5
 unfolding shapeOf
@@ -83,20 +50,20 @@ shape-spec =
     tie.close
     (tie.spec
     returns
-    shared-slice-read-b
-    add-escape
-    escape-requires
-    add-csi
-    csi-requires
-    bare-requires
-    bare-requires-2
+    (search needs)
+    (search needs)
+    (search needs)
+    (search needs)
+    (search needs)
+    (search needs)
+    (search needs)
     returns-2
-    add-text
-    text-requires
+    (search needs)
+    (search needs)
     returns-3
     returns-4
-    add-text-2
-    text-requires-2
+    (search needs)
+    (search needs)
     returns-5
     returns-6
     returns-7

@@ -14,11 +14,5 @@ returns-2 c =
     let pre = c .before .before .before .pre in
     gr-stays _ _ _ _ _ (pre .0) (pre .1) (pre .3) (c .if2 .taken)
 
-choose-requires : tie.Need-choose-requires
-choose-requires c κs = search needs
-
-returns-3 : tie.Need-returns-3
-returns-3 c = search needs
-
 pub choose-quickly-spec : {M : Type 1} → statement M
-choose-quickly-spec = tie.close (tie.spec returns returns-2 choose-requires returns-3)
+choose-quickly-spec = tie.close (tie.spec returns returns-2 (search needs) (λ c. search needs))

@@ -4,7 +4,7 @@ use native.Mathlib.Omega.{arith}
 use mathlib.Core.Path.{_≡_, refl, _∙_}
 use Prim.Native.Nat.{_-_, _≤_}
 use lib.ListN.{length}
-use Rattle.emit.proofs.Stores.{written-length}
+use Rattle.octets.proofs.Stores.{written-length}
 use Rattle.emit.proofs.Forward.{Going, going-none, j-below, room-change, room-unit, going-more, going-end}
 use Rattle.emit.proofs.emit.Statement.{statement}
 use Rattle.emit.proofs.emit.Tie as tie
@@ -18,29 +18,11 @@ abbrev μ-loop : tie.MeasureT-loop
 loop-holds : tie.Need-loop-holds Inv-loop μ-loop
 loop-holds c = (search needs, refl, going-none _ _ _ _)
 
-mul-row : tie.Need-mul-row Inv-loop μ-loop
-mul-row c = search needs
-
-add-class-of : tie.Need-add-class-of Inv-loop μ-loop
-add-class-of c = search needs
-
-shared-slice-read-class-of : tie.Need-shared-slice-read-class-of Inv-loop μ-loop
-shared-slice-read-class-of c = search needs
-
-class-of-requires : tie.Need-class-of-requires Inv-loop μ-loop
-class-of-requires c κs = search needs
-
 array-read-wide : tie.Need-array-read-wide Inv-loop μ-loop
 array-read-wide c = c .class-of .ensures .1
 
-wide-requires : tie.Need-wide-requires Inv-loop μ-loop
-wide-requires c κs = search needs
-
 array-read-wide-2 : tie.Need-array-read-wide-2 Inv-loop μ-loop
 array-read-wide-2 c = c .before .class-of .ensures .1
-
-wide-requires-2 : tie.Need-wide-requires-2 Inv-loop μ-loop
-wide-requires-2 c κs = search needs
 
 choose-quickly-requires : tie.Need-choose-quickly-requires Inv-loop μ-loop
 choose-quickly-requires c κs = (
@@ -63,8 +45,8 @@ put-change-requires c κs =
       room-change _ _ _ _ _ _ _ _ going (pre .2) more _ _ class chosen (pre .3),
     )
 
-put-unit-requires : tie.Need-put-unit-requires Inv-loop μ-loop
-put-unit-requires c κs =
+put-row-requires : tie.Need-put-row-requires Inv-loop μ-loop
+put-row-requires c κs =
     let going = c .before .before .before .before .before .before .before .before .before .before .before .loop .inv .2 in
     let pre = c .before .before .before .before .before .before .before .before .before .before .before .before .before .before .before .pre in
     let more = c .before .before .before .before .before .before .before .before .before .before .loop-test .taken in
@@ -74,29 +56,22 @@ put-unit-requires c κs =
     let changed = c .before .before .before .put-change .ensures in
     (omega (arith, pre .1, more), room-unit _ _ _ _ _ _ _ _ going (pre .2) more _ _ class chosen _ place (pre .3) _ _ changed)
 
-add-i : tie.Need-add-i Inv-loop μ-loop
-add-i c = search needs
-
-loop-less : tie.Need-loop-less Inv-loop μ-loop
-loop-less c = search needs
-
 loop-again : tie.Need-loop-again Inv-loop μ-loop
 loop-again c =
     let going = c .before .before .before .before .before .before .before .before .before .before .before .before .before .before .loop .inv .2 in
-    let pre = c .before .before .before .before .before .before .before .before .before .before .before .before .before .before .before .before .before .before .pre in
+    let start = c .before .before .before .before .before .before .before .before .before .before .before .before .before in
+    let pre = start .before .before .before .before .before .pre in
     let more = c .before .before .before .before .before .before .before .before .before .before .before .before .before .loop-test .taken in
     let class = c .before .before .before .before .before .before .before .before .before .before .before .class-of .ensures .0 in
     let chosen = c .before .before .before .before .before .before .before .before .choose-quickly .ensures in
     let place = c .before .before .before .before .before .before .before .before .before .before .wide .ensures .0 in
     let changed = c .before .before .before .before .before .before .put-change .ensures in
-    let written = c .before .before .put-unit .ensures in (
+    let written = c .before .before .put-row .ensures in (
       omega arith,
-      written-length written ∙ written-length changed ∙ c .before .before .before .before .before .before .before .before .before .before .before .before .before .before .loop .inv .1,
+      written-length written ∙ written-length changed
+          ∙ c .before .before .before .before .before .before .before .before .before .before .before .before .before .before .loop .inv .1,
       going-more _ _ _ _ _ _ _ _ going (pre .2) more _ _ class chosen _ place _ _ _ _ changed written,
     )
-
-same-length : tie.Need-same-length Inv-loop μ-loop
-same-length c = search needs
 
 returns : tie.Need-returns Inv-loop μ-loop
 returns c = going-end _ _ _ _ _ _ _ _ (c .before .loop .inv .2) (c .before .loop .inv .0) (search needs)
@@ -108,19 +83,19 @@ emit-spec =
     Inv-loop
     μ-loop
     loop-holds
-    mul-row
-    add-class-of
-    shared-slice-read-class-of
-    class-of-requires
+    (search needs)
+    (search needs)
+    (search needs)
+    (search needs)
     array-read-wide
-    wide-requires
+    (search needs)
     array-read-wide-2
-    wide-requires-2
+    (search needs)
     choose-quickly-requires
     put-change-requires
-    put-unit-requires
-    add-i
-    loop-less
+    put-row-requires
+    (search needs)
+    (search needs)
     loop-again
-    same-length
+    (search needs)
     returns)

@@ -2,7 +2,8 @@
 use native.Mathlib.Omega.{arith}
 use mathlib.Core.Path.{ap}
 use lib.ListN.{length}
-use Rattle.emit.proofs.Stores.{written-none, written-as, change-none, change-gr, change-gl}
+use Rattle.octets.proofs.Stores.{written-none, written-as}
+use Rattle.emit.proofs.Chosen.{change-none, change-gr, change-gl}
 use borrow.Author.Needs.{needs}
 use Rattle.emit.proofs.put_change.Statement.{statement}
 use Rattle.emit.proofs.put_change.Tie as tie
@@ -10,18 +11,12 @@ use Rattle.emit.proofs.put_change.Tie as tie
 returns : tie.Need-returns
 returns c = written-as (change-none _ _ (c .if1 .taken)) (written-none _ _)
 
-set-in-gr-requires : tie.Need-set-in-gr-requires
-set-in-gr-requires c κs = search needs
-
 put-designation-requires : tie.Need-put-designation-requires
 put-designation-requires c κs =
     let args = c .before .before .before .before .before .args in
     let set = c .before .set-in-gr .ensures in
     let e = change-gr (args .k) (args .j) _ (c .before .before .before .if1 .left) (c .before .before .if2 .taken) (set .0) in
     (set .1, omega (arith, ap length e, c .before .before .before .before .before .pre .2))
-
-same-length : tie.Need-same-length
-same-length c = search needs
 
 returns-2 : tie.Need-returns-2
 returns-2 c =
@@ -31,18 +26,12 @@ returns-2 c =
     let set = c .before .before .before .before .set-in-gr .ensures .0 in
     written-as (change-gr (args .k) (args .j) _ differ side set) (c .before .before .put-designation .ensures)
 
-set-in-gl-requires : tie.Need-set-in-gl-requires
-set-in-gl-requires c κs = search needs
-
 put-designation-requires-2 : tie.Need-put-designation-requires-2
 put-designation-requires-2 c κs =
     let args = c .before .before .before .before .before .args in
     let set = c .before .set-in-gl .ensures in
     let e = change-gl (args .k) (args .j) _ (c .before .before .before .if1 .left) (c .before .before .if2 .left) (set .0) in
     (set .1, omega (arith, ap length e, c .before .before .before .before .before .pre .2))
-
-same-length-2 : tie.Need-same-length-2
-same-length-2 c = search needs
 
 returns-3 : tie.Need-returns-3
 returns-3 c =
@@ -57,11 +46,11 @@ put-change-spec =
     tie.close
     (tie.spec
     returns
-    set-in-gr-requires
+    (search needs)
     put-designation-requires
-    same-length
+    (search needs)
     returns-2
-    set-in-gl-requires
+    (search needs)
     put-designation-requires-2
-    same-length-2
+    (search needs)
     returns-3)

@@ -6,38 +6,17 @@ use borrow.Author.Needs.{needs}
 use Rattle.emit.proofs.write_rows.Statement.{statement}
 use Rattle.emit.proofs.write_rows.Tie as tie
 
-refused-requires : tie.Need-refused-requires
-refused-requires c κs = search needs
-
 returns : tie.Need-returns
 returns c =
     let args = c .before .before .before .before .before .args in
     let w = wrote-many (args .segments .now) (args .work .now) (args .n) (args .out .now) (c .before .if1 .taken) in
     (c .refused .ensures ∙ w .answers, w .output, refl)
 
-add-if2 : tie.Need-add-if2
-add-if2 c = search needs
-
-mul-if2 : tie.Need-mul-if2
-mul-if2 c = search needs
-
-refused-requires-2 : tie.Need-refused-requires-2
-refused-requires-2 c κs = search needs
-
 returns-2 : tie.Need-returns-2
 returns-2 c =
     let args = c .before .before .before .before .before .before .args in
     let w = wrote-no-work (args .segments .now) (args .work .now) (args .n) (args .out .now) (c .before .before .if1 .left) (c .before .if2 .taken) in
     (c .refused2 .ensures ∙ w .answers, w .output, refl)
-
-plan-requires : tie.Need-plan-requires
-plan-requires c κs = search needs
-
-refused-requires-3 : tie.Need-refused-requires-3
-refused-requires-3 c κs = search needs
-
-same-length : tie.Need-same-length
-same-length c = search needs
 
 returns-3 : tie.Need-returns-3
 returns-3 c =
@@ -47,9 +26,6 @@ returns-3 c =
     let p = planned-all _ (args .work .now) _ _ _ few enough (c .before .before .before .before .plan .ensures) in
     let w = wrote-long (args .segments .now) (args .work .now) (args .n) (args .out .now) few enough _ (p .0) (c .before .if3 .taken) in
     (c .refused3 .ensures ∙ w .answers, w .output, p .1 .long)
-
-same-length-2 : tie.Need-same-length-2
-same-length-2 c = search needs
 
 returns-4 : tie.Need-returns-4
 returns-4 c =
@@ -72,21 +48,14 @@ emit-requires c κs =
       room-for (args .segments .now) (args .work .now) (args .n) (args .out .now) few enough _ (p .0) _ (p .1 .kept) (c .before .before .if4 .left),
     )
 
-accepted-requires : tie.Need-accepted-requires
-accepted-requires c κs = search needs
-
-same-length-3 : tie.Need-same-length-3
-same-length-3 c = search needs
-
-same-length-4 : tie.Need-same-length-4
-same-length-4 c = search needs
-
 returns-5 : tie.Need-returns-5
 returns-5 c =
-    let args = c .before .before .before .before .before .before .before .before .before .before .before .before .before .before .before .before .before .args in
+    let start = c .before .before .before .before .before .before .before .before .before .before .before .before .before in
+    let args = start .before .before .before .before .args in
     let few = c .before .before .before .before .before .before .before .before .before .before .before .before .before .if1 .left in
     let enough = c .before .before .before .before .before .before .before .before .before .before .before .before .if2 .left in
-    let p = planned-all _ (args .work .now) _ _ _ few enough (c .before .before .before .before .before .before .before .before .before .before .plan .ensures) in
+    let p = planned-all _ (args .work .now) _ _ _ few enough
+    (c .before .before .before .before .before .before .before .before .before .before .plan .ensures) in
     let short = c .before .before .before .before .before .before .before .if3 .left in
     let room = c .before .before .before .before .before .before .if4 .left in
     let written = c .before .before .before .emit .ensures in
@@ -97,20 +66,20 @@ pub write-rows-spec : {M : Type 1} → statement M
 write-rows-spec =
     tie.close
     (tie.spec
-    refused-requires
+    (search needs)
     returns
-    add-if2
-    mul-if2
-    refused-requires-2
+    (search needs)
+    (search needs)
+    (search needs)
     returns-2
-    plan-requires
-    refused-requires-3
-    same-length
+    (search needs)
+    (search needs)
+    (search needs)
     returns-3
-    same-length-2
+    (search needs)
     returns-4
     emit-requires
-    accepted-requires
-    same-length-3
-    same-length-4
+    (search needs)
+    (search needs)
+    (search needs)
     returns-5)

@@ -8,47 +8,17 @@ use borrow.Author.Needs.{needs}
 use Rattle.pieces.proofs.piece_at.Statement.{statement}
 use Rattle.pieces.proofs.piece_at.Tie as tie
 
-no-piece-requires : tie.Need-no-piece-requires
-no-piece-requires c κs = search needs
-
 returns : tie.Need-returns
 returns c = on-past _ _ _ _ (c .before .if1 .taken) (c .no-piece .ensures)
 
-shared-slice-read-b : tie.Need-shared-slice-read-b
-shared-slice-read-b c = search needs
-
-element-requires : tie.Need-element-requires
-element-requires c κs = search needs
-
-enum-told : tie.Need-enum-told
-enum-told c = search needs
-
-no-piece-requires-2 : tie.Need-no-piece-requires-2
-no-piece-requires-2 c κs = search needs
-
-enum-known-e : tie.Need-enum-known-e
-enum-known-e c = search needs
-
-no-piece-requires-3 : tie.Need-no-piece-requires-3
-no-piece-requires-3 c κs = search needs
-
-enum-known-e-2 : tie.Need-enum-known-e-2
-enum-known-e-2 c = search needs
-
 add-end : tie.Need-add-end
 add-end c = let h = fits _ _ _ silent (sym (c .before .before .before .element .ensures) ∙ c .before .e2 .given .1) in omega arith
-
-enum-known-e-3 : tie.Need-enum-known-e-3
-enum-known-e-3 c = search needs
 
 add-size : tie.Need-add-size
 add-size c = let h = fits _ _ _ found (sym (c .before .before .before .before .element .ensures) ∙ c .before .before .e3 .given .1) in omega arith
 
 add-end-2 : tie.Need-add-end-2
 add-end-2 c = let h = fits _ _ _ found (sym (c .before .before .before .before .element .ensures) ∙ c .before .before .e3 .given .1) in omega arith
-
-piece-kind-requires : tie.Need-piece-kind-requires
-piece-kind-requires c κs = search needs
 
 returns-2 : tie.Need-returns-2
 unfolding pieceOf
@@ -70,20 +40,20 @@ pub piece-at-spec : {M : Type 1} → statement M
 piece-at-spec =
     tie.close
     (tie.spec
-    no-piece-requires
+    (search needs)
     returns
-    shared-slice-read-b
-    element-requires
-    enum-told
-    no-piece-requires-2
-    enum-known-e
-    no-piece-requires-3
-    enum-known-e-2
+    (search needs)
+    (search needs)
+    (search needs)
+    (search needs)
+    (search needs)
+    (search needs)
+    (search needs)
     add-end
-    enum-known-e-3
+    (search needs)
     add-size
     add-end-2
-    piece-kind-requires
+    (search needs)
     returns-2
     returns-3
     returns-4

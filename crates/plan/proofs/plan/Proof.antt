@@ -4,8 +4,8 @@ use native.Mathlib.Omega.{arith}
 use Prim.Native.Nat.{_≤_}
 use mathlib.Core.Path.{_≡_, refl, _∙_}
 use lib.ListN.{length, replicate}
-use Rattle.plan.specs.Costs.{rowsOf, Planned}
-use Rattle.plan.proofs.Numbers.{bounded}
+use Rattle.plan.specs.Plan.{rowsOf, Planned}
+use Rattle.numbers.proofs.Numbers.{bounded}
 use Rattle.plan.proofs.Rest.{Known, known-none, planned-none, known-low, known-bound, known-smooth, turn-near, turn-known, turn-planned, plan-end}
 use Rattle.plan.proofs.plan.Statement.{statement}
 use Rattle.plan.proofs.plan.Tie as tie
@@ -18,22 +18,10 @@ Inv-loop work₀ n segments m fours threes left right cur₀ base₀ last₀ i�
 abbrev μ-loop : tie.MeasureT-loop
 μ-loop work₀ n segments m fours threes left right cur₀ base₀ last₀ i₀ work cur base last i = i
 
-array-write-fours : tie.Need-array-write-fours Inv-loop μ-loop
-array-write-fours c = search needs
-
-array-write-threes : tie.Need-array-write-threes Inv-loop μ-loop
-array-write-threes c = search needs
-
-rows-of-requires : tie.Need-rows-of-requires Inv-loop μ-loop
-rows-of-requires c κs = search needs
-
 loop-holds : tie.Need-loop-holds Inv-loop μ-loop
 loop-holds c =
     rw (c .rows-of .ensures .0)
     (search needs, refl, known-none _ _ _ (replicate 80 0) (bounded (replicate 80 0) 0 refl), planned-none _ _ _)
-
-sub-i : tie.Need-sub-i Inv-loop μ-loop
-sub-i c = search needs
 
 mul-row : tie.Need-mul-row Inv-loop μ-loop
 mul-row c =
@@ -59,9 +47,6 @@ slice-read-class-of c =
     let inv = c .before .before .before .before .loop .inv in
     omega (arith, rows .0, rows .1, rows .2, inv .0, inv .3 .long)
 
-class-of-requires : tie.Need-class-of-requires Inv-loop μ-loop
-class-of-requires c κs = search needs
-
 keep-requires : tie.Need-keep-requires Inv-loop μ-loop
 keep-requires c κs =
     let rows = c .before .before .before .before .before .before .before .before .rows-of .ensures in
@@ -72,16 +57,10 @@ unit-before-requires : tie.Need-unit-before-requires Inv-loop μ-loop
 unit-before-requires c κs =
     let inv = c .before .before .before .before .before .before .before .before .before .before .before .before .before .before .before .loop .inv in
     let size = c .before .before .before .before .before .before .before .before .before .before .before .before .size-from .ensures .0 in
-    let class = c .before .before .before .before .before .before .before .before .before .before .class-of .ensures in (
-      class .1,
-      inv .2 .low,
-      λ y h. known-smooth y (inv .1) (inv .2) h,
-      refl,
-      refl,
-      turn-near _ _ _ _ _ _ _ _ _ (omega arith) (inv .0) (inv .2) (inv .3) _ _ (class .0) size,
-      inv .1,
-      refl,
-      refl,
+    let class = c .before .before .before .before .before .before .before .before .before .before .class-of .ensures in
+    let near = turn-near _ _ _ _ _ _ _ _ _ (omega arith) (inv .0) (inv .2) (inv .3) _ _ (class .0) size in (
+      record { class-of = class .1; low = inv .2 .low; smooth = λ y h. known-smooth y (inv .1) (inv .2) h; near = near; long = inv .1 },
+      record { in-gl = refl; in-gr = refl; by-four = refl; by-three = refl },
     )
 
 add-base : tie.Need-add-base Inv-loop μ-loop
@@ -104,12 +83,10 @@ add-base-2 c =
     let bound = known-bound (λ q. known q .fits) (omega (arith, rows .0, rows .1)) (inv .0) (inv .2) in
     omega (arith, bound, size, c .before .unit-before .ensures .small)
 
-loop-less : tie.Need-loop-less Inv-loop μ-loop
-loop-less c = search needs
-
 loop-again : tie.Need-loop-again Inv-loop μ-loop
 loop-again c =
-    let inv = c .before .before .before .before .before .before .before .before .before .before .before .before .before .before .before .before .before .loop .inv in
+    let turn = c .before .before .before .before .before .before .before .before .before in
+    let inv = turn .before .before .before .before .before .before .before .before .loop .inv in
     let size = c .before .before .before .before .before .before .before .before .before .before .before .before .before .before .size-from .ensures .0 in
     let class = c .before .before .before .before .before .before .before .before .before .before .before .before .class-of .ensures .0 in
     let kept = c .before .before .before .before .before .before .before .before .before .keep .ensures in
@@ -119,9 +96,6 @@ loop-again c =
       turn-known _ _ _ _ _ _ _ _ _ (omega arith) (inv .0) (inv .2) (inv .3) _ _ class size _ _ _ turned,
       turn-planned _ _ _ _ _ _ _ _ _ (omega arith) (inv .0) (inv .2) (inv .3) _ _ class size _ kept,
     )
-
-array-read-result : tie.Need-array-read-result Inv-loop μ-loop
-array-read-result c = search needs
 
 cast-result : tie.Need-cast-result Inv-loop μ-loop
 cast-result c = omega (arith, known-low (c .before .loop .inv .1) (c .before .loop .inv .2) 1)
@@ -135,9 +109,6 @@ add-result c =
     let bound = known-bound (λ q. known q .fits) (omega (arith, rows .0, rows .1)) (inv .0) (inv .2) in
     omega (arith, bound, known-low (inv .1) (inv .2) 1)
 
-same-length : tie.Need-same-length Inv-loop μ-loop
-same-length c = search needs
-
 returns : tie.Need-returns Inv-loop μ-loop
 returns c = plan-end _ _ _ _ _ _ (c .before .loop .cur) _ _ (search needs) (c .before .loop .inv .2) (c .before .loop .inv .3) refl
 
@@ -147,24 +118,24 @@ plan-spec =
     (tie.spec
     Inv-loop
     μ-loop
-    array-write-fours
-    array-write-threes
-    rows-of-requires
+    (search needs)
+    (search needs)
+    (search needs)
     loop-holds
-    sub-i
+    (search needs)
     mul-row
     size-from-requires
     add-class-of
     slice-read-class-of
-    class-of-requires
+    (search needs)
     keep-requires
     unit-before-requires
     add-base
     add-base-2
-    loop-less
+    (search needs)
     loop-again
-    array-read-result
+    (search needs)
     cast-result
     add-result
-    same-length
+    (search needs)
     returns)

@@ -1,13 +1,10 @@
 -- `plan::rows_of` meets its contract, test by test.
 use native.Mathlib.Omega.{arith}
 use Rattle.base.proofs.Ladder.{ladder}
-use Rattle.plan.specs.Costs.{rowsOf}
+use Rattle.plan.specs.Plan.{rowsOf}
 use borrow.Author.Needs.{needs}
 use Rattle.plan.proofs.rows_of.Statement.{statement}
 use Rattle.plan.proofs.rows_of.Tie as tie
-
-mul-if2 : tie.Need-mul-if2
-mul-if2 c = search needs
 
 returns : tie.Need-returns
 unfolding rowsOf
@@ -22,4 +19,4 @@ unfolding rowsOf
 returns-3 c = (search ladder, omega arith, omega arith)
 
 pub rows-of-spec : {M : Type 1} → statement M
-rows-of-spec = tie.close (tie.spec mul-if2 returns returns-2 returns-3)
+rows-of-spec = tie.close (tie.spec (search needs) returns returns-2 returns-3)

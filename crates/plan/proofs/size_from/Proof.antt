@@ -4,16 +4,10 @@ use Prim.Native.Nat.{ℕ, _+_}
 use mathlib.Core.Path.{ap, ap₂, _∙_}
 use Rattle.base.proofs.Ladder.{ladder, on-lt, on-ge}
 use Rattle.rows.specs.Rows.{partOf}
-use Rattle.plan.specs.Costs.{sizeOf}
+use Rattle.plan.specs.Plan.{sizeOf}
 use borrow.Author.Needs.{needs}
 use Rattle.plan.proofs.size_from.Statement.{statement}
 use Rattle.plan.proofs.size_from.Tie as tie
-
-add-tag : tie.Need-add-tag
-add-tag c = search needs
-
-shared-slice-read-tag : tie.Need-shared-slice-read-tag
-shared-slice-read-tag c = search needs
 
 returns : tie.Need-returns
 unfolding sizeOf
@@ -34,18 +28,6 @@ returns-4 c = (search ladder depth 9, omega arith)
 returns-5 : tie.Need-returns-5
 unfolding sizeOf
 returns-5 c = (search ladder depth 9, omega arith)
-
-count-at-requires : tie.Need-count-at-requires
-count-at-requires c κs = search needs
-
-start-at-requires : tie.Need-start-at-requires
-start-at-requires c κs = search needs
-
-part-of-requires : tie.Need-part-of-requires
-part-of-requires c κs = search needs
-
-add-result : tie.Need-add-result
-add-result c = search needs
 
 returns-6 : tie.Need-returns-6
 unfolding sizeOf
@@ -71,16 +53,16 @@ pub size-from-spec : {M : Type 1} → statement M
 size-from-spec =
     tie.close
     (tie.spec
-    add-tag
-    shared-slice-read-tag
+    (search needs)
+    (search needs)
     returns
     returns-2
     returns-3
     returns-4
     returns-5
-    count-at-requires
-    start-at-requires
-    part-of-requires
-    add-result
+    (search needs)
+    (search needs)
+    (search needs)
+    (search needs)
     returns-6
     returns-7)

@@ -9,15 +9,6 @@ use Rattle.program.proofs.Whole.{accepted-form, counted-form, refused-l
 use Rattle.program.proofs.print.Statement.{statement}
 use Rattle.program.proofs.print.Tie as tie
 
-slice-aggregate-shortest : tie.Need-slice-aggregate-shortest
-slice-aggregate-shortest c = search needs
-
-shortest-requires : tie.Need-shortest-requires
-shortest-requires c κs = search needs
-
-same-length : tie.Need-same-length
-same-length c = search needs
-
 returns : tie.Need-returns
 returns c =
     let call = c .before .before .before .before .before in
@@ -26,9 +17,6 @@ returns c =
     let form = accepted-form (now (args .s)) (now (args .out)) (call .shortest .result) answers (c .if1 .taken) in
     (answers, form .counts, call .shortest .ensures .1 ∙ form .stored, λ long. omega (arith, form .short, long))
 
-same-length-2 : tie.Need-same-length-2
-same-length-2 c = search needs
-
 returns-2 : tie.Need-returns-2
 returns-2 c =
     let call = c .before .before .before .before .before .before .before in
@@ -36,12 +24,6 @@ returns-2 c =
     let answers = call .shortest .ensures .0 in
     let form = counted-form (now (args .s)) (now (args .out)) (call .shortest .result) answers (c .if2 .taken) in
     (answers, form .counts, call .shortest .ensures .1 ∙ form .stored, λ long. omega (arith, form .short, long))
-
-refused-requires : tie.Need-refused-requires
-refused-requires c κs = search needs
-
-same-length-3 : tie.Need-same-length-3
-same-length-3 c = search needs
 
 returns-3 : tie.Need-returns-3
 returns-3 c =
@@ -63,12 +45,12 @@ pub print-spec : {M : Type 1} → statement M
 print-spec =
     tie.close
     (tie.spec
-    slice-aggregate-shortest
-    shortest-requires
-    same-length
+    (search needs)
+    (search needs)
+    (search needs)
     returns
-    same-length-2
+    (search needs)
     returns-2
-    refused-requires
-    same-length-3
+    (search needs)
+    (search needs)
     returns-3)

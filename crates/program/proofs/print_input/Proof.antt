@@ -15,21 +15,6 @@ use Rattle.program.proofs.print_input.Tie as tie
 slice-aggregate-print : tie.Need-slice-aggregate-print
 slice-aggregate-print c = sym (length-take-le _ _ (omega arith))
 
-print-requires : tie.Need-print-requires
-print-requires c κs = search needs
-
-same-length : tie.Need-same-length
-same-length c = search needs
-
-returns : tie.Need-returns
-returns c = search needs
-
-print-requires-2 : tie.Need-print-requires-2
-print-requires-2 c κs = search needs
-
-same-length-2 : tie.Need-same-length-2
-same-length-2 c = search needs
-
 returns-2 : tie.Need-returns-2
 returns-2 c =
     let args = c .before .before .before .before .before .before .before .args in
@@ -46,9 +31,9 @@ print-input-spec =
     tie.close
     (tie.spec
     slice-aggregate-print
-    print-requires
-    same-length
-    returns
-    print-requires-2
-    same-length-2
+    (search needs)
+    (search needs)
+    (λ c. search needs)
+    (search needs)
+    (search needs)
     returns-2)

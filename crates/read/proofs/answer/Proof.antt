@@ -5,9 +5,6 @@ use Rattle.read.specs.Listing.{readAnswer}
 use Rattle.read.proofs.answer.Statement.{statement}
 use Rattle.read.proofs.answer.Tie as tie
 
-answer-requires : tie.Need-answer-requires
-answer-requires c κs = search needs
-
 returns : tie.Need-returns
 unfolding readAnswer
 returns c = rw (← (c .before .before .before .before .answer .ensures)) (search ladder)
@@ -21,4 +18,4 @@ unfolding readAnswer
 returns-3 c = rw (← (c .before .before .answer .ensures)) (search ladder)
 
 pub answer-spec : {M : Type 1} → statement M
-answer-spec = tie.close (tie.spec answer-requires returns returns-2 returns-3)
+answer-spec = tie.close (tie.spec (search needs) returns returns-2 returns-3)

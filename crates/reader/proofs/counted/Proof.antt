@@ -5,16 +5,6 @@ use borrow.Author.Needs.{needs}
 use Rattle.reader.proofs.counted.Statement.{statement}
 use Rattle.reader.proofs.counted.Tie as tie
 
-add-result : tie.Need-add-result
-add-result c = search needs
-
-returns : tie.Need-returns
-unfolding countedOf
-returns c = search ladder
-
-returns-2 : tie.Need-returns-2
-unfolding countedOf
-returns-2 c = search ladder
-
 pub counted-spec : {M : Type 1} → statement M
-counted-spec = tie.close (tie.spec add-result returns returns-2)
+unfolding countedOf
+counted-spec = tie.close (tie.spec (search needs) (λ c. search ladder) (λ c. search ladder))

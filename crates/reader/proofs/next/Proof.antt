@@ -1,15 +1,20 @@
 -- `reader::next` meets its contract: its code is followed by hand, for a struct that holds a reference is lent. The borrow of the reader is
 -- opened, its fields are read, `step` is called on them, the place, the count and the state are stored, and the borrow is closed.
 -- Assumes nothing.
-use Rattle.walks.proofs.Names.{_≡_, refl, ℕ, _<_, _^_, [], _∷_, List, length, URA, fullShare, named, erased, w64, Val, vint, vptr, SProp, ent, emp, via, fst∗, id⊢, Lft, Share, GName, Fml, ftrue, flft, fobs, fbor, fat, Memory, Routine, Heap, Calls, Loops, WpFn, Atoms, Fun, givenOf, Given, ‵, raw, given, _⊛_, ⋆, _$_, _∵_, !, qed, by, move, keep, let-go, use1, use2, split, join, learn, fsplit, fsplit3, fjoin, fjoin3, feqI, suffices, frame, done, look, init, forget, stop, hop, fld, from, load, of-opd, and-then, no-more, assigns, land, returns, enter, alloc1, alloc0, params1, pass1, pass0, whole, sub, look-in, store-in, Body, FmC, fmOf, RattleType, owns, mem, cellAt, Is, shows, uint-makes, u8, usize, RefT, NamedLft, MutRef, ptr-vals, mut-tells, sliceVal, ShrSlice, shr-slice-copy, opens, closes, owned, peeks, nothing, spelt, Declared, all-own, ownAt, rest, own-open, own-out, own-shut, Values, onEntry, tripleOf, Contract, Triple, cited, says, Stays, stay-ref, walkOf, goes-ref, ends-at, walked, Slot, plain, namedLft}
+use Rattle.walks.proofs.Names.{_≡_, refl, _<_, _^_, [], _∷_, List, URA, fullShare, named, erased, w64, Val, vint, vptr, SProp, Sq, prop, id⊢, ftrue}
+use Rattle.walks.proofs.Names.{flft, Memory, Heap, Atoms, Fun, givenOf, ‵, _⊛_, _$_, _∵_, !, qed, move, use1, split, frame, done, look, stop, hop}
+use Rattle.walks.proofs.Names.{fld, from, load, of-opd, assigns, whole, sub, look-in, store-in, mem, Is, shows, u8, usize, owned, nothing}
+use Rattle.walks.proofs.Names as kit
 use contract.Lifetimes.{AllOutlive}
 use contract.Running.{tablesOf}
 use denote.Struct.Laws as LL
 use denote.Enum.Laws as EL
 use Rattle.state.proofs.State as S
 use Rattle.state.proofs.State.Laws as S′
-use Rattle.walks.proofs.Body.{proved, 𝓣of, frees-all}
+use Rattle.walks.proofs.Body.{𝓣of, proved-by}
 use Rattle.walks.proofs.Calls.{calls-value}
+use Rattle.walks.proofs.Frame.{enters, leaves}
+use Rattle.walks.proofs.Steps.{arg, part, sets, lands-in, beside, number, joins, fjoins}
 use Rattle.reader.specs.Reader.{stepOf, moved}
 use Rattle.reader.specs.declared.Reader.{Reader}
 use Rattle.reader.specs.declared.Stepped.{Stepped}
@@ -20,129 +25,166 @@ use Rattle.reader.proofs.Item.Laws as I′
 use Rattle.reader.proofs.Stepped as G
 use Rattle.reader.proofs.Stepped.Laws as G′
 use Rattle.reader.proofs.step as step
-use Rattle.reader.proofs.step.Symbol as step-def
-use Rattle.reader.proofs.step.Symbol.{name as #step}
-use Rattle.reader.proofs.step.Met as step-thm
-use Rattle.reader.proofs.next.Key.{name as #next}
 use Rattle.reader.proofs.next as next
-use Rattle.reader.proofs.next.Statement as stated
 use Rattle.reader.proofs.next.Code as code
 
 -- the struct at the second of the signature's lifetimes
-abbrev behind : Slot 2
-behind = plain (λ κs. T.the-row (namedLft 2 1 tt κs))
+abbrev behind : kit.Slot 2
+behind = kit.plain (λ κs. T.the-row (kit.namedLft 2 1 tt κs))
 
-abbrev stayed : Stays (next.ended .signature .params) (next.ended .kept)
-stayed = (stay-ref (0 ∷ []) tt behind, tt)
+abbrev stayed : kit.Stays (next.ended .signature .params) (next.ended .kept)
+stayed = (kit.stay-ref (0 ∷ []) tt behind, tt)
 
 -- the contract that the proof cites
-abbrev Steps : {M : Type 1} (𝓤 : URA M) (H : Heap 𝓤) (A : Atoms 𝓤) (mem : Memory → SProp 𝓤) (run : Routine → Fun 𝓤) → Contract 𝓤
-Steps 𝓤 H A mem run = tripleOf 𝓤 H A step.signature (step.spec 𝓤 H A mem run)
+abbrev Steps : {M : Type 1} (𝓤 : URA M) (H : Heap 𝓤) (A : Atoms 𝓤) (mem : Memory → SProp 𝓤) (run : kit.Routine → Fun 𝓤) → kit.Contract 𝓤
+Steps 𝓤 H A mem run = kit.tripleOf 𝓤 H A step.signature (step.spec 𝓤 H A mem run)
 
-module _ {M : Type 1} (𝓤 : URA M) (H : Heap 𝓤) (A : Atoms 𝓤) (W : Given 𝓤 H A) (at-mem : Memory → SProp 𝓤) (run : Routine → Fun 𝓤) (κ κ′ : Lft) (bounds : AllOutlive 2 (next.signature .outlives) (κ, (κ′, tt))) (q q′ : Share) (b o : ℕ) (γ : GName) (h : Reader) where
-  abbrev α : NamedLft
-  α = record { mir = named 1; lft = κ′ }
+module _ {M : Type 1} (𝓤 : URA M) (H : Heap 𝓤) (A : Atoms 𝓤) (W : kit.Given 𝓤 H A) (at-mem : Memory → SProp 𝓤) (run : kit.Routine → Fun 𝓤)
+    (κ κ′ : kit.Lft) (bounds : AllOutlive 2 (next.signature .outlives) (κ, (κ′, tt))) (q q′ : kit.Share) (b o : kit.ℕ) (γ : kit.GName) (h : Reader)
+  where
+    abbrev α : kit.NamedLft
+    α = record { mir = named 1; lft = κ′ }
 
-  abbrev D : Declared
-  D = T.the-type α
+    abbrev D : kit.Declared
+    D = T.the-type α
 
-  abbrev L : LL.Laws D
-  L = T′.the-laws α
+    abbrev L : LL.Laws D
+    L = T′.the-laws α
 
-  abbrev R : RattleType
-  R = T.the-row α
+    abbrev R : kit.RattleType
+    R = T.the-row α
 
-  abbrev g : Stepped
-  g = stepOf h
+    abbrev g : Stepped
+    g = stepOf h
 
-  abbrev h′ : Reader
-  h′ = moved h
+    abbrev h′ : Reader
+    h′ = moved h
 
-  -- the machine value of the item
-  abbrev item : Val
-  item = EL.val I.the-type I′.the-laws (g .item)
+    -- the machine value of the item
+    abbrev item : Val
+    item = EL.val I.the-type I′.the-laws (g .item)
 
-  abbrev a : RefT Reader × Unit {0}
-  a = (record { ptr = (b, o); name = γ; now = h }, tt)
+    abbrev a : kit.RefT Reader × Unit {0}
+    a = (record { ptr = (b, o); name = γ; now = h }, tt)
 
-  abbrev vals : List Val × Unit {0}
-  vals = (vptr b o ∷ [], tt)
+    abbrev vals : List Val × Unit {0}
+    vals = (vptr b o ∷ [], tt)
 
-  abbrev v : Val
-  v = sliceVal (h .octets .ptr) (length (h .octets .now))
+    abbrev v : Val
+    v = kit.sliceVal (h .octets .ptr) (kit.length (h .octets .now))
 
-  -- the fields' values
-  abbrev fields : Values (D .parts)
-  fields = (h .octets, (h .place, (h .count, (h .state, tt))))
+    -- the fields' values
+    abbrev fields : kit.Values (D .parts)
+    fields = (h .octets, (h .place, (h .count, (h .state, tt))))
 
-  abbrev Octets : Fml
-  Octets = ShrSlice (named 1) κ′ u8 .own (h .octets) (v ∷ [])
+    abbrev Octets : kit.Fml
+    Octets = kit.ShrSlice (named 1) κ′ u8 .own (h .octets) (v ∷ [])
 
-  abbrev Post : Val → SProp 𝓤
-  Post = walkOf 𝓤 H A next.ended stayed (next.clauses 𝓤 H A at-mem run) .post (((κ, (κ′, tt)), (q, (q′, tt)), bounds, a, vals), tt)
+    abbrev Post : Val → SProp 𝓤
+    Post = kit.walkOf 𝓤 H A next.ended stayed (next.clauses 𝓤 H A at-mem run) .post (((κ, (κ′, tt)), (q, (q′, tt)), bounds, a, vals), tt)
 
-  abbrev to : Steps 𝓤 H A at-mem run .Ghost
-  to = (((κ′, tt), (q′, tt), tt, (h .octets, (h .place, (h .count, (h .state, tt)))), (v ∷ [], (vint w64 (h .place) ∷ [], (vint w64 (h .count) ∷ [], (S′.lowered (h .state) ∷ [], tt))))), tt)
+    abbrev to : Steps 𝓤 H A at-mem run .Ghost
+    to = (
+      (
+        (κ′, tt),
+        (q′, tt),
+        tt,
+        (h .octets, (h .place, (h .count, (h .state, tt)))),
+        (v ∷ [], (vint w64 (h .place) ∷ [], (vint w64 (h .count) ∷ [], (S′.lowered (h .state) ∷ [], tt)))),
+      ),
+      tt,
+    )
 
-  asks : h .place < 2 ^ 64 → h .count < 2 ^ 64 → Is S.the-row (h .state) (S′.lowered (h .state) ∷ []) → ent 𝓤 (⋆ 𝓤 H A (‵ (flft κ′ q′) ∷ ‵ Octets ∷ [])) (Steps 𝓤 H A at-mem run .pre to)
-  asks place-fits count-fits is =
-      qed W (‵ (flft κ′ q′) ∷ ‵ Octets ∷ []) ∵ nothing ! $ move ! (1 ∷ 0 ∷ []) $ join ! $ move ! (1 ∷ []) $
-      nothing ! $ owned ! S.the-row (Is S.the-row) (LL.makes S.the-type S′.the-plain 𝓤 H A) (h .state) _ is $ fjoin ! $ owned ! usize (Is usize) (uint-makes 𝓤 H A W w64) (h .count) _ (refl, count-fits) $ fjoin ! $
-      owned ! usize (Is usize) (uint-makes 𝓤 H A W w64) (h .place) _ (refl, place-fits) $ fjoin ! $ move ! (1 ∷ 0 ∷ []) $ fjoin ! $ move ! (1 ∷ 0 ∷ []) $ join ! $ frame ! $ done !
+    asks : h .place < 2 ^ 64 → h .count < 2 ^ 64 → Is S.the-row (h .state) (S′.lowered (h .state) ∷ [])
+        → Sq W (‵ (flft κ′ q′) ∷ ‵ Octets ∷ []) (prop (Steps 𝓤 H A at-mem run .pre to))
+    asks place-fits count-fits is =
+        nothing ! $ joins ! 0 refl $ move ! (1 ∷ []) $
+        nothing ! $ beside ! S.the-row (LL.makes S.the-type S′.the-plain 𝓤 H A) (h .state) _ is $
+        number ! (h .count) count-fits $
+        number ! (h .place) place-fits $ fjoins ! 0 refl $ joins ! 0 refl $
+        frame ! $ done !
 
-  exits : Is I.the-row (g .item) (item ∷ []) → ent 𝓤 (⋆ 𝓤 H A (‵ (fobs γ (R .coded .code h′)) ∷ ‵ (fbor κ (Body (mem R) b o γ)) ∷ ‵ (flft κ q) ∷ (‵ (flft κ′ q′) ⊛ ‵ ftrue) ∷ [])) (Post item)
-  exits is =
-      qed W (‵ (fobs γ (R .coded .code h′)) ∷ ‵ (fbor κ (Body (mem R) b o γ)) ∷ ‵ (flft κ q) ∷ (‵ (flft κ′ q′) ⊛ ‵ ftrue) ∷ []) ∵
-      suffices ! _ (ends-at 𝓤 H A next.ended stayed (next.clauses 𝓤 H A at-mem run) W (((κ, (κ′, tt)), (q, (q′, tt)), bounds, a, vals), tt) item (g .item) (h′, tt) (tt, tt)) $ says ! (refl, refl) $
-      move ! (2 ∷ 3 ∷ []) $ join ! $ frame ! $ feqI ! (List Val) (vptr b o ∷ []) (vptr b o ∷ []) refl $ fjoin3 ! $ nothing ! $ move ! (1 ∷ 0 ∷ []) $ fjoin ! $ frame ! $
-      owned ! I.the-row (Is I.the-row) (EL.makes I.the-type I′.the-plain 𝓤 H A) (g .item) _ is $ done !
+    exits : Is I.the-row (g .item) (item ∷ [])
+        → Sq W (‵ (kit.fobs γ (R .coded .code h′)) ∷ ‵ (kit.fbor κ (kit.Body (mem R) b o γ)) ∷
+        ‵ (flft κ q) ∷ (‵ (flft κ′ q′) ⊛ ‵ ftrue) ∷
+        []) (prop (Post item))
+    exits is =
+        kit.suffices ! _ (kit.ends-at 𝓤 H A next.ended stayed (next.clauses 𝓤 H A at-mem run) W
+        (((κ, (κ′, tt)), (q, (q′, tt)), bounds, a, vals), tt) item
+        (g .item) (h′, tt) (tt, tt)) $ kit.says ! (refl, refl) $
+        move ! (2 ∷ 3 ∷ []) $ kit.join ! $ frame ! $ kit.feqI ! (List Val) (vptr b o ∷ []) (vptr b o ∷ []) refl $ kit.fjoin3 ! $ nothing ! $
+        fjoins ! 0 refl $ frame ! $
+        owned ! I.the-row (Is I.the-row) (EL.makes I.the-type I′.the-plain 𝓤 H A) (g .item) _ is $ done !
 
-  module _ (C : Calls 𝓤 H) (Λ : Loops 𝓤 H) (fm : FmC 𝓤 H (W .laws) C) (known : Triple 𝓤 (C #step) (Steps 𝓤 H A at-mem run)) where
-    walk : ent 𝓤 (onEntry 𝓤 H A next.signature (κ, (κ′, tt)) (q, (q′, tt)) a vals) (WpFn 𝓤 H C Λ code.function (vptr b o ∷ []) Post)
-    walk =
-        qed W ((‵ (flft κ q) ⊛ ‵ (flft κ′ q′) ⊛ ‵ ftrue) ∷ ‵ (owns (MutRef (named 0) κ R ∷ []) a vals) ∷ []) ∵
-        split ! $ move ! (1 ∷ []) $ split ! $ move ! (3 ∷ []) $ fsplit ! $ fsplit3 ! $ keep ! (1 ∷ 2 ∷ 6 ∷ 4 ∷ []) $
-        enter ! C Λ code.function (vptr b o ∷ []) _ $
-        alloc1 ! (λ l₀. alloc1 ! (λ l₁. alloc1 ! (λ l₂. alloc1 ! (λ l₃. alloc1 ! (λ l₄. alloc1 ! (λ l₅. alloc1 ! (λ l₆. alloc0 ! $ params1 ! $ pass1 ! (init ! 10 refl (tt, tt)) $ pass0 ! $
-        -- the borrow is opened
-        move ! (14 ∷ 15 ∷ 16 ∷ []) $ opens ! tt R {h = h} b o (λ vs. spelt ! R (Is R) (shows 𝓤 H A R) (LL.vals D L) (LL.tells D L) fullShare h vs b o $
-        use1 W (‵ (fat fullShare (T′.mir erased) b o (T′.lowered h))) (W .laws .raw-at fullShare (T′.mir erased) b o (T′.lowered h)) $
-        move ! (1 ∷ []) $ peeks ! R (Is R) (shows 𝓤 H A R) h (T′.lowered h ∷ []) (λ is-h. move ! (1 ∷ 0 ∷ []) $
-        -- [the reader's cell; what it owns; the open borrow; obs; auth; the locals, _6 first; the token of the string]: the fields are read
-        assigns ! (of-opd ! (load ! (from ! (hop ! (look ! 15 refl) (fld ! refl (stop !)))) (look-in ! 0 (sub ! 0 refl (whole !))))) (from ! (stop !)) (init ! 11 refl (tt, LL.lawful D L 𝓤 H A W .typed h _ is-h .0 .1 .0)) $
-        assigns ! (of-opd ! (load ! (from ! (hop ! (look ! 15 refl) (fld ! refl (stop !)))) (look-in ! 0 (sub ! 1 refl (whole !))))) (from ! (stop !)) (init ! 9 refl (tt, LL.lawful D L 𝓤 H A W .typed h _ is-h .0 .1 .1 .0)) $
-        assigns ! (of-opd ! (load ! (from ! (hop ! (look ! 15 refl) (fld ! refl (stop !)))) (look-in ! 0 (sub ! 2 refl (whole !))))) (from ! (stop !)) (init ! 7 refl (tt, LL.lawful D L 𝓤 H A W .typed h _ is-h .0 .1 .1 .1 .0)) $
-        assigns ! (of-opd ! (load ! (from ! (hop ! (look ! 15 refl) (fld ! refl (stop !)))) (look-in ! 0 (sub ! 3 refl (whole !))))) (from ! (stop !)) (init ! 5 refl (tt, LL.lawful D L 𝓤 H A W .typed h _ is-h .0 .1 .1 .1 .1 .0)) $
-        -- what the string owns is had twice: one goes to the call, and one back into the reader
-        move ! (1 ∷ []) $ use1 W (given (T′.lowered h ∷ [] ≡ T′.lowered h ∷ []) (‵ (all-own (D .parts) L fields))) (own-open 𝓤 H A W D L fields (T′.lowered h)) $ learn ! (λ _.
-        use1 W (‵ (ownAt (D .parts) L 0 (h .octets)) ⊛ ‵ (rest (D .parts) L 0 fields)) (own-out 𝓤 H A W (D .parts) L 0 fields) $ split ! $
-        move ! (1 ∷ []) $ let-go ! $ use1 W (‵ Octets ⊛ ‵ Octets) (shr-slice-copy 𝓤 H A W (named 1) κ′ u8 .twice (h .octets) (v ∷ [])) $ split ! $
-        move ! (20 ∷ 0 ∷ []) $ use2 W (raw (Steps 𝓤 H A at-mem run .pre to)) (asks (LL.owed D L h _ is-h .1 .0 .1) (LL.owed D L h _ is-h .1 .1 .0 .1) (LL.owed D L h _ is-h .1 .1 .1 .0)) $
-        calls-value ! fm step.ended (step.clauses 𝓤 H A at-mem run) known to g (λ r e. id⊢ 𝓤 _) (LL.vals G.the-type G′.the-laws) (LL.tells G.the-type G′.the-laws)
-        (and-then ! (load ! (from ! (stop !)) (look ! 12 refl)) (and-then ! (load ! (from ! (stop !)) (look ! 10 refl)) (and-then ! (load ! (from ! (stop !)) (look ! 8 refl)) (and-then ! (load ! (from ! (stop !)) (look ! 6 refl)) (no-more !))))) (λ is.
-        use1 W (‵ (flft κ′ q′) ⊛ ‵ ftrue) (id⊢ 𝓤 _) $ land ! (from ! (stop !)) (init ! 14 refl (LL.lawful G.the-type G′.the-laws 𝓤 H A W .typed g _ is .0)) $
-        -- [the string's token; what it owns; the reader's cell; the open borrow; obs; auth; the locals]: place, count and state are stored
-        assigns ! (of-opd ! (load ! (from ! (fld ! refl (stop !))) (look-in ! 14 (sub ! 0 refl (whole !))))) (from ! (hop ! (look ! 16 refl) (fld ! refl (stop !)))) (store-in ! 2 (sub ! 1 refl (whole !)) (tt, LL.lawful G.the-type G′.the-laws 𝓤 H A W .typed g _ is .0 .1 .0)) $
-        assigns ! (of-opd ! (load ! (from ! (fld ! refl (stop !))) (look-in ! 14 (sub ! 1 refl (whole !))))) (from ! (hop ! (look ! 16 refl) (fld ! refl (stop !)))) (store-in ! 2 (sub ! 2 refl (whole !)) (tt, LL.lawful G.the-type G′.the-laws 𝓤 H A W .typed g _ is .0 .1 .1 .0)) $
-        assigns ! (of-opd ! (load ! (from ! (fld ! refl (stop !))) (look-in ! 14 (sub ! 2 refl (whole !))))) (from ! (hop ! (look ! 16 refl) (fld ! refl (stop !)))) (store-in ! 2 (sub ! 3 refl (whole !)) (tt, LL.lawful G.the-type G′.the-laws 𝓤 H A W .typed g _ is .0 .1 .1 .1 .0)) $
-        assigns ! (of-opd ! (load ! (from ! (fld ! refl (stop !))) (look-in ! 14 (sub ! 3 refl (whole !))))) (from ! (stop !)) (init ! 18 refl (EL.lawful I.the-type I′.the-laws 𝓤 H A W tt .typed (g .item) _ (LL.owed G.the-type G′.the-laws g _ is .1 .1 .1 .0) .0)) $
-        -- the reader is put together again, and the borrow is closed
-        move ! (1 ∷ []) $ nothing ! $ owned ! S.the-row (Is S.the-row) (LL.makes S.the-type S′.the-plain 𝓤 H A) (g .state) _ (LL.owed G.the-type G′.the-laws g _ is .1 .1 .0) $ fjoin ! $
-        owned ! usize (Is usize) (uint-makes 𝓤 H A W w64) (g .count) _ (LL.owed G.the-type G′.the-laws g _ is .1 .0) $ fjoin ! $
-        owned ! usize (Is usize) (uint-makes 𝓤 H A W w64) (g .place) _ (LL.owed G.the-type G′.the-laws g _ is .0) $ fjoin ! $ move ! (1 ∷ 0 ∷ []) $ fjoin ! $
-        use1 W (‵ (R .own h′ (T′.lowered h′ ∷ []))) (own-shut 𝓤 H A W D L (h .octets, (g .place, (g .count, (g .state, tt))))) $
-        move ! (2 ∷ []) $ use1 W (‵ (cellAt fullShare (R .mir) (T′.lowered h′ ∷ []) b o)) (W .laws .at-raw fullShare (T′.mir erased) b o (T′.lowered h′)) $
-        move ! (0 ∷ 1 ∷ 3 ∷ 4 ∷ 5 ∷ []) $ closes ! tt R h′ (T′.lowered h′ ∷ []) b o $
-        returns ! (look ! 16 refl) $ forget ! 4 refl $ forget ! 6 refl $ forget ! 8 refl $ forget ! 10 refl $ forget ! 12 refl $ forget ! 14 refl $ forget ! 16 refl $
-        move ! (16 ∷ 17 ∷ 14 ∷ 15 ∷ 12 ∷ 13 ∷ 10 ∷ 11 ∷ 8 ∷ 9 ∷ 6 ∷ 7 ∷ 4 ∷ 5 ∷ []) $ frees-all ! _ $ by ! (exits (LL.owed G.the-type G′.the-laws g _ is .1 .1 .1 .0)))))))))))))
+    module _ (C : kit.Calls 𝓤 H) (Λ : kit.Loops 𝓤 H) (fm : kit.FmC 𝓤 H (W .laws) C)
+        (known : kit.Triple 𝓤 (C step.Symbol.name) (Steps 𝓤 H A at-mem run)) where
+      walk : kit.ent 𝓤 (kit.onEntry 𝓤 H A next.signature (κ, (κ′, tt)) (q, (q′, tt)) a vals)
+          (kit.WpFn 𝓤 H C Λ code.function (vptr b o ∷ []) Post)
+      walk =
+          qed W ((‵ (flft κ q) ⊛ ‵ (flft κ′ q′) ⊛ ‵ ftrue) ∷ ‵ (kit.owns (kit.MutRef (named 0) κ R ∷ []) a vals) ∷ []) ∵
+          split ! $ move ! (1 ∷ []) $ split ! $ move ! (3 ∷ []) $ kit.fsplit ! $ kit.fsplit3 ! $ kit.keep ! (1 ∷ 2 ∷ 6 ∷ 4 ∷ []) $
+          enters ! C Λ code.function (vptr b o ∷ []) _ (λ bs. ((tt, tt), tt)) (λ bs.
+          -- the borrow is opened
+          move ! (14 ∷ 15 ∷ 16 ∷ []) $
+          kit.opens ! tt R {h = h} b o (λ vs. kit.spelt ! R (Is R) (shows 𝓤 H A R) (LL.vals D L) (LL.tells D L) fullShare h vs b o $
+          use1 W (‵ (kit.fat fullShare (T′.mir erased) b o (T′.lowered h))) (W .laws .raw-at fullShare (T′.mir erased) b o (T′.lowered h)) $
+          move ! (1 ∷ []) $ kit.peeks ! R (Is R) (shows 𝓤 H A R) h (T′.lowered h ∷ []) (λ is-h. move ! (1 ∷ 0 ∷ []) $
+          -- [the reader's cell; what it owns; the open borrow; obs; auth; the locals, _6 first; the token of the string]: the fields are read
+          sets ! 11 (of-opd ! (load ! (from ! (hop ! (look ! 15 refl) (fld ! refl (stop !)))) (look-in ! 0 (sub ! 0 refl (whole !))))) refl
+          (tt, LL.lawful D L 𝓤 H A W .typed h _ is-h .0 .1 .0) $
+          sets ! 9 (of-opd ! (load ! (from ! (hop ! (look ! 15 refl) (fld ! refl (stop !)))) (look-in ! 0 (sub ! 1 refl (whole !))))) refl
+          (tt, LL.lawful D L 𝓤 H A W .typed h _ is-h .0 .1 .1 .0) $
+          sets ! 7 (of-opd ! (load ! (from ! (hop ! (look ! 15 refl) (fld ! refl (stop !)))) (look-in ! 0 (sub ! 2 refl (whole !))))) refl
+          (tt, LL.lawful D L 𝓤 H A W .typed h _ is-h .0 .1 .1 .1 .0) $
+          sets ! 5 (of-opd ! (load ! (from ! (hop ! (look ! 15 refl) (fld ! refl (stop !)))) (look-in ! 0 (sub ! 3 refl (whole !))))) refl
+          (tt, LL.lawful D L 𝓤 H A W .typed h _ is-h .0 .1 .1 .1 .1 .0) $
+          -- what the string owns is had twice: one goes to the call, and one back into the reader
+          move ! (1 ∷ []) $ use1 W (kit.given (T′.lowered h ∷ [] ≡ T′.lowered h ∷ []) (‵ (kit.all-own (D .parts) L fields)))
+          (kit.own-open 𝓤 H A W D L fields (T′.lowered h)) $ kit.learn ! (λ _.
+          use1 W (‵ (kit.ownAt (D .parts) L 0 (h .octets)) ⊛ ‵ (kit.rest (D .parts) L 0 fields)) (kit.own-out 𝓤 H A W (D .parts) L 0 fields) $
+          split ! $
+          move ! (1 ∷ []) $ kit.let-go ! $ use1 W (‵ Octets ⊛ ‵ Octets) (kit.shr-slice-copy 𝓤 H A W (named 1) κ′ u8 .twice (h .octets)
+          (v ∷ [])) $
+          split ! $
+          move ! (20 ∷ 0 ∷ []) $ kit.use2 W (kit.raw (Steps 𝓤 H A at-mem run .pre to))
+          (asks (LL.owed D L h _ is-h .1 .0 .1) (LL.owed D L h _ is-h .1 .1 .0 .1)
+          (LL.owed D L h _ is-h .1 .1 .1 .0) .prf) $
+          calls-value ! fm step.ended (step.clauses 𝓤 H A at-mem run) known to g (λ r e. id⊢ 𝓤 _) (LL.vals G.the-type G′.the-laws)
+          (LL.tells G.the-type G′.the-laws)
+          (arg ! 12 refl (arg ! 10 refl (arg ! 8 refl (arg ! 6 refl (kit.no-more !))))) (λ is.
+          use1 W (‵ (flft κ′ q′) ⊛ ‵ ftrue) (id⊢ 𝓤 _) $ lands-in ! 14 refl (LL.lawful G.the-type G′.the-laws 𝓤 H A W .typed g _ is .0) $
+          -- [the string's token; what it owns; the reader's cell; the open borrow; obs; auth; the locals]: place, count and state are stored
+          assigns ! (of-opd ! (part ! 14 0 refl refl refl)) (from ! (hop ! (look ! 16 refl) (fld ! refl (stop !))))
+          (store-in ! 2 (sub ! 1 refl (whole !)) (tt, LL.lawful G.the-type G′.the-laws 𝓤 H A W .typed g _ is .0 .1 .0)) $
+          assigns ! (of-opd ! (part ! 14 1 refl refl refl)) (from ! (hop ! (look ! 16 refl) (fld ! refl (stop !))))
+          (store-in ! 2 (sub ! 2 refl (whole !)) (tt, LL.lawful G.the-type G′.the-laws 𝓤 H A W .typed g _ is .0 .1 .1 .0)) $
+          assigns ! (of-opd ! (part ! 14 2 refl refl refl)) (from ! (hop ! (look ! 16 refl) (fld ! refl (stop !))))
+          (store-in ! 2 (sub ! 3 refl (whole !)) (tt, LL.lawful G.the-type G′.the-laws 𝓤 H A W .typed g _ is .0 .1 .1 .1 .0)) $
+          sets ! 18 (of-opd ! (part ! 14 3 refl refl refl)) refl (EL.lawful I.the-type I′.the-laws 𝓤 H A W tt .typed (g .item) _
+          (LL.owed G.the-type G′.the-laws g _ is .1 .1 .1 .0) .0) $
+          -- the reader is put together again, and the borrow is closed
+          move ! (1 ∷ []) $ nothing ! $
+          owned ! S.the-row (Is S.the-row) (LL.makes S.the-type S′.the-plain 𝓤 H A) (g .state) _ (LL.owed G.the-type G′.the-laws g _ is .1 .1 .0) $
+          kit.fjoin ! $
+          beside ! usize (kit.uint-makes 𝓤 H A W w64) (g .count) _ (LL.owed G.the-type G′.the-laws g _ is .1 .0) $
+          beside ! usize (kit.uint-makes 𝓤 H A W w64) (g .place) _ (LL.owed G.the-type G′.the-laws g _ is .0) $ fjoins ! 0 refl $
+          use1 W (‵ (R .own h′ (T′.lowered h′ ∷ []))) (kit.own-shut 𝓤 H A W D L (h .octets, (g .place, (g .count, (g .state, tt))))) $
+          move ! (2 ∷ []) $ use1 W (‵ (kit.cellAt fullShare (R .mir) (T′.lowered h′ ∷ []) b o)) (W .laws .at-raw fullShare (T′.mir erased) b o
+          (T′.lowered h′)) $
+          move ! (0 ∷ 1 ∷ 3 ∷ 4 ∷ 5 ∷ []) $ kit.closes ! tt R h′ (T′.lowered h′ ∷ []) b o $
+          kit.returns ! (look ! 16 refl) $ leaves ! 4 refl refl $ (exits (LL.owed G.the-type G′.the-laws g _ is .1 .1 .1 .0)))))))
 
-pub next-spec : {M : Type 1} → stated.statement M
+pub next-spec : {M : Type 1} → next.Statement.statement M
 unfolding code.routine tablesOf
 next-spec 𝓤 H 𝓜 𝓖 𝓡 =
-    proved 𝓤 H 𝓜 𝓖 𝓡 code.env #next code.function (code.unfolded 𝓤 H 𝓜 𝓡) next.ended stayed (next.clauses 𝓤 H (𝓖 .A) (𝓜 .mem) (𝓡 .run))
-    (goes-ref 𝓤 H (𝓖 .A) (givenOf 𝓤 H 𝓜 𝓖) 2 0 tt behind, tt)
-    (walked 𝓤 H (𝓖 .A) next.ended stayed (next.clauses 𝓤 H (𝓖 .A) (𝓜 .mem) (𝓡 .run)) (WpFn 𝓤 H (𝓣of 𝓤 H 𝓜 𝓖 𝓡 code.env .C) (𝓣of 𝓤 H 𝓜 𝓖 𝓡 code.env .Λ) code.function)
-    (λ κs. (ptr-vals, tt)) (λ κs. (mut-tells (named 0) (κs .0) (T.the-row (namedLft 2 1 tt κs)), tt))
-    (λ κs qs bounds a g are. via 𝓤 _ (fst∗ 𝓤 _ (emp 𝓤)) (walk 𝓤 H (𝓖 .A) (givenOf 𝓤 H 𝓜 𝓖) (𝓜 .mem) (𝓡 .run) (κs .0) (κs .1 .0) bounds (qs .0) (qs .1 .0) (a .0 .ptr .0) (a .0 .ptr .1) (a .0 .name) (a .0 .now)
-    (𝓣of 𝓤 H 𝓜 𝓖 𝓡 code.env .C) (𝓣of 𝓤 H 𝓜 𝓖 𝓡 code.env .Λ) (fmOf 𝓤 H (givenOf 𝓤 H 𝓜 𝓖 .laws) (𝓣of 𝓤 H 𝓜 𝓖 𝓡 code.env))
-    (cited 𝓤 H (Steps 𝓤 H (𝓖 .A) (𝓜 .mem) (𝓡 .run)) 𝓜 𝓡 code.env #step step-def.routine code.calls-reader·step (step-thm.met 𝓤 H 𝓜 𝓖 𝓡)))))
+    proved-by 𝓤 H 𝓜 𝓖 𝓡 code.env next.Key.name code.function (code.unfolded 𝓤 H 𝓜 𝓡) next.ended stayed
+    (next.clauses 𝓤 H (𝓖 .A) (𝓜 .mem) (𝓡 .run))
+    (kit.goes-ref 𝓤 H (𝓖 .A) (givenOf 𝓤 H 𝓜 𝓖) 2 0 tt behind, tt)
+    (λ κs. (kit.ptr-vals, tt)) (λ κs. (kit.mut-tells (named 0) (κs .0) (T.the-row (kit.namedLft 2 1 tt κs)), tt))
+    (λ κs qs bounds a g are. kit.via 𝓤 _ (kit.fst∗ 𝓤 _ (kit.emp 𝓤)) (walk 𝓤 H (𝓖 .A) (givenOf 𝓤 H 𝓜 𝓖) (𝓜 .mem) (𝓡 .run)
+    (κs .0)
+    (κs .1 .0) bounds (qs .0) (qs .1 .0) (a .0 .ptr .0) (a .0 .ptr .1) (a .0 .name) (a .0 .now)
+    (𝓣of 𝓤 H 𝓜 𝓖 𝓡 code.env .C) (𝓣of 𝓤 H 𝓜 𝓖 𝓡 code.env .Λ)
+    (kit.fmOf 𝓤 H (givenOf 𝓤 H 𝓜 𝓖 .laws) (𝓣of 𝓤 H 𝓜 𝓖 𝓡 code.env))
+    (kit.cited 𝓤 H (Steps 𝓤 H (𝓖 .A) (𝓜 .mem) (𝓡 .run)) 𝓜 𝓡 code.env step.Symbol.name step.Symbol.routine code.calls-reader·step
+    (step.Met.met 𝓤 H 𝓜 𝓖 𝓡))))

@@ -1,7 +1,9 @@
 -- `reader::open` meets its contract: its code is followed by hand, for it makes a struct that holds a reference. The string can be had
 -- twice, once for the parameter at exit and once inside the reader.
 -- Assumes nothing.
-use Rattle.walks.proofs.Names.{refl, ℕ, List, [], _∷_, length, URA, named, w64, Val, SProp, ent, emp, via, fst∗, Lft, Share, Fml, ftrue, flft, Memory, Routine, Heap, Calls, Loops, WpFn, Atoms, Fun, givenOf, Given, ‵, raw, _⊛_, _$_, _∵_, !, qed, by, move, use1, split, fsplit, fjoin, suffices, frame, agg, look, init, forget, stop, from, load, lit, false-lit, and-then, no-more, assigns, returns, enter, alloc1, alloc0, params1, pass1, pass0, owns, Is, uint-makes, u8, usize, RefT, NamedLft, plain, namedLft, sliceVal, ShrSlice, slice-vals, shr-slice-tells, shr-slice-lawful, shr-slice-copy, nothing, owned, own-shut, onEntry, says, Stays, stay-none-slice, walkOf, goes-none-slice, ends-at, walked, yes}
+use Rattle.walks.proofs.Names.{refl, List, [], _∷_, named, Val, SProp, Sq, ‵, _⊛_, _$_, _∵_, !, qed, by, move, frame, agg, lit, and-then, no-more, Is}
+use Rattle.walks.proofs.Names.{u8, plain, yes}
+use Rattle.walks.proofs.Names as kit
 use lib.Dec.{lit<}
 use contract.Running.{tablesOf}
 use denote.Struct.Laws as LL
@@ -13,18 +15,18 @@ use Rattle.state.proofs.Sets as P
 use Rattle.state.proofs.Sets.Laws as P′
 use Rattle.state.proofs.directions.Directions as Q
 use Rattle.state.proofs.directions.Directions.Laws as Q′
-use Rattle.walks.proofs.Body.{proved, 𝓣of, frees-all}
+use Rattle.walks.proofs.Body.{𝓣of, proved-by}
+use Rattle.walks.proofs.Frame.{enters, leaves}
+use Rattle.walks.proofs.Steps.{arg, sets as puts, beside, copies, number, fjoins}
 use Rattle.reader.specs.declared.Reader.{Reader}
 use Rattle.reader.specs.Reader.{opened}
 use Rattle.reader.proofs.Reader as T
 use Rattle.reader.proofs.Reader.Laws as T′
-use Rattle.reader.proofs.open.Key.{name as #open}
 use Rattle.reader.proofs.open as opn
-use Rattle.reader.proofs.open.Statement as stated
 use Rattle.reader.proofs.open.Code as code
 
-abbrev stayed : Stays (opn.ended .signature .params) (opn.ended .kept)
-stayed = (stay-none-slice (0 ∷ []) tt (plain (λ _. u8)) yes, tt)
+abbrev stayed : kit.Stays (opn.ended .signature .params) (opn.ended .kept)
+stayed = (kit.stay-none-slice (0 ∷ []) tt (plain (λ _. u8)) yes, tt)
 
 -- the fresh state and its parts, as machine values
 directions-is : Is Q.the-row undirected (Q′.lowered undirected ∷ [])
@@ -36,13 +38,15 @@ sets-is = LL.owes P.the-type P′.the-laws (sets 0 3) ((refl, lit< tt), ((refl, 
 fresh-is : Is S.the-row fresh (S′.lowered fresh ∷ [])
 fresh-is = LL.owes S.the-type S′.the-laws fresh (directions-is, (sets-is, tt))
 
-module _ {M : Type 1} (𝓤 : URA M) (H : Heap 𝓤) (A : Atoms 𝓤) (W : Given 𝓤 H A) (mem : Memory → SProp 𝓤) (run : Routine → Fun 𝓤) (κ : Lft) (q : Share) (s : RefT (List ℕ)) where
-  abbrev α : NamedLft
-  α = namedLft 1 0 tt (κ, tt)
+module _ {M : Type 1} (𝓤 : kit.URA M) (H : kit.Heap 𝓤) (A : kit.Atoms 𝓤) (W : kit.Given 𝓤 H A) (mem : kit.Memory → SProp 𝓤)
+    (run : kit.Routine → kit.Fun 𝓤)
+    (κ : kit.Lft) (q : kit.Share) (s : kit.RefT (List kit.ℕ)) where
+  abbrev α : kit.NamedLft
+  α = kit.namedLft 1 0 tt (κ, tt)
 
   -- the machine value that s has
   abbrev v : Val
-  v = sliceVal (s .ptr) (length (s .now))
+  v = kit.sliceVal (s .ptr) (kit.length (s .now))
 
   abbrev made : Reader
   made = opened s
@@ -51,38 +55,49 @@ module _ {M : Type 1} (𝓤 : URA M) (H : Heap 𝓤) (A : Atoms 𝓤) (W : Given
   at = (v ∷ [], tt)
 
   abbrev Post : Val → SProp 𝓤
-  Post = walkOf 𝓤 H A opn.ended stayed (opn.clauses 𝓤 H A mem run) .post (((κ, tt), (q, tt), tt, (s, tt), at), tt)
+  Post = kit.walkOf 𝓤 H A opn.ended stayed (opn.clauses 𝓤 H A mem run) .post (((κ, tt), (q, tt), tt, (s, tt), at), tt)
 
-  abbrev Own : Fml
-  Own = ShrSlice (named 0) κ u8 .own s (v ∷ [])
-
-  exits : ent 𝓤 (onEntry 𝓤 H A opn.signature (κ, tt) (q, tt) (s, tt) at) (Post (T′.lowered made))
+  exits : Sq W ((‵ (kit.flft κ q) ⊛ ‵ kit.ftrue) ∷ ‵ (kit.owns (kit.ShrSlice (named 0) κ u8 ∷ []) (s, tt) at) ∷ [])
+      (kit.prop (Post (T′.lowered made)))
   exits =
-      qed W ((‵ (flft κ q) ⊛ ‵ ftrue) ∷ ‵ (owns (ShrSlice (named 0) κ u8 ∷ []) (s, tt) at) ∷ []) ∵
-      suffices ! _ (ends-at 𝓤 H A opn.ended stayed (opn.clauses 𝓤 H A mem run) W (((κ, tt), (q, tt), tt, (s, tt), at), tt) (T′.lowered made) made (tt, tt) (tt, tt)) $ says ! refl $
-      frame ! $ fsplit ! $ use1 W (‵ Own ⊛ ‵ Own) (shr-slice-copy 𝓤 H A W (named 0) κ u8 .twice s (v ∷ [])) $ split ! $ move ! (0 ∷ 2 ∷ []) $ fjoin ! $ frame ! $
+      kit.suffices ! _ (kit.ends-at 𝓤 H A opn.ended stayed (opn.clauses 𝓤 H A mem run) W (((κ, tt), (q, tt), tt, (s, tt), at), tt)
+      (T′.lowered made) made
+      (tt, tt) (tt, tt)) $ kit.says ! refl $
+      frame ! $ kit.fsplit ! $ copies ! (named 0) κ u8 s (v ∷ []) $ move ! (0 ∷ 2 ∷ []) $ kit.fjoin ! $ frame ! $
       -- [what the string owns]: with what the other fields own it is what the reader owns
-      nothing ! $ owned ! S.the-row (Is S.the-row) (LL.makes S.the-type S′.the-plain 𝓤 H A) fresh _ fresh-is $ fjoin ! $
-      owned ! usize (Is usize) (uint-makes 𝓤 H A W w64) 0 _ (refl, lit< tt) $ fjoin ! $ owned ! usize (Is usize) (uint-makes 𝓤 H A W w64) 0 _ (refl, lit< tt) $ fjoin ! $
-      move ! (1 ∷ 0 ∷ []) $ fjoin ! $ by ! (own-shut 𝓤 H A W (T.the-type α) (T′.the-laws α) (s, (0, (0, (fresh, tt)))))
+      kit.nothing ! $ beside ! S.the-row (LL.makes S.the-type S′.the-plain 𝓤 H A) fresh _ fresh-is $
+      number ! 0 (lit< tt) $ number ! 0 (lit< tt) $
+      fjoins ! 0 refl $ by ! (kit.own-shut 𝓤 H A W (T.the-type α) (T′.the-laws α) (s, (0, (0, (fresh, tt)))))
 
-  module _ (C : Calls 𝓤 H) (Λ : Loops 𝓤 H) where
-    walk : Is (ShrSlice (named 0) κ u8) s (v ∷ []) → ent 𝓤 (onEntry 𝓤 H A opn.signature (κ, tt) (q, tt) (s, tt) at) (WpFn 𝓤 H C Λ code.function (v ∷ []) Post)
+  module _ (C : kit.Calls 𝓤 H) (Λ : kit.Loops 𝓤 H) where
+    walk : Is (kit.ShrSlice (named 0) κ u8) s (v ∷ [])
+        → kit.ent 𝓤 (kit.onEntry 𝓤 H A opn.signature (κ, tt) (q, tt) (s, tt) at) (kit.WpFn 𝓤 H C Λ code.function (v ∷ []) Post)
     walk p =
-        qed W (raw (onEntry 𝓤 H A opn.signature (κ, tt) (q, tt) (s, tt) at) ∷ []) ∵ enter ! C Λ code.function (v ∷ []) _ $
-        alloc1 ! (λ l₀. alloc1 ! (λ l₁. alloc1 ! (λ l₂. alloc1 ! (λ l₃. alloc1 ! (λ l₄. alloc0 ! $ params1 ! $ pass1 ! (init ! 6 refl (shr-slice-lawful 𝓤 H A W (named 0) κ u8 .typed s (v ∷ []) p .0)) $ pass0 ! $
-        assigns ! (agg ! (and-then ! (lit ! tt) (and-then ! (lit ! tt) (and-then ! (false-lit !) (and-then ! (false-lit !) (no-more !)))))) (from ! (stop !)) (init ! 4 refl (LL.lawful Q.the-type Q′.the-laws 𝓤 H A W .typed undirected _ directions-is .0)) $
-        assigns ! (agg ! (and-then ! (lit ! tt) (and-then ! (lit ! tt) (no-more !)))) (from ! (stop !)) (init ! 2 refl (LL.lawful P.the-type P′.the-laws 𝓤 H A W .typed (sets 0 3) _ sets-is .0)) $
-        assigns ! (agg ! (and-then ! (load ! (from ! (stop !)) (look ! 4 refl)) (and-then ! (load ! (from ! (stop !)) (look ! 2 refl)) (no-more !)))) (from ! (stop !)) (init ! 0 refl (LL.lawful S.the-type S′.the-laws 𝓤 H A W .typed fresh _ fresh-is .0)) $
-        assigns ! (agg ! (and-then ! (load ! (from ! (stop !)) (look ! 6 refl)) (and-then ! (lit ! tt) (and-then ! (lit ! tt) (and-then ! (load ! (from ! (stop !)) (look ! 0 refl)) (no-more !)))))) (from ! (stop !))
-        (init ! 8 refl (tt, (shr-slice-lawful 𝓤 H A W (named 0) κ u8 .typed s (v ∷ []) p .0 .1, (record { fits = lit< tt }, (record { fits = lit< tt }, (LL.lawful S.the-type S′.the-laws 𝓤 H A W .typed fresh _ fresh-is .0 .1, tt)))))) $
-        returns ! (look ! 8 refl) $ forget ! 0 refl $ forget ! 2 refl $ forget ! 4 refl $ forget ! 6 refl $ forget ! 8 refl $ move ! (8 ∷ 9 ∷ 6 ∷ 7 ∷ 4 ∷ 5 ∷ 2 ∷ 3 ∷ 0 ∷ 1 ∷ []) $ frees-all ! _ $ by ! exits)))))
+        qed W (kit.raw (kit.onEntry 𝓤 H A opn.signature (κ, tt) (q, tt) (s, tt) at) ∷ []) ∵
+        enters ! C Λ code.function (v ∷ []) _ (λ bs. (kit.shr-slice-lawful 𝓤 H A W (named 0) κ u8 .typed s (v ∷ []) p .0, tt)) (λ bs.
+        puts ! 4 (agg ! (and-then ! (lit ! tt) (and-then ! (lit ! tt) (and-then ! (kit.false-lit !) (and-then ! (kit.false-lit !) (no-more !)))))) refl
+        (LL.lawful Q.the-type Q′.the-laws 𝓤 H A W .typed undirected _ directions-is .0) $
+        puts ! 2 (agg ! (and-then ! (lit ! tt) (and-then ! (lit ! tt) (no-more !)))) refl (LL.lawful P.the-type P′.the-laws 𝓤 H A W .typed (sets 0 3)
+        _ sets-is .0) $
+        puts ! 0 (agg ! (arg ! 4 refl (arg ! 2 refl (no-more !)))) refl (LL.lawful S.the-type S′.the-laws 𝓤 H A W .typed fresh _ fresh-is .0) $
+        kit.assigns ! (agg ! (arg ! 6 refl (and-then ! (lit ! tt) (and-then ! (lit ! tt) (arg ! 0 refl (no-more !)))))) (kit.from ! (kit.stop !))
+        (kit.init ! 8 refl (
+          tt,
+          (
+            kit.shr-slice-lawful 𝓤 H A W (named 0) κ u8 .typed s (v ∷ []) p .0 .1,
+            (record { fits = lit< tt }, (record { fits = lit< tt }, (LL.lawful S.the-type S′.the-laws 𝓤 H A W .typed fresh _ fresh-is .0 .1, tt))),
+          ),
+        )) $
+        kit.returns ! (kit.look ! 8 refl) $ move ! (10 ∷ []) $ leaves ! 1 refl refl $ by ! (exits .prf))
 
-pub open-spec : {M : Type 1} → stated.statement M
+pub open-spec : {M : Type 1} → opn.Statement.statement M
 unfolding code.routine tablesOf
 open-spec 𝓤 H 𝓜 𝓖 𝓡 =
-    proved 𝓤 H 𝓜 𝓖 𝓡 code.env #open code.function (code.unfolded 𝓤 H 𝓜 𝓡) opn.ended stayed (opn.clauses 𝓤 H (𝓖 .A) (𝓜 .mem) (𝓡 .run))
-    (goes-none-slice 𝓤 H (𝓖 .A) (givenOf 𝓤 H 𝓜 𝓖) 1 (0 ∷ []) tt (plain (λ _. u8)) yes, tt)
-    (walked 𝓤 H (𝓖 .A) opn.ended stayed (opn.clauses 𝓤 H (𝓖 .A) (𝓜 .mem) (𝓡 .run)) (WpFn 𝓤 H (𝓣of 𝓤 H 𝓜 𝓖 𝓡 code.env .C) (𝓣of 𝓤 H 𝓜 𝓖 𝓡 code.env .Λ) code.function)
-    (λ κs. (slice-vals, tt)) (λ κs. (shr-slice-tells (named 0) (κs .0) u8, tt))
-    (λ κs qs bounds a g are. via 𝓤 _ (fst∗ 𝓤 _ (emp 𝓤)) (walk 𝓤 H (𝓖 .A) (givenOf 𝓤 H 𝓜 𝓖) (𝓜 .mem) (𝓡 .run) (κs .0) (qs .0) (a .0) (𝓣of 𝓤 H 𝓜 𝓖 𝓡 code.env .C) (𝓣of 𝓤 H 𝓜 𝓖 𝓡 code.env .Λ) (are .0))))
+    let T = 𝓣of 𝓤 H 𝓜 𝓖 𝓡 code.env in
+    proved-by 𝓤 H 𝓜 𝓖 𝓡 code.env opn.Key.name code.function (code.unfolded 𝓤 H 𝓜 𝓡) opn.ended stayed
+    (opn.clauses 𝓤 H (𝓖 .A) (𝓜 .mem) (𝓡 .run))
+    (kit.goes-none-slice 𝓤 H (𝓖 .A) (kit.givenOf 𝓤 H 𝓜 𝓖) 1 (0 ∷ []) tt (plain (λ _. u8)) yes, tt)
+    (λ κs. (kit.slice-vals, tt)) (λ κs. (kit.shr-slice-tells (named 0) (κs .0) u8, tt))
+    (λ κs qs bounds a g are. kit.via 𝓤 _ (kit.fst∗ 𝓤 _ (kit.emp 𝓤)) (walk 𝓤 H (𝓖 .A) (kit.givenOf 𝓤 H 𝓜 𝓖) (𝓜 .mem) (𝓡 .run)
+    (κs .0)
+    (qs .0) (a .0) (T .C) (T .Λ) (are .0)))

@@ -6,20 +6,8 @@ use borrow.Author.Needs.{needs}
 use Rattle.rewrite.proofs.shortest.Statement.{statement}
 use Rattle.rewrite.proofs.shortest.Tie as tie
 
-answer-requires : tie.Need-answer-requires
-answer-requires c κs = search needs
-
 stow-requires : tie.Need-stow-requires
 stow-requires c κs = (accepts _ _ (c .before .before .before .answer .ensures) (c .before .if1 .taken), counts _ _ (c .before .before .before .answer .ensures) (c .before .if1 .taken))
-
-finish-requires : tie.Need-finish-requires
-finish-requires c κs = search needs
-
-same-length : tie.Need-same-length
-same-length c = search needs
-
-same-length-2 : tie.Need-same-length-2
-same-length-2 c = search needs
 
 returns : tie.Need-returns
 returns c = (
@@ -35,10 +23,10 @@ pub shortest-spec : {M : Type 1} → statement M
 shortest-spec =
     tie.close
     (tie.spec
-    answer-requires
+    (search needs)
     stow-requires
-    finish-requires
-    same-length
-    same-length-2
+    (search needs)
+    (search needs)
+    (search needs)
     returns
     returns-2)

@@ -14,20 +14,8 @@ Inv-loop s n work₀ progress₀ c₀ i₀ work progress c i = Head s work₀ i 
 abbrev μ-loop : tie.MeasureT-loop
 μ-loop s n work₀ progress₀ c₀ i₀ work progress c i = n - i
 
-begin-requires : tie.Need-begin-requires Inv-loop μ-loop
-begin-requires c κs = search needs
-
-first-requires : tie.Need-first-requires Inv-loop μ-loop
-first-requires c κs = search needs
-
 loop-holds : tie.Need-loop-holds Inv-loop μ-loop
 loop-holds c = rw (c .first .ensures, c .before .begin .ensures) (head-first _ (short _ (c .before .before .before .before .pre .0)) _)
-
-advance-requires : tie.Need-advance-requires Inv-loop μ-loop
-advance-requires c κs = search needs
-
-turn-requires : tie.Need-turn-requires Inv-loop μ-loop
-turn-requires c κs = search needs
 
 add-i : tie.Need-add-i Inv-loop μ-loop
 add-i c = omega (arith, c .before .before .before .before .before .before .before .before .loop .inv .few)
@@ -57,11 +45,11 @@ stow-spec =
     (tie.spec
     Inv-loop
     μ-loop
-    begin-requires
-    first-requires
+    (search needs)
+    (search needs)
     loop-holds
-    advance-requires
-    turn-requires
+    (search needs)
+    (search needs)
     add-i
     loop-less
     loop-again

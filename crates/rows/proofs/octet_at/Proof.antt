@@ -1,18 +1,17 @@
 -- `rows::octet_at` meets its contract.
+use native.Mathlib.Omega.{arith}
 use mathlib.Core.Path.{sym}
+use Prim.Native.Nat.{_+_}
 use lib.ListN.{List·getD-eq-default}
 use borrow.Author.Needs.{needs}
 use Rattle.rows.proofs.octet_at.Statement.{statement}
 use Rattle.rows.proofs.octet_at.Tie as tie
 
-shared-slice-read-result : tie.Need-shared-slice-read-result
-shared-slice-read-result c = search needs
-
-returns : tie.Need-returns
-returns c = search needs
-
 returns-2 : tie.Need-returns-2
-returns-2 c = sym (List·getD-eq-default (c .before .args .work .now) 0 {n = c .before .args .at} (search needs))
+returns-2 c = let args = c .before .before .args in sym (List·getD-eq-default (args .work .now) 0 {n = args .row + args .place} (omega arith))
+
+returns-3 : tie.Need-returns-3
+returns-3 c = let args = c .before .args in sym (List·getD-eq-default (args .work .now) 0 {n = args .row + args .place} (omega arith))
 
 pub octet-at-spec : {M : Type 1} → statement M
-octet-at-spec = tie.close (tie.spec shared-slice-read-result returns returns-2)
+octet-at-spec = tie.close (tie.spec (search needs) (search needs) (search needs) (λ c. search needs) returns-2 returns-3)

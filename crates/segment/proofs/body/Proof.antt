@@ -13,27 +13,6 @@ use mathlib.Core.Path.{_≡_, refl, _∙_, ap}
 use Rattle.segment.proofs.body.Statement.{statement}
 use Rattle.segment.proofs.body.Tie as tie
 
-sub-if1 : tie.Need-sub-if1
-sub-if1 c = search needs
-
-add-name-end : tie.Need-add-name-end
-add-name-end c = search needs
-
-sub-name-end : tie.Need-sub-name-end
-sub-name-end c = search needs
-
-part-name-end-start : tie.Need-part-name-end-start
-part-name-end-start c = search needs
-
-part-name-end-end : tie.Need-part-name-end-end
-part-name-end-end c = search needs
-
-name-end-requires : tie.Need-name-end-requires
-name-end-requires c κs = search needs
-
-content-requires : tie.Need-content-requires
-content-requires c κs = search needs
-
 returns : tie.Need-returns
 unfolding from
 returns c =
@@ -51,12 +30,12 @@ pub body-spec : {M : Type 1} → statement M
 body-spec =
     tie.close
     (tie.spec
-    sub-if1
-    add-name-end
-    sub-name-end
-    part-name-end-start
-    part-name-end-end
-    name-end-requires
-    content-requires
+    (search needs)
+    (search needs)
+    (search needs)
+    (search needs)
+    (search needs)
+    (search needs)
+    (search needs)
     returns
     returns-2)

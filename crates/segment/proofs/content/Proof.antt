@@ -6,30 +6,12 @@ use borrow.Author.Needs.{needs}
 use Rattle.segment.proofs.content.Statement.{statement}
 use Rattle.segment.proofs.content.Tie as tie
 
-enum-known-name : tie.Need-enum-known-name
-enum-known-name c = search needs
-
-enum-told : tie.Need-enum-told
-enum-told c = search needs
-
 returns : tie.Need-returns
 unfolding contentOf
 returns c = rw (c .enum-told .given .1)
 
-text-width-requires : tie.Need-text-width-requires
-text-width-requires c κs = search needs
-
-sub-size : tie.Need-sub-size
-sub-size c = search needs
-
-sub-size-2 : tie.Need-sub-size-2
-sub-size-2 c = search needs
-
 rem-if2 : tie.Need-rem-if2
 rem-if2 c = rw (c .before .text-width .ensures) (width-pos _)
-
-counts-as-text-requires : tie.Need-counts-as-text-requires
-counts-as-text-requires c κs = search needs
 
 returns-2 : tie.Need-returns-2
 unfolding contentOf
@@ -47,14 +29,14 @@ pub content-spec : {M : Type 1} → statement M
 content-spec =
     tie.close
     (tie.spec
-    enum-known-name
-    enum-told
+    (search needs)
+    (search needs)
     returns
-    text-width-requires
-    sub-size
-    sub-size-2
+    (search needs)
+    (search needs)
+    (search needs)
     rem-if2
-    counts-as-text-requires
+    (search needs)
     returns-2
     returns-3
     returns-4)

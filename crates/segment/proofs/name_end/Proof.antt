@@ -33,9 +33,6 @@ returns-2 : tie.Need-returns-2 Inv-loop μ-loop
 unfolding nameOf
 returns-2 c = after (c .before .before .before .before .loop .inv .1) (search named depth 12)
 
-name-octet-requires : tie.Need-name-octet-requires Inv-loop μ-loop
-name-octet-requires c κs = search needs
-
 add-i : tie.Need-add-i Inv-loop μ-loop
 add-i c = omega arith
 
@@ -64,7 +61,7 @@ name-end-spec =
     shared-slice-read-b
     returns
     returns-2
-    name-octet-requires
+    (search needs)
     add-i
     loop-less
     loop-again

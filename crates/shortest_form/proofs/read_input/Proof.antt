@@ -39,9 +39,6 @@ part-read-some-start c = omega arith
 part-read-some-end : tie.Need-part-read-some-end Inv-loop μ-loop
 part-read-some-end c = omega arith
 
-read-some-requires : tie.Need-read-some-requires Inv-loop μ-loop
-read-some-requires c κs = search needs
-
 same-length : tie.Need-same-length Inv-loop μ-loop
 same-length c =
     let room = c .before .before .before .before .before .before .before .loop in
@@ -90,7 +87,7 @@ read-input-spec =
     sub-read-some
     part-read-some-start
     part-read-some-end
-    read-some-requires
+    (search needs)
     same-length
     returns
     add-n

@@ -24,18 +24,8 @@ Inv-loop s place at₀ st₀ at st = outcome s at st ≡ outcome s at₀ st₀
 abbrev μ-loop : tie.MeasureT-loop
 μ-loop s place at₀ st₀ at st = length s - at
 
-returns : tie.Need-returns Inv-loop μ-loop
-unfolding nextOf
-returns c = search ladder
-
 loop-holds : tie.Need-loop-holds Inv-loop μ-loop
 loop-holds c = refl
-
-element-requires : tie.Need-element-requires Inv-loop μ-loop
-element-requires c κs = search needs
-
-enum-told : tie.Need-enum-told Inv-loop μ-loop
-enum-told c = search needs
 
 returns-2 : tie.Need-returns-2 Inv-loop μ-loop
 unfolding nextOf
@@ -45,9 +35,6 @@ returns-2 c =
     let element = c .before .before .element in
     let end = gives-end s (loop .at) (loop .st) (element .result) (element .ensures) (c .enum-told .given .1) in
     on-ge _ _ _ _ _ (c .before .before .before .before .if1 .left) (end ∙ loop .inv)
-
-enum-known-e : tie.Need-enum-known-e Inv-loop μ-loop
-enum-known-e c = search needs
 
 add-stop : tie.Need-add-stop Inv-loop μ-loop
 add-stop c =
@@ -65,9 +52,6 @@ returns-3 c =
     let element = c .before .before .before .element in
     let refused = gives-refused s (loop .at) (loop .st) (element .result) (element .ensures) (c .before .e .given .1) in
     on-ge _ _ _ _ _ (c .before .before .before .before .before .if1 .left) (refused ∙ loop .inv)
-
-enum-known-e-2 : tie.Need-enum-known-e-2 Inv-loop μ-loop
-enum-known-e-2 c = search needs
 
 add-at : tie.Need-add-at Inv-loop μ-loop
 add-at c =
@@ -91,9 +75,6 @@ loop-again c =
     let loop = c .before .before .before .before .loop in
     let element = c .before .before .before .element in
     gives-silent s (loop .at) (loop .st) (element .result) (element .ensures) (c .before .e2 .given .1) ∙ loop .inv
-
-enum-known-e-3 : tie.Need-enum-known-e-3 Inv-loop μ-loop
-enum-known-e-3 c = search needs
 
 record-requires : tie.Need-record-requires Inv-loop μ-loop
 record-requires c κs =
@@ -129,24 +110,25 @@ returns-4 c =
     on-ge _ _ _ _ _ (c .before .before .before .before .before .before .before .if1 .left) (rw (c .before .«record» .ensures) (found ∙ loop .inv))
 
 pub next-unit-spec : {M : Type 1} → statement M
+unfolding nextOf
 next-unit-spec =
     tie.close
     (tie.spec
     Inv-loop
     μ-loop
-    returns
+    (λ c. search ladder)
     loop-holds
-    element-requires
-    enum-told
+    (search needs)
+    (search needs)
     returns-2
-    enum-known-e
+    (search needs)
     add-stop
     returns-3
-    enum-known-e-2
+    (search needs)
     add-at
     loop-less
     loop-again
-    enum-known-e-3
+    (search needs)
     record-requires
     add-octets
     add-after

@@ -5,32 +5,11 @@ use borrow.Author.Needs.{needs}
 use Rattle.write.proofs.finish.Statement.{statement}
 use Rattle.write.proofs.finish.Tie as tie
 
-refused-requires : tie.Need-refused-requires
-refused-requires c κs = search needs
-
 returns : tie.Need-returns
 returns c =
     let args = c .before .before .before .before .before .args in
     let f = finish-long (args .progress) (args .n) (args .segments .now) (args .work .now) (args .out .now) (c .before .if1 .taken) in
     (c .refused .ensures ∙ f .0, f .1, refl)
-
-enum-told : tie.Need-enum-told
-enum-told c = search needs
-
-write-rows-requires : tie.Need-write-rows-requires
-write-rows-requires c κs = search needs
-
-enum-known-progress : tie.Need-enum-known-progress
-enum-known-progress c = search needs
-
-refused-requires-2 : tie.Need-refused-requires-2
-refused-requires-2 c κs = search needs
-
-same-length : tie.Need-same-length
-same-length c = search needs
-
-same-length-2 : tie.Need-same-length-2
-same-length-2 c = search needs
 
 returns-2 : tie.Need-returns-2
 returns-2 c =
@@ -53,13 +32,13 @@ pub finish-spec : {M : Type 1} → statement M
 finish-spec =
     tie.close
     (tie.spec
-    refused-requires
+    (search needs)
     returns
-    enum-told
-    write-rows-requires
-    enum-known-progress
-    refused-requires-2
-    same-length
-    same-length-2
+    (search needs)
+    (search needs)
+    (search needs)
+    (search needs)
+    (search needs)
+    (search needs)
     returns-2
     returns-3)

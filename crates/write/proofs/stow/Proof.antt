@@ -2,13 +2,15 @@
 -- list, and the work room is lent to `turn`, which checks the record and puts it into its row, and then with the list to `stow_quickly`, which
 -- does so for records that the quick check lets through and answers where the next turn begins. Of the functions that it calls the proof
 -- knows their contracts alone. Assumes nothing.
-use Rattle.walks.proofs.Names.{_≡_, refl, sym, _∙_, ap, subst, ℕ, suc, _+_, _-_, _*_, _≤_, _<_, _^_, zero-le, [], _∷_, List, length, getD, URA, fullShare, Ty, named, erased, imm, mut, w8, w64, tyInt, tyBool, tyPtr, tyRef, Val, vint, vptr, SProp, ent, emp, sep, ex, guard, via, fst∗, id⊢, Lft, Share, GName, Fml, ftrue, flft, fat, froom, fdies, Memory, Routine, Heap, Out, Env, afterSeq, afterBlock, Calls, Loops, Wp, atReturn, WpFn, Tables, Atoms, sem, Fun, fact, givenOf, let-go, Given, Item, ‵, raw, _⊛_, ⋆, runs, anyQ, atRet, Sq, _$_, _∵_, !, qed, by, move, keep, use0, use1, split, join, rewrite, fsplit, fjoin, check, show, suffices, frame, done, look, look-raw, init, store, forget, stop, hop, fld, from, load, lit, of-opd, bin, addr, and-then, no-more, assigns, assigns-last, first, blocks, land, returns, enter, alloc1, alloc0, params1, pass1, pass0, exec, Below, again, loops, agg, whole, sub, look-in, FmC, fmOf, owns, pointee, Is, shows, uint-makes, uint-vals, uint-tells, uint-lawful, u8, usize, RefT, sliceVal, sliceTy, ShrSlice, MutSlice, Room, finally, slice-vals, shr-slice-tells, mut-slice-tells, shr-slice-copy, place-is, elem-out, elem-back, looks-slice, shuts-slice, owned, heard, nothing, plain, yes, onEntry, tripleOf, Contract, Triple, Lasts, lasts, cited, says, Stays, stay-none-slice, stay-slice, walkOf, goes-none-slice, goes-slice, ends-at, walked}
+use Rattle.walks.proofs.Names.{_≡_, refl, sym, _∙_, ap, subst, ℕ, suc, _+_, _-_, _*_, _≤_, _<_, _^_, [], _∷_, List, length, fullShare, named, w64}
+use Rattle.walks.proofs.Names.{Val, vint, SProp, id⊢, GName, Fml, flft, Tables, givenOf, let-go, ‵, raw, _⊛_, prop, atRet, Sq, _$_, _∵_, !, qed, move}
+use Rattle.walks.proofs.Names.{use0, split, join, fsplit, frame, done, look, stop, from, lit, of-opd, bin, no-more, FmC, Is, shows, u8, RefT}
+use Rattle.walks.proofs.Names.{sliceVal, ShrSlice, MutSlice, Room, slice-vals, owned, nothing, plain, yes, tripleOf, Contract, Triple, cited, says}
+use Rattle.walks.proofs.Names as kit
 use native.Mathlib.Nat.{le-antisymm}
 use native.Mathlib.Numerals.{add-one}
 use native.Mathlib.Omega.{arith}
-use mathlib.Core.WellFounded.{WellFounded, InvImage·wf}
 use lib.Dec.{T as Holds, ltb, ltb→lt, nltb→le, lit<}
-use lib.WfN.{Nat·lt-wfRel}
 use prog.Wp.{afterTurn}
 use contract.Running.{tablesOf}
 use denote.Enum.Laws as EL
@@ -16,9 +18,13 @@ use denote.Struct.Laws as LL
 use Rattle.base.specs.declared.Unit.{Unit as UnitRecord}
 use Rattle.base.proofs.Unit as U
 use Rattle.base.proofs.Unit.Laws as U′
-use Rattle.walks.proofs.Body.{proved, 𝓣of, tests, frees-all}
-use Rattle.walks.proofs.Calls.{calls-value, gave-some}
-use Rattle.walks.proofs.Lent.{calls-lent}
+use Rattle.walks.proofs.Body.{𝓣of, tests, proved-by}
+use Rattle.walks.proofs.Calls.{calls-value, gave-one}
+use Rattle.walks.proofs.Lent.{calls-lent, Beside, back-beside}
+use Rattle.walks.proofs.Loop.{Turns, rounds, loop-by}
+use Rattle.walks.proofs.Frame.{empty, full, Blocks, envOf, laid, enters, clears, leaves}
+use Rattle.walks.proofs.Steps.{var, arg, part, sets, resets, resets-last, lands-in, recasts, behind, resliced, in64, sliced, beside, copies, past}
+use Rattle.walks.proofs.Steps.{front, number, joins, fjoins}
 use Rattle.shortest.specs.Offence.{noRecord}
 use Rattle.check_list.specs.Turn.{begun, turnOf, roomAfter, quickUntil, lookedAt}
 use Rattle.check_list.specs.declared.Progress.{Progress}
@@ -26,61 +32,22 @@ use Rattle.check_list.proofs.Turns.{until-most}
 use Rattle.check_list.proofs.Progress as P
 use Rattle.check_list.proofs.Progress.Laws as P′
 use Rattle.check_list.proofs.looked_at as looked-at
-use Rattle.check_list.proofs.looked_at.Symbol as looked-at-def
-use Rattle.check_list.proofs.looked_at.Symbol.{name as #looked-at}
-use Rattle.check_list.proofs.looked_at.Met as looked-at-thm
 use Rattle.check_list.proofs.begin as begin
-use Rattle.check_list.proofs.begin.Symbol as begin-def
-use Rattle.check_list.proofs.begin.Symbol.{name as #begin}
-use Rattle.check_list.proofs.begin.Met as begin-thm
 use Rattle.check_list.proofs.turn as turn
-use Rattle.check_list.proofs.turn.Symbol as turn-def
-use Rattle.check_list.proofs.turn.Symbol.{name as #turn}
-use Rattle.check_list.proofs.turn.Met as turn-thm
 use Rattle.write.specs.Stowed.{reached, Stowed, quickEnd, Passed}
 use Rattle.write.proofs.Lists.{length-room, looked-most, reached-none, reached-next, stowed-none, stowed-next, run-most}
 use Rattle.write.proofs.stow_quickly as quickly
-use Rattle.write.proofs.stow_quickly.Symbol as quickly-def
-use Rattle.write.proofs.stow_quickly.Symbol.{name as #quickly}
-use Rattle.write.proofs.stow_quickly.Met as quickly-thm
-use Rattle.write.proofs.stow.Key.{name as #stow}
 use Rattle.write.proofs.stow as stow
-use Rattle.write.proofs.stow.Statement as stated
 use Rattle.write.proofs.stow.Code as code
-use Rattle.write.proofs.stow.Code.Mir as M1
 
--- ---- the contracts that the proof cites
-module _ {M : Type 1} (𝓤 : URA M) (H : Heap 𝓤) (A : Atoms 𝓤) (mem : Memory → SProp 𝓤) (run : Routine → Fun 𝓤) where
-  abbrev LookedAt : Contract 𝓤
-  LookedAt = tripleOf 𝓤 H A looked-at.signature (looked-at.spec 𝓤 H A mem run)
-
-  abbrev Begin : Contract 𝓤
-  Begin = tripleOf 𝓤 H A begin.signature (begin.spec 𝓤 H A mem run)
-
-  abbrev Turn : Contract 𝓤
-  Turn = tripleOf 𝓤 H A turn.signature (turn.spec 𝓤 H A mem run)
-
-  abbrev Quickly : Contract 𝓤
-  Quickly = tripleOf 𝓤 H A quickly.signature (quickly.spec 𝓤 H A mem run)
-
-abbrev stayed : Stays (stow.ended .signature .params) (stow.ended .kept)
-stayed = (stay-none-slice (0 ∷ []) tt (plain (λ _. U.the-row)) yes, (stay-none-slice (1 ∷ []) tt (plain (λ _. u8)) yes, (stay-slice (2 ∷ []) tt (plain (λ _. u8)), tt)))
-
--- ---- the types of the locals
-abbrev word : Ty
-word = tyInt w64
-
-abbrev list : Ty
-list = sliceTy (tyRef (named 0) imm (pointee (U.the-row .written)))
-
-abbrev octets : Ty
-octets = sliceTy (tyRef (named 1) imm (tyInt w8))
-
-abbrev room-ty : Ty
-room-ty = sliceTy (tyRef (named 2) mut (tyInt w8))
-
-abbrev lent : Ty
-lent = tyRef erased mut (tyInt w8)
+abbrev stayed : kit.Stays (stow.ended .signature .params) (stow.ended .kept)
+stayed = (
+  kit.stay-none-slice (0 ∷ []) tt (plain (λ _. U.the-row)) yes,
+  (
+    kit.stay-none-slice (1 ∷ []) tt (plain (λ _. u8)) yes,
+    (kit.stay-slice (2 ∷ []) tt (plain (λ _. u8)), tt),
+  ),
+)
 
 -- the machine value of a progress
 abbrev mach : Progress → Val
@@ -89,8 +56,24 @@ mach p = EL.val P.the-type P′.the-laws p
 abbrev IsP : Progress → Type 0
 IsP p = Is P.the-row p (mach p ∷ [])
 
-module _ {M : Type 1} (𝓤 : URA M) (H : Heap 𝓤) (A : Atoms 𝓤) (W : Given 𝓤 H A) (at-mem : Memory → SProp 𝓤) (run : Routine → Fun 𝓤) (κ₀ κ₁ κ₂ : Lft) (q₀ q₁ q₂ : Share)
-    (s : RefT (List UnitRecord)) (t : RefT (List ℕ)) (b o : ℕ) (γ : GName) (ys : List ℕ) (s-room : Room U.the-row (length (s .now))) (t-room : Room u8 (length (t .now))) (room : Room u8 (length ys)) where
+module _ {M : Type 1} (𝓤 : kit.URA M) (H : kit.Heap 𝓤) (A : kit.Atoms 𝓤) (W : kit.Given 𝓤 H A) (at-mem : kit.Memory → SProp 𝓤)
+    (run : kit.Routine → kit.Fun 𝓤)
+    (κ₀ κ₁ κ₂ : kit.Lft) (q₀ q₁ q₂ : kit.Share)
+    (s : RefT (List UnitRecord)) (t : RefT (List ℕ)) (b o : ℕ) (γ : GName) (ys : List ℕ) (s-room : Room U.the-row (length (s .now)))
+    (t-room : Room u8 (length (t .now))) (room : Room u8 (length ys)) where
+  -- the contracts that the proof cites
+  abbrev LookedAt : Contract 𝓤
+  LookedAt = tripleOf 𝓤 H A looked-at.signature (looked-at.spec 𝓤 H A at-mem run)
+
+  abbrev Begin : Contract 𝓤
+  Begin = tripleOf 𝓤 H A begin.signature (begin.spec 𝓤 H A at-mem run)
+
+  abbrev Turn : Contract 𝓤
+  Turn = tripleOf 𝓤 H A turn.signature (turn.spec 𝓤 H A at-mem run)
+
+  abbrev Quickly : Contract 𝓤
+  Quickly = tripleOf 𝓤 H A quickly.signature (quickly.spec 𝓤 H A at-mem run)
+
   abbrev us : List UnitRecord
   us = s .now
 
@@ -130,10 +113,13 @@ module _ {M : Type 1} (𝓤 : URA M) (H : Heap 𝓤) (A : Atoms 𝓤) (W : Given
   n-fits = omega (arith, looked-most (length us), s-room .0)
 
   abbrev unit : ℕ → UnitRecord
-  unit i = getD us i noRecord
+  unit i = kit.getD us i noRecord
 
   abbrev Post : Val → SProp 𝓤
-  Post = walkOf 𝓤 H A stow.ended stayed (stow.clauses 𝓤 H A at-mem run) .post (((κ₀, (κ₁, (κ₂, tt))), (q₀, (q₁, (q₂, tt))), tt, a, vals), tt)
+  Post = kit.walkOf 𝓤 H A stow.ended stayed (stow.clauses 𝓤 H A at-mem run) .post (
+    ((κ₀, (κ₁, (κ₂, tt))), (q₀, (q₁, (q₂, tt))), tt, a, vals),
+    tt,
+  )
 
   abbrev Units : Fml
   Units = ShrSlice (named 0) κ₀ U.the-row .own s (vs ∷ [])
@@ -145,26 +131,29 @@ module _ {M : Type 1} (𝓤 : URA M) (H : Heap 𝓤) (A : Atoms 𝓤) (W : Given
   Work w = MutSlice (named 2) κ₂ u8 .own (x γ w) (vw ∷ [])
 
   exits : (w : List ℕ) → Stowed os us n ys w → IsP (at n)
-      → ent 𝓤 (⋆ 𝓤 H A (‵ (flft κ₀ q₀) ∷ ‵ Units ∷ ‵ (flft κ₁ q₁) ∷ ‵ Segments ∷ ‵ (Work w) ∷ ‵ (flft κ₂ q₂) ∷ [])) (Post (mach (at n)))
+      → Sq W (‵ (flft κ₀ q₀) ∷ ‵ Units ∷ ‵ (flft κ₁ q₁) ∷ ‵ Segments ∷ ‵ (Work w) ∷ ‵ (flft κ₂ q₂) ∷ [])
+      (prop (Post (mach (at n))))
   exits w st is =
-      qed W (‵ (flft κ₀ q₀) ∷ ‵ Units ∷ ‵ (flft κ₁ q₁) ∷ ‵ Segments ∷ ‵ (Work w) ∷ ‵ (flft κ₂ q₂) ∷ []) ∵
-      suffices ! _ (ends-at 𝓤 H A stow.ended stayed (stow.clauses 𝓤 H A at-mem run) W (((κ₀, (κ₁, (κ₂, tt))), (q₀, (q₁, (q₂, tt))), tt, a, vals), tt) (mach (at n)) (at n) (tt, (tt, (w, tt))) (tt, (tt, (st .same, tt)))) $
+      kit.suffices ! _ (kit.ends-at 𝓤 H A stow.ended stayed (stow.clauses 𝓤 H A at-mem run) W
+      (((κ₀, (κ₁, (κ₂, tt))), (q₀, (q₁, (q₂, tt))), tt, a, vals), tt) (mach (at n)) (at n) (tt, (tt, (w, tt))) (tt, (tt, (st .same, tt)))) $
       says ! (refl, st) $
       -- the tokens
-      nothing ! $ move ! (6 ∷ 0 ∷ []) $ join ! $ move ! (3 ∷ 0 ∷ []) $ join ! $ move ! (1 ∷ 0 ∷ []) $ join ! $ frame ! $
+      nothing ! $ joins ! 5 refl $ joins ! 2 refl $ joins ! 0 refl $ frame ! $
       -- [what the units own; what the segments own; the room]
-      nothing ! $ move ! (3 ∷ 0 ∷ []) $ fjoin ! $ move ! (2 ∷ 0 ∷ []) $ fjoin ! $ move ! (1 ∷ 0 ∷ []) $ fjoin ! $ frame ! $
+      nothing ! $ fjoins ! 2 refl $ fjoins ! 1 refl $ fjoins ! 0 refl $ frame ! $
       owned ! P.the-row (Is P.the-row) (EL.makes P.the-type P′.the-plain 𝓤 H A) (at n) _ is $ done !
 
   -- ---- what the callees ask and give
-  abbrev to-looked : LookedAt 𝓤 H A at-mem run .Ghost
+  abbrev to-looked : LookedAt .Ghost
   to-looked = ((tt, tt, tt, (length us, tt), (vint w64 (length us) ∷ [], tt)), tt)
 
-  asks-looked : ent 𝓤 (emp 𝓤) (LookedAt 𝓤 H A at-mem run .pre to-looked)
-  asks-looked = qed W [] ∵ nothing ! $ owned ! usize (Is usize) (uint-makes 𝓤 H A W w64) (length us) _ (refl, s-room .0) $ fjoin ! $ nothing ! $ join ! $ frame ! $ done !
+  asks-looked : Sq W [] (prop (LookedAt .pre to-looked))
+  asks-looked =
+      nothing ! $ number ! (length us) (s-room .0) $ nothing ! $ join ! $ frame ! $ done !
 
-  asks-begin : ent 𝓤 (emp 𝓤) (Begin 𝓤 H A at-mem run .pre ((tt, tt, tt, tt, tt), tt))
-  asks-begin = qed W [] ∵ nothing ! $ nothing ! $ join ! $ frame ! $ done !
+  asks-begin : Sq W [] (prop (Begin .pre ((tt, tt, tt, tt, tt), tt)))
+  asks-begin =
+      nothing ! $ nothing ! $ join ! $ frame ! $ done !
 
   abbrev IsU : ℕ → Type 0
   IsU i = Is U.the-row (unit i) (U′.lowered (unit i) ∷ [])
@@ -176,31 +165,27 @@ module _ {M : Type 1} (𝓤 : URA M) (H : Heap 𝓤) (A : Atoms 𝓤) (W : Given
   abbrev Left : ℕ → List ℕ → List ℕ → Type 0
   Left i w l = l ≡ roomAfter (next i) (unit i) i w
 
-  abbrev to-turn : ℕ → List ℕ → ℕ → GName → Turn 𝓤 H A at-mem run .Ghost
-  to-turn i w ν δ =
-      (((κ₁, (ν ∷ [], tt)), (q₁, (fullShare, tt)), tt, (at i, (unit i, (i, (t, (x δ w, tt))))), (mach (at i) ∷ [], (U′.lowered (unit i) ∷ [], (vint w64 i ∷ [], (vt ∷ [], (vw ∷ [], tt)))))), tt)
+  abbrev to-turn : ℕ → List ℕ → ℕ → GName → Turn .Ghost
+  to-turn i w ν δ = (
+    (
+      (κ₁, (ν ∷ [], tt)),
+      (q₁, (fullShare, tt)),
+      tt,
+      (at i, (unit i, (i, (t, (x δ w, tt))))),
+      (mach (at i) ∷ [], (U′.lowered (unit i) ∷ [], (vint w64 i ∷ [], (vt ∷ [], (vw ∷ [], tt))))),
+    ),
+    tt,
+  )
 
   asks-turn : (i : ℕ) (w : List ℕ) → i < 2 ^ 64 → IsP (at i) → IsU i → (ν : ℕ) (δ : GName)
-      → ent 𝓤 (sep 𝓤 (sep 𝓤 (A .lft κ₁ q₁) (sem 𝓤 H A Segments)) (sep 𝓤 (A .lft (ν ∷ []) fullShare) (sem 𝓤 H A (MutSlice (named 0) (ν ∷ []) u8 .own (x δ w) (vw ∷ []))))) (Turn 𝓤 H A at-mem run .pre (to-turn i w ν δ))
+      → Sq W ((‵ (flft κ₁ q₁) ⊛ ‵ Segments) ∷ ‵ (flft (ν ∷ []) fullShare) ∷
+      ‵ (MutSlice (named 0) (ν ∷ []) u8 .own (x δ w) (vw ∷ [])) ∷ []) (prop (Turn .pre (to-turn i w ν δ)))
   asks-turn i w fits is-p is-u ν δ =
-      qed W ((‵ (flft κ₁ q₁) ⊛ ‵ Segments) ∷ ‵ (flft (ν ∷ []) fullShare) ∷ ‵ (MutSlice (named 0) (ν ∷ []) u8 .own (x δ w) (vw ∷ [])) ∷ []) ∵
-      split ! $ nothing ! $ move ! (3 ∷ 0 ∷ []) $ join ! $ move ! (1 ∷ 0 ∷ []) $ join ! $
+      split ! $ nothing ! $ joins ! 2 refl $ joins ! 0 refl $
       -- [the tokens; what the segments own; the room]
-      nothing ! $ move ! (3 ∷ 0 ∷ []) $ fjoin ! $ move ! (2 ∷ 0 ∷ []) $ fjoin ! $ owned ! usize (Is usize) (uint-makes 𝓤 H A W w64) i _ (refl, fits) $ fjoin ! $
-      owned ! U.the-row (Is U.the-row) (LL.makes U.the-type U′.the-plain 𝓤 H A) (unit i) _ is-u $ fjoin ! $
-      owned ! P.the-row (Is P.the-row) (EL.makes P.the-type P′.the-plain 𝓤 H A) (at i) _ is-p $ fjoin ! $ move ! (1 ∷ 0 ∷ []) $ join ! $ frame ! $ done !
-
-  back-turn : (ν : ℕ) → ent 𝓤 (sep 𝓤 (A .lft κ₁ q₁) (sep 𝓤 (A .lft (ν ∷ []) fullShare) (emp 𝓤))) (sep 𝓤 (A .lft κ₁ q₁) (A .lft (ν ∷ []) fullShare))
-  back-turn ν = qed W (‵ (flft κ₁ q₁) ∷ (‵ (flft (ν ∷ []) fullShare) ⊛ ‵ ftrue) ∷ []) ∵ move ! (1 ∷ []) $ split ! $ keep ! (2 ∷ 0 ∷ []) $ done !
-
-  gives-turn : (i : ℕ) (w : List ℕ) (ν : ℕ) (δ : GName) (r : Progress) (ws : Lasts turn.ended (κ₁, (ν ∷ [], tt)) (at i, (unit i, (i, (t, (x δ w, tt))))))
-      → ent 𝓤 (sep 𝓤 (sem 𝓤 H A (lasts turn.ended (κ₁, (ν ∷ [], tt)) (at i, (unit i, (i, (t, (x δ w, tt))))) ws)) (fact 𝓤 ((r ≡ next i) × Left i w (ws .1 .1 .1 .1 .0))))
-      (ex 𝓤 (λ (l : List ℕ). guard 𝓤 ((r ≡ next i) × Left i w l) (sem 𝓤 H A (finally u8 δ l))))
-  gives-turn i w ν δ r ws =
-      qed W (‵ (lasts turn.ended (κ₁, (ν ∷ [], tt)) (at i, (unit i, (i, (t, (x δ w, tt))))) ws) ∷ raw (fact 𝓤 ((r ≡ next i) × Left i w (ws .1 .1 .1 .1 .0))) ∷ []) ∵
-      move ! (1 ∷ []) $ heard ! ((r ≡ next i) × Left i w (ws .1 .1 .1 .1 .0)) (λ e.
-      fsplit ! $ move ! (1 ∷ []) $ fsplit ! $ move ! (1 ∷ []) $ fsplit ! $ move ! (1 ∷ []) $ fsplit ! $ move ! (1 ∷ []) $ fsplit ! $ fsplit ! $ keep ! (0 ∷ []) $
-      show ! (λ (l : List ℕ). guard 𝓤 ((r ≡ next i) × Left i w l) (sem 𝓤 H A (finally u8 δ l))) (ws .1 .1 .1 .1 .0) $ check ! e $ done !)
+      nothing ! $ fjoins ! 2 refl $ fjoins ! 1 refl $ number ! i fits $
+      beside ! U.the-row (LL.makes U.the-type U′.the-plain 𝓤 H A) (unit i) _ is-u $
+      beside ! P.the-row (EL.makes P.the-type P′.the-plain 𝓤 H A) (at i) _ is-p $ joins ! 0 refl $ frame ! $ done !
 
   -- where the next turn begins, after record i and the records that then pass quickly, and the room then
   abbrev fin : ℕ → ℕ
@@ -209,40 +194,34 @@ module _ {M : Type 1} (𝓤 : URA M) (H : Heap 𝓤) (A : Atoms 𝓤) (W : Given
   abbrev Kept : ℕ → List ℕ → List ℕ → Type 0
   Kept i w l = Passed (at (suc i)) us (suc i) (fin i) w l
 
-  abbrev to-quickly : ℕ → List ℕ → ℕ → GName → Quickly 𝓤 H A at-mem run .Ghost
-  to-quickly i w ν δ =
-      (((κ₀, (ν ∷ [], tt)), (q₀, (fullShare, tt)), tt, (at (suc i), (s, (suc i, (n, (x δ w, tt))))), (mach (at (suc i)) ∷ [], (vs ∷ [], (vint w64 (suc i) ∷ [], (vint w64 n ∷ [], (vw ∷ [], tt)))))), tt)
+  abbrev to-quickly : ℕ → List ℕ → ℕ → GName → Quickly .Ghost
+  to-quickly i w ν δ = (
+    (
+      (κ₀, (ν ∷ [], tt)),
+      (q₀, (fullShare, tt)),
+      tt,
+      (at (suc i), (s, (suc i, (n, (x δ w, tt))))),
+      (mach (at (suc i)) ∷ [], (vs ∷ [], (vint w64 (suc i) ∷ [], (vint w64 n ∷ [], (vw ∷ [], tt))))),
+    ),
+    tt,
+  )
 
   asks-quickly : (i : ℕ) (w : List ℕ) → i < n → IsP (at (suc i)) → (ν : ℕ) (δ : GName)
-      → ent 𝓤 (sep 𝓤 (sep 𝓤 (A .lft κ₀ q₀) (sem 𝓤 H A Units)) (sep 𝓤 (A .lft (ν ∷ []) fullShare) (sem 𝓤 H A (MutSlice (named 0) (ν ∷ []) u8 .own (x δ w) (vw ∷ []))))) (Quickly 𝓤 H A at-mem run .pre (to-quickly i w ν δ))
+      → Sq W ((‵ (flft κ₀ q₀) ⊛ ‵ Units) ∷ ‵ (flft (ν ∷ []) fullShare) ∷
+      ‵ (MutSlice (named 0) (ν ∷ []) u8 .own (x δ w) (vw ∷ [])) ∷ []) (prop (Quickly .pre (to-quickly i w ν δ)))
   asks-quickly i w less is-p ν δ =
-      qed W ((‵ (flft κ₀ q₀) ⊛ ‵ Units) ∷ ‵ (flft (ν ∷ []) fullShare) ∷ ‵ (MutSlice (named 0) (ν ∷ []) u8 .own (x δ w) (vw ∷ [])) ∷ []) ∵
-      says ! (less, looked-most (length us)) $ split ! $ nothing ! $ move ! (3 ∷ 0 ∷ []) $ join ! $ move ! (1 ∷ 0 ∷ []) $ join ! $ frame ! $
+      says ! (less, looked-most (length us)) $ split ! $ nothing ! $ joins ! 2 refl $ joins ! 0 refl $ frame ! $
       -- [what the units own; the room]
-      nothing ! $ move ! (2 ∷ 0 ∷ []) $ fjoin ! $ owned ! usize (Is usize) (uint-makes 𝓤 H A W w64) n _ (refl, n-fits) $ fjoin ! $ owned ! usize (Is usize) (uint-makes 𝓤 H A W w64) (suc i) _ (refl, omega (arith, less, n-fits)) $ fjoin ! $
-      move ! (1 ∷ 0 ∷ []) $ fjoin ! $ owned ! P.the-row (Is P.the-row) (EL.makes P.the-type P′.the-plain 𝓤 H A) (at (suc i)) _ is-p $ fjoin ! $ done !
-
-  back-quickly : (ν : ℕ) → ent 𝓤 (sep 𝓤 (A .lft κ₀ q₀) (sep 𝓤 (A .lft (ν ∷ []) fullShare) (emp 𝓤))) (sep 𝓤 (A .lft κ₀ q₀) (A .lft (ν ∷ []) fullShare))
-  back-quickly ν = qed W (‵ (flft κ₀ q₀) ∷ (‵ (flft (ν ∷ []) fullShare) ⊛ ‵ ftrue) ∷ []) ∵ move ! (1 ∷ []) $ split ! $ keep ! (2 ∷ 0 ∷ []) $ done !
-
-  gives-quickly : (i : ℕ) (w : List ℕ) (ν : ℕ) (δ : GName) (r : ℕ) (ws : Lasts quickly.ended (κ₀, (ν ∷ [], tt)) (at (suc i), (s, (suc i, (n, (x δ w, tt))))))
-      → ent 𝓤 (sep 𝓤 (sem 𝓤 H A (lasts quickly.ended (κ₀, (ν ∷ [], tt)) (at (suc i), (s, (suc i, (n, (x δ w, tt))))) ws)) (fact 𝓤 ((r ≡ fin i) × Kept i w (ws .1 .1 .1 .1 .0))))
-      (ex 𝓤 (λ (l : List ℕ). guard 𝓤 ((r ≡ fin i) × Kept i w l) (sem 𝓤 H A (finally u8 δ l))))
-  gives-quickly i w ν δ r ws =
-      qed W (‵ (lasts quickly.ended (κ₀, (ν ∷ [], tt)) (at (suc i), (s, (suc i, (n, (x δ w, tt))))) ws) ∷ raw (fact 𝓤 ((r ≡ fin i) × Kept i w (ws .1 .1 .1 .1 .0))) ∷ []) ∵
-      move ! (1 ∷ []) $ heard ! ((r ≡ fin i) × Kept i w (ws .1 .1 .1 .1 .0)) (λ e.
-      fsplit ! $ move ! (1 ∷ []) $ fsplit ! $ move ! (1 ∷ []) $ fsplit ! $ move ! (1 ∷ []) $ fsplit ! $ move ! (1 ∷ []) $ fsplit ! $ fsplit ! $ keep ! (0 ∷ []) $
-      show ! (λ (l : List ℕ). guard 𝓤 ((r ≡ fin i) × Kept i w l) (sem 𝓤 H A (finally u8 δ l))) (ws .1 .1 .1 .1 .0) $ check ! e $ done !)
+      nothing ! $ fjoins ! 1 refl $ number ! n n-fits $
+      number ! (suc i) (omega (arith, less, n-fits)) $
+      fjoins ! 0 refl $ owned ! P.the-row (Is P.the-row) (EL.makes P.the-type P′.the-plain 𝓤 H A) (at (suc i)) _ is-p $ kit.fjoin ! $ done !
 
   -- ---- the loop: its variant is a turn's number, the room, and what is known of them
   abbrev Going : Type 0
   Going = (i : ℕ) × ((w : List ℕ) × ((i ≤ n) × (Stowed os us i ys w × IsP (at i))))
 
-  abbrev Nearer : Going → Going → Type 0
-  Nearer j i = n - j .0 < n - i .0
-
-  Nearer-wf : WellFounded Nearer
-  Nearer-wf = InvImage·wf (λ (i : Going). n - i .0) (Nat·lt-wfRel .wf)
+  abbrev μ : Going → ℕ
+  μ i = n - i .0
 
   inside : (i : ℕ) → Holds (ltb i n) → i < length us
   inside i less = let h : i < n = ltb→lt i n less in let k : n ≤ length us = looked-most (length us) in omega arith
@@ -278,116 +257,137 @@ module _ {M : Type 1} (𝓤 : URA M) (H : Heap 𝓤) (A : Atoms 𝓤) (W : Given
   nearer : (g : Going) → Holds (ltb (g .0) n) → (l : List ℕ) → Kept (g .0) (turned g) l → n - fin (g .0) < n - g .0
   nearer g less l k = let h : g .0 < n = ltb→lt (g .0) n less in omega (arith, h, k .onwards)
 
-  module _ (𝓣 : Tables 𝓤 H) (fm : FmC 𝓤 H (W .laws) (𝓣 .C)) (known-turn : Triple 𝓤 (𝓣 .C #turn) (Turn 𝓤 H A at-mem run)) (known-quickly : Triple 𝓤 (𝓣 .C #quickly) (Quickly 𝓤 H A at-mem run))
-      (l₀ l₁ l₂ l₃ l₄ l₅ l₆ l₇ l₈ l₉ l₁₀ l₁₁ l₁₂ l₁₃ l₁₄ l₁₅ l₁₆ : ℕ) where
-    abbrev C : Calls 𝓤 H
-    C = 𝓣 .C
+  module _ (𝓣 : Tables 𝓤 H) (fm : FmC 𝓤 H (W .laws) (𝓣 .C)) (known-turn : Triple 𝓤 (𝓣 .C turn.Symbol.name) Turn)
+      (known-quickly : Triple 𝓤 (𝓣 .C quickly.Symbol.name) Quickly)
+      (bs : Blocks (code.function .locals)) where
+    abbrev En : kit.Env 𝓤 H
+    En = envOf (code.function .locals) bs
 
-    abbrev Λ : Loops 𝓤 H
-    Λ = 𝓣 .Λ
+    abbrev At : Going → List (kit.Item 𝓤)
+    At g = ‵ (flft κ₀ q₀) ∷ ‵ Units ∷ ‵ (flft κ₁ q₁) ∷ ‵ Segments ∷ ‵ (Work (g .1 .0)) ∷ ‵ (flft κ₂ q₂) ∷
+        laid En (empty ∷ full vs ∷ full vt ∷ full vw ∷ full (vint w64 n) ∷ full (mach (at (g .0))) ∷ full (vint w64 (g .0)) ∷ []) []
 
-    abbrev En : Env 𝓤 H
-    En = (P′.mir, l₀) ∷ (list, l₁) ∷ (octets, l₂) ∷ (room-ty, l₃) ∷ (word, l₄) ∷ (P′.mir, l₅) ∷ (word, l₆) ∷ (word, l₇) ∷ (word, l₈) ∷ (tyBool, l₉) ∷ (word, l₁₀) ∷ (tyPtr, l₁₁) ∷ (U′.mir, l₁₂) ∷ (lent, l₁₃) ∷ (sliceTy lent, l₁₄) ∷ (lent, l₁₅) ∷ (sliceTy lent, l₁₆) ∷ []
-
-    abbrev At : Going → List (Item 𝓤)
-    At g = ‵ (flft κ₀ q₀) ∷ ‵ Units ∷ ‵ (flft κ₁ q₁) ∷ ‵ Segments ∷ ‵ (Work (g .1 .0)) ∷ ‵ (flft κ₂ q₂)
-        ∷ ‵ (froom (sliceTy lent) l₁₆ 0) ∷ ‵ (fdies (sliceTy lent) l₁₆) ∷ ‵ (froom lent l₁₅ 0) ∷ ‵ (fdies lent l₁₅)
-        ∷ ‵ (froom (sliceTy lent) l₁₄ 0) ∷ ‵ (fdies (sliceTy lent) l₁₄) ∷ ‵ (froom lent l₁₃ 0) ∷ ‵ (fdies lent l₁₃) ∷ ‵ (froom U′.mir l₁₂ 0) ∷ ‵ (fdies U′.mir l₁₂) ∷ ‵ (froom tyPtr l₁₁ 0) ∷ ‵ (fdies tyPtr l₁₁)
-        ∷ ‵ (froom word l₁₀ 0) ∷ ‵ (fdies word l₁₀) ∷ ‵ (froom tyBool l₉ 0) ∷ ‵ (fdies tyBool l₉) ∷ ‵ (froom word l₈ 0) ∷ ‵ (fdies word l₈) ∷ ‵ (froom word l₇ 0) ∷ ‵ (fdies word l₇)
-        ∷ ‵ (fat fullShare word l₆ 0 (vint w64 (g .0))) ∷ ‵ (fdies word l₆) ∷ ‵ (fat fullShare P′.mir l₅ 0 (mach (at (g .0)))) ∷ ‵ (fdies P′.mir l₅) ∷ ‵ (fat fullShare word l₄ 0 (vint w64 n)) ∷ ‵ (fdies word l₄)
-        ∷ ‵ (fat fullShare room-ty l₃ 0 vw) ∷ ‵ (fdies room-ty l₃) ∷ ‵ (fat fullShare octets l₂ 0 vt) ∷ ‵ (fdies octets l₂) ∷ ‵ (fat fullShare list l₁ 0 vs) ∷ ‵ (fdies list l₁) ∷ ‵ (froom P′.mir l₀ 0) ∷ ‵ (fdies P′.mir l₀) ∷ []
-
-    abbrev Turned : Going → Out → SProp 𝓤
-    Turned g = afterTurn 𝓤 H (Below 𝓤 H A Nearer At g) (afterBlock 𝓤 H (afterSeq 𝓤 H (Wp 𝓤 H C Λ En M1.t-6 (atReturn 𝓤 H En Post)) (atReturn 𝓤 H En Post)))
-
-    turns : (g : Going) → Sq W (At g) (runs C Λ En M1.turn-1 (anyQ (Turned g)))
+    turns : (g : Going) → Turns W 𝓣 En Post code.Mir.turn-1 code.Mir.t-6 μ At g
     unfolding afterTurn
     turns g =
-        assigns ! (bin ! (load ! (from ! (stop !)) (look ! 26 refl)) (load ! (from ! (stop !)) (look ! 30 refl)) tt) (from ! (stop !)) (init ! 20 refl (tt, tt)) $
-        tests ! (load ! (from ! (stop !)) (look ! 20 refl))
+        sets ! 20 (bin ! (var ! 26 refl) (var ! 30 refl) tt) refl (tt, tt) $
+        tests ! (var ! 20 refl)
         (λ less.
         -- the record is read
-        assigns ! (bin ! (load ! (from ! (stop !)) (look ! 26 refl)) (lit ! tt) (record { fits = place-fits (g .0) less })) (from ! (stop !)) (init ! 18 refl (tt, record { fits = place-fits (g .0) less })) $
-        assigns ! (bin ! (load ! (from ! (fld ! refl (stop !))) (look-in ! 36 (sub ! 0 refl (whole !)))) (load ! (from ! (stop !)) (look ! 18 refl)) tt) (from ! (stop !)) (init ! 16 refl (tt, tt)) $
-        rewrite ! 16 (λ (p : ℕ). ‵ (fat fullShare tyPtr l₁₁ 0 (vptr (s .ptr .0) p))) (sym (place-is 12 (s .ptr .1) (g .0))) refl $
-        move ! (1 ∷ []) $ use1 W (‵ Units ⊛ ‵ Units) (shr-slice-copy 𝓤 H A W (named 0) κ₀ U.the-row .twice s (vs ∷ [])) $ split ! $ fsplit ! $ let-go ! $ fsplit ! $ let-go ! $ move ! (0 ∷ 2 ∷ []) $
-        looks-slice ! tt U.the-row (Is U.the-row) (shows 𝓤 H A U.the-row) (LL.vals U.the-type U′.the-laws) (LL.tells U.the-type U′.the-laws) (LL.copy U.the-type U′.the-copy 𝓤 H A W) us (s .ptr .0) (s .ptr .1) (λ p.
-        elem-out ! U.the-row (Is U.the-row) (shows 𝓤 H A U.the-row) (LL.vals U.the-type U′.the-laws) (LL.tells U.the-type U′.the-laws) p us (g .0) noRecord (s .ptr .0) (s .ptr .1) (inside (g .0) less) (λ is-u.
-        assigns ! (of-opd ! (load ! (from ! (hop ! (look ! 20 refl) (stop !))) (look-raw ! 0 refl))) (from ! (stop !)) (init ! 18 refl (LL.lawful U.the-type U′.the-laws 𝓤 H A W .typed (unit (g .0)) _ is-u .0)) $
-        elem-back ! U.the-row p us (g .0) noRecord (U′.lowered (unit (g .0)) ∷ []) (s .ptr .0) (s .ptr .1) (inside (g .0) less) $ shuts-slice ! tt U.the-row p us (s .ptr .0) (s .ptr .1) $ move ! (1 ∷ []) $ let-go ! $
+        sets ! 18 (bin ! (var ! 26 refl) (lit ! tt) (record { fits = place-fits (g .0) less })) refl (in64 (place-fits (g .0) less)) $
+        sets ! 16 (bin ! (part ! 36 0 refl refl refl) (var ! 18 refl) tt) refl (tt, tt) $
+        recasts ! 16 (kit.vptr (s .ptr .0)) (sym (kit.place-is 12 (s .ptr .1) (g .0))) refl $
+        move ! (1 ∷ []) $ copies ! (named 0) κ₀ U.the-row s (vs ∷ []) $ fsplit ! $ let-go ! $ fsplit ! $ let-go ! $ move ! (0 ∷ 2 ∷ []) $
+        kit.looks-slice ! tt U.the-row (Is U.the-row) (shows 𝓤 H A U.the-row) (LL.vals U.the-type U′.the-laws) (LL.tells U.the-type U′.the-laws)
+        (LL.copy U.the-type U′.the-copy 𝓤 H A W) us (s .ptr .0) (s .ptr .1) (λ p.
+        kit.elem-out ! U.the-row (Is U.the-row) (shows 𝓤 H A U.the-row) (LL.vals U.the-type U′.the-laws) (LL.tells U.the-type U′.the-laws) p us (g .0)
+        noRecord (s .ptr .0) (s .ptr .1) (inside (g .0) less) (λ is-u.
+        sets ! 18 (of-opd ! (kit.load ! (from ! (kit.hop ! (look ! 20 refl) (stop !))) (kit.look-raw ! 0 refl))) refl
+        (LL.lawful U.the-type U′.the-laws 𝓤 H A W .typed (unit (g .0)) _ is-u .0) $
+        kit.elem-back ! U.the-row p us (g .0) noRecord (U′.lowered (unit (g .0)) ∷ []) (s .ptr .0) (s .ptr .1) (inside (g .0) less) $
+        kit.shuts-slice ! tt U.the-row p us (s .ptr .0) (s .ptr .1) $ move ! (1 ∷ []) $ let-go ! $
         -- [the token of the units; what they own; that of the segments; what they own; the room; its token; the locals]: the room is borrowed again
-        assigns ! (addr ! (from ! (fld ! refl (hop ! (look-in ! 32 (sub ! 0 refl (whole !))) (stop !))))) (from ! (stop !)) (init ! 12 refl (tt, tt)) $
-        assigns ! (agg ! (and-then ! (load ! (from ! (stop !)) (look ! 12 refl)) (and-then ! (load ! (from ! (fld ! refl (stop !))) (look-in ! 32 (sub ! 1 refl (whole !)))) (no-more !)))) (from ! (stop !)) (init ! 10 refl (tt, (tt, (record { fits = room .0 }, tt)))) $
+        sets ! 12 (behind ! 32 refl refl) refl (tt, tt) $
+        sets ! 10 (resliced ! 12 32 refl refl refl) refl (sliced (room .0)) $
         -- the call of `turn`
-        move ! (3 ∷ []) $ use1 W (‵ Segments ⊛ ‵ Segments) (shr-slice-copy 𝓤 H A W (named 1) κ₁ u8 .twice t (vt ∷ [])) $ split ! $ move ! (4 ∷ 0 ∷ []) $ join ! $ move ! (0 ∷ 4 ∷ 5 ∷ []) $
-        calls-lent ! fm (Turn 𝓤 H A at-mem run) known-turn u8 κ₂ q₂ (named 2) γ b o (length ys) (g .1 .0) room (g .1 .1 .1 .0 .same)
-        (to-turn (g .0) (g .1 .0)) (‵ (flft κ₁ q₁) ⊛ ‵ Segments) (‵ (flft κ₁ q₁)) (mach (next (g .0))) (Left (g .0) (g .1 .0)) (λ l e. ap length e ∙ length-room (next (g .0)) (unit (g .0)) (g .0) (g .1 .0) ∙ g .1 .1 .1 .0 .same)
-        (λ ν. sep 𝓤 (A .lft κ₁ q₁) (sep 𝓤 (A .lft (ν ∷ []) fullShare) (emp 𝓤))) back-turn (asks-turn (g .0) (g .1 .0) (omega (arith, next-fits (g .0) less)) (g .1 .1 .1 .1) is-u) (IsP (next (g .0)))
-        (λ ν δ u. gave-some 𝓤 H A W turn.ended (turn.clauses 𝓤 H A at-mem run) (to-turn (g .0) (g .1 .0) ν δ) (next (g .0)) (Left (g .0) (g .1 .0)) (λ l. finally u8 δ l) (gives-turn (g .0) (g .1 .0) ν δ) (EL.vals P.the-type P′.the-laws) (EL.tells P.the-type P′.the-laws) u)
-        (λ ν δ. and-then ! (load ! (from ! (stop !)) (look ! 27 refl)) (and-then ! (load ! (from ! (stop !)) (look ! 13 refl)) (and-then ! (load ! (from ! (stop !)) (look ! 25 refl)) (and-then ! (load ! (from ! (stop !)) (look ! 33 refl)) (and-then ! (load ! (from ! (stop !)) (look ! 9 refl)) (no-more !)))))) (λ l is e.
+        move ! (3 ∷ []) $ copies ! (named 1) κ₁ u8 t (vt ∷ []) $ joins ! 3 refl $ move ! (0 ∷ 4 ∷ 5 ∷ []) $
+        calls-lent ! fm Turn known-turn u8 κ₂ q₂ (named 2) γ b o (length ys) (g .1 .0) room (g .1 .1 .1 .0 .same)
+        (to-turn (g .0) (g .1 .0)) (‵ (flft κ₁ q₁) ⊛ ‵ Segments) (‵ (flft κ₁ q₁)) (mach (next (g .0))) (Left (g .0) (g .1 .0)) (λ l e.
+        ap length e ∙ length-room (next (g .0)) (unit (g .0)) (g .0) (g .1 .0) ∙ g .1 .1 .1 .0 .same)
+        (Beside W κ₁ q₁) (back-beside W κ₁ q₁) (λ ν δ. asks-turn (g .0) (g .1 .0) (omega (arith, next-fits (g .0) less)) (g .1 .1 .1 .1)
+        is-u ν δ .prf) (IsP (next (g .0)))
+        (λ ν δ u. gave-one 𝓤 H A W turn.ended (turn.clauses 𝓤 H A at-mem run) (to-turn (g .0) (g .1 .0) ν δ) (next (g .0)) (Left (g .0) (g .1 .0))
+        (kit.finally u8 δ) (λ ws. ws .1 .1 .1 .1 .0) (λ r ws. id⊢ 𝓤 _)
+        (λ ws. past ! $ past ! $ past ! $ past ! $ front ! $ front ! $ done !) (EL.vals P.the-type P′.the-laws) (EL.tells P.the-type P′.the-laws) u)
+        (λ ν δ. arg ! 27 refl (arg ! 13 refl (arg ! 25 refl (arg ! 33 refl (arg ! 9 refl (no-more !)))))) (λ l is e.
         -- [the token of the segments; the room; its token; what the segments own; the token of the units; what they own; the locals]
-        rewrite ! 1 (λ (w : List ℕ). ‵ (Work w)) e refl $ land ! (from ! (stop !)) (store ! 28 refl (EL.lawful P.the-type P′.the-laws 𝓤 H A W tt .typed (next (g .0)) _ is .0)) $
-        rewrite ! 28 (λ (p : Progress). ‵ (fat fullShare P′.mir l₅ 0 (mach p))) (reached-next os us (g .0)) refl $
+        kit.rewrite ! 1 (λ (w : List ℕ). ‵ (Work w)) e refl $
+        kit.land ! (from ! (stop !)) (kit.store ! 28 refl (EL.lawful P.the-type P′.the-laws 𝓤 H A W tt .typed (next (g .0)) _ is .0)) $
+        recasts ! 28 mach (reached-next os us (g .0)) refl $
         -- from the next record on; the room is borrowed again
-        assigns ! (bin ! (load ! (from ! (stop !)) (look ! 26 refl)) (lit ! tt) (record { fits = next-fits (g .0) less })) (from ! (stop !)) (store ! 18 refl (tt, record { fits = next-fits (g .0) less })) $
-        rewrite ! 18 (λ (j : ℕ). ‵ (fat fullShare word l₁₀ 0 (vint w64 j))) (add-one (g .0)) refl $
-        assigns ! (addr ! (from ! (fld ! refl (hop ! (look-in ! 32 (sub ! 0 refl (whole !))) (stop !))))) (from ! (stop !)) (init ! 8 refl (tt, tt)) $
-        assigns ! (agg ! (and-then ! (load ! (from ! (stop !)) (look ! 8 refl)) (and-then ! (load ! (from ! (fld ! refl (stop !))) (look-in ! 32 (sub ! 1 refl (whole !)))) (no-more !)))) (from ! (stop !)) (init ! 6 refl (tt, (tt, (record { fits = room .0 }, tt)))) $
+        resets ! 18 (bin ! (var ! 26 refl) (lit ! tt) (record { fits = next-fits (g .0) less })) refl (in64 (next-fits (g .0) less)) $
+        recasts ! 18 (vint w64) (add-one (g .0)) refl $
+        sets ! 8 (behind ! 32 refl refl) refl (tt, tt) $
+        sets ! 6 (resliced ! 8 32 refl refl refl) refl (sliced (room .0)) $
         -- the call of `stow_quickly`
-        move ! (5 ∷ []) $ use1 W (‵ Units ⊛ ‵ Units) (shr-slice-copy 𝓤 H A W (named 0) κ₀ U.the-row .twice s (vs ∷ [])) $ split ! $ move ! (6 ∷ 0 ∷ []) $ join ! $ move ! (0 ∷ 3 ∷ 4 ∷ []) $
-        calls-lent ! fm (Quickly 𝓤 H A at-mem run) known-quickly u8 κ₂ q₂ (named 2) γ b o (length ys) (turned g) room (length-room (next (g .0)) (unit (g .0)) (g .0) (g .1 .0) ∙ g .1 .1 .1 .0 .same)
-        (to-quickly (g .0) (turned g)) (‵ (flft κ₀ q₀) ⊛ ‵ Units) (‵ (flft κ₀ q₀)) (vint w64 (fin (g .0))) (Kept (g .0) (turned g)) (λ l k. k .same ∙ length-room (next (g .0)) (unit (g .0)) (g .0) (g .1 .0) ∙ g .1 .1 .1 .0 .same)
-        (λ ν. sep 𝓤 (A .lft κ₀ q₀) (sep 𝓤 (A .lft (ν ∷ []) fullShare) (emp 𝓤))) back-quickly (asks-quickly (g .0) (turned g) (ltb→lt (g .0) n less) (subst IsP (reached-next os us (g .0)) is)) _
-        (λ ν δ u. gave-some 𝓤 H A W quickly.ended (quickly.clauses 𝓤 H A at-mem run) (to-quickly (g .0) (turned g) ν δ) (fin (g .0)) (Kept (g .0) (turned g)) (λ l. finally u8 δ l) (gives-quickly (g .0) (turned g) ν δ) (uint-vals w64) (uint-tells w64) u)
-        (λ ν δ. and-then ! (load ! (from ! (stop !)) (look ! 27 refl)) (and-then ! (load ! (from ! (stop !)) (look ! 35 refl)) (and-then ! (load ! (from ! (stop !)) (look ! 17 refl)) (and-then ! (load ! (from ! (stop !)) (look ! 29 refl)) (and-then ! (load ! (from ! (stop !)) (look ! 5 refl)) (no-more !)))))) (λ l′ is-fin k.
+        move ! (5 ∷ []) $ copies ! (named 0) κ₀ U.the-row s (vs ∷ []) $ joins ! 5 refl $ move ! (0 ∷ 3 ∷ 4 ∷ []) $
+        calls-lent ! fm Quickly known-quickly u8 κ₂ q₂ (named 2) γ b o (length ys) (turned g) room (length-room (next (g .0)) (unit (g .0)) (g .0)
+        (g .1 .0) ∙ g .1 .1 .1 .0 .same)
+        (to-quickly (g .0) (turned g)) (‵ (flft κ₀ q₀) ⊛ ‵ Units) (‵ (flft κ₀ q₀)) (vint w64 (fin (g .0))) (Kept (g .0) (turned g)) (λ l k.
+        k .same ∙ length-room (next (g .0)) (unit (g .0)) (g .0) (g .1 .0) ∙ g .1 .1 .1 .0 .same)
+        (Beside W κ₀ q₀) (back-beside W κ₀ q₀) (λ ν δ.
+        asks-quickly (g .0) (turned g) (ltb→lt (g .0) n less) (subst IsP (reached-next os us (g .0)) is) ν δ .prf) _
+        (λ ν δ u. gave-one 𝓤 H A W quickly.ended (quickly.clauses 𝓤 H A at-mem run) (to-quickly (g .0) (turned g) ν δ) (fin (g .0))
+        (Kept (g .0) (turned g)) (kit.finally u8 δ) (λ ws. ws .1 .1 .1 .1 .0) (λ r ws. id⊢ 𝓤 _)
+        (λ ws. past ! $ past ! $ past ! $ past ! $ front ! $ front ! $ done !) (kit.uint-vals w64) (kit.uint-tells w64) u)
+        (λ ν δ. arg ! 27 refl (arg ! 35 refl (arg ! 17 refl (arg ! 29 refl (arg ! 5 refl (no-more !)))))) (λ l′ is-fin k.
         -- [the token of the units; the room; its token; what the units own; the token of the segments; what they own; the locals]
-        land ! (from ! (stop !)) (init ! 24 refl (uint-lawful 𝓤 H A W w64 .typed (fin (g .0)) _ is-fin .0)) $
-        assigns-last ! (of-opd ! (load ! (from ! (stop !)) (look ! 24 refl))) (from ! (stop !)) (store ! 26 refl (uint-lawful 𝓤 H A W w64 .typed (fin (g .0)) _ is-fin .0)) $
-        rewrite ! 28 (λ (p : Progress). ‵ (fat fullShare P′.mir l₅ 0 (mach p))) (sym (k .stays os refl)) refl $
-        forget ! 6 refl $ forget ! 8 refl $ forget ! 10 refl $ forget ! 12 refl $ forget ! 14 refl $ forget ! 16 refl $ forget ! 18 refl $ forget ! 20 refl $ forget ! 24 refl $ move ! (0 ∷ 3 ∷ 4 ∷ 5 ∷ 1 ∷ 2 ∷ []) $
-        again ! Nearer At g (further g less is l′ k) (nearer g less l′ k))))))
-        (λ over. exec ! C Λ En M1.t-6 (atRet En Post) $
-        assigns ! (of-opd ! (load ! (from ! (stop !)) (look ! 28 refl))) (from ! (stop !)) (init ! 38 refl (EL.lawful P.the-type P′.the-laws 𝓤 H A W tt .typed (at (g .0)) _ (g .1 .1 .1 .1) .0)) $
-        rewrite ! 38 (λ (i : ℕ). ‵ (fat fullShare P′.mir l₀ 0 (mach (at i)))) (le-antisymm (g .1 .1 .0) (nltb→le (g .0) n over)) refl $
-        returns ! (look ! 38 refl) $ forget ! 20 refl $ forget ! 26 refl $ forget ! 28 refl $ forget ! 30 refl $ forget ! 32 refl $ forget ! 34 refl $ forget ! 36 refl $ forget ! 38 refl $
-        move ! (38 ∷ 39 ∷ 36 ∷ 37 ∷ 34 ∷ 35 ∷ 32 ∷ 33 ∷ 30 ∷ 31 ∷ 28 ∷ 29 ∷ 26 ∷ 27 ∷ 24 ∷ 25 ∷ 22 ∷ 23 ∷ 20 ∷ 21 ∷ 18 ∷ 19 ∷ 16 ∷ 17 ∷ 14 ∷ 15 ∷ 12 ∷ 13 ∷ 10 ∷ 11 ∷ 8 ∷ 9 ∷ 6 ∷ 7 ∷ []) $ frees-all ! En $
-        by ! (exits (g .1 .0) (subst (λ (k : ℕ). Stowed os us k ys (g .1 .0)) (le-antisymm (g .1 .1 .0) (nltb→le (g .0) n over)) (g .1 .1 .1 .0)) (subst (λ (k : ℕ). IsP (at k)) (le-antisymm (g .1 .1 .0) (nltb→le (g .0) n over)) (g .1 .1 .1 .1))))
+        lands-in ! 24 refl (kit.uint-lawful 𝓤 H A W w64 .typed (fin (g .0)) _ is-fin .0) $
+        resets-last ! 26 (of-opd ! (var ! 24 refl)) refl (kit.uint-lawful 𝓤 H A W w64 .typed (fin (g .0)) _ is-fin .0) $
+        recasts ! 28 mach (sym (k .stays os refl)) refl $
+        clears ! 6 19 refl $ move ! (0 ∷ 3 ∷ 4 ∷ 5 ∷ 1 ∷ 2 ∷ []) $
+        rounds ! μ At g (further g less is l′ k) (nearer g less l′ k))))))
+        (λ over. kit.exec ! (𝓣 .C) (𝓣 .Λ) En code.Mir.t-6 (atRet En Post) $
+        sets ! 38 (of-opd ! (var ! 28 refl)) refl (EL.lawful P.the-type P′.the-laws 𝓤 H A W tt .typed (at (g .0)) _ (g .1 .1 .1 .1) .0) $
+        recasts ! 38 (λ (i : ℕ). (mach (at i))) (le-antisymm (g .1 .1 .0) (nltb→le (g .0) n over)) refl $
+        kit.returns ! (look ! 38 refl) $ leaves ! 6 refl refl $
+        (exits (g .1 .0) (subst (λ (k : ℕ). Stowed os us k ys (g .1 .0)) (le-antisymm (g .1 .1 .0) (nltb→le (g .0) n over)) (g .1 .1 .1 .0))
+        (subst (λ (k : ℕ). IsP (at k)) (le-antisymm (g .1 .1 .0) (nltb→le (g .0) n over)) (g .1 .1 .1 .1))))
 
-    looped : (is : IsP (at 0)) → Sq W (At (0, (ys, (zero-le, (stowed-none os us ys, is))))) (runs C Λ En M1.t-5 (atRet En Post))
-    looped is = first ! $ blocks ! $ loops ! 𝓣 Nearer Nearer-wf At turns (0, (ys, (zero-le, (stowed-none os us ys, is))))
+    looped : (is : IsP (at 0)) → Sq W (At (0, (ys, (kit.zero-le, (stowed-none os us ys, is)))))
+        (kit.runs (𝓣 .C) (𝓣 .Λ) En code.Mir.t-5 (atRet En Post))
+    looped is = loop-by W 𝓣 En Post code.Mir.turn-1 code.Mir.t-6 μ At turns (0, (ys, (kit.zero-le, (stowed-none os us ys, is))))
 
   -- ---- the code up to the loop
-  module _ (𝓣 : Tables 𝓤 H) (fm : FmC 𝓤 H (W .laws) (𝓣 .C)) (known-looked : Triple 𝓤 (𝓣 .C #looked-at) (LookedAt 𝓤 H A at-mem run)) (known-begin : Triple 𝓤 (𝓣 .C #begin) (Begin 𝓤 H A at-mem run)) (known-turn : Triple 𝓤 (𝓣 .C #turn) (Turn 𝓤 H A at-mem run)) (known-quickly : Triple 𝓤 (𝓣 .C #quickly) (Quickly 𝓤 H A at-mem run)) where
-    walk : ent 𝓤 (onEntry 𝓤 H A stow.signature (κ₀, (κ₁, (κ₂, tt))) (q₀, (q₁, (q₂, tt))) a vals) (WpFn 𝓤 H (𝓣 .C) (𝓣 .Λ) code.function (vs ∷ vt ∷ vw ∷ []) Post)
+  module _ (𝓣 : Tables 𝓤 H) (fm : FmC 𝓤 H (W .laws) (𝓣 .C)) (known-looked : Triple 𝓤 (𝓣 .C looked-at.Symbol.name) LookedAt)
+      (known-begin : Triple 𝓤 (𝓣 .C begin.Symbol.name) Begin) (known-turn : Triple 𝓤 (𝓣 .C turn.Symbol.name) Turn)
+      (known-quickly : Triple 𝓤 (𝓣 .C quickly.Symbol.name) Quickly) where
+    walk : kit.ent 𝓤 (kit.onEntry 𝓤 H A stow.signature (κ₀, (κ₁, (κ₂, tt))) (q₀, (q₁, (q₂, tt))) a vals)
+        (kit.WpFn 𝓤 H (𝓣 .C) (𝓣 .Λ) code.function (vs ∷ vt ∷ vw ∷ []) Post)
     walk =
-        qed W ((‵ (flft κ₀ q₀) ⊛ ‵ (flft κ₁ q₁) ⊛ ‵ (flft κ₂ q₂) ⊛ ‵ ftrue) ∷ ‵ (owns (ShrSlice (named 0) κ₀ U.the-row ∷ ShrSlice (named 1) κ₁ u8 ∷ MutSlice (named 2) κ₂ u8 ∷ []) a vals) ∷ []) ∵
-        split ! $ move ! (1 ∷ []) $ split ! $ move ! (1 ∷ []) $ split ! $ move ! (4 ∷ []) $ fsplit ! $ move ! (1 ∷ []) $ fsplit ! $ move ! (1 ∷ []) $ fsplit ! $ keep ! (7 ∷ 3 ∷ 6 ∷ 2 ∷ 0 ∷ 4 ∷ []) $
-        enter ! (𝓣 .C) (𝓣 .Λ) code.function (vs ∷ vt ∷ vw ∷ []) _ $
-        alloc1 ! (λ l₀. alloc1 ! (λ l₁. alloc1 ! (λ l₂. alloc1 ! (λ l₃. alloc1 ! (λ l₄. alloc1 ! (λ l₅. alloc1 ! (λ l₆. alloc1 ! (λ l₇. alloc1 ! (λ l₈. alloc1 ! (λ l₉. alloc1 ! (λ l₁₀. alloc1 ! (λ l₁₁. alloc1 ! (λ l₁₂. alloc1 ! (λ l₁₃. alloc1 ! (λ l₁₄. alloc1 ! (λ l₁₅. alloc1 ! (λ l₁₆. alloc0 ! $ params1 ! $
-        pass1 ! (init ! 30 refl (tt, (tt, (record { fits = s-room .0 }, tt)))) $ pass1 ! (init ! 28 refl (tt, (tt, (record { fits = t-room .0 }, tt)))) $ pass1 ! (init ! 26 refl (tt, (tt, (record { fits = room .0 }, tt)))) $ pass0 ! $
+        qed W ((‵ (flft κ₀ q₀) ⊛ ‵ (flft κ₁ q₁) ⊛ ‵ (flft κ₂ q₂) ⊛ ‵ kit.ftrue) ∷
+        ‵ (kit.owns (ShrSlice (named 0) κ₀ U.the-row ∷ ShrSlice (named 1) κ₁ u8 ∷ MutSlice (named 2) κ₂ u8 ∷ []) a vals) ∷ []) ∵
+        split ! $ move ! (1 ∷ []) $ split ! $ move ! (1 ∷ []) $ split ! $ move ! (4 ∷ []) $ fsplit ! $ move ! (1 ∷ []) $ fsplit ! $
+        move ! (1 ∷ []) $ fsplit ! $ kit.keep ! (7 ∷ 3 ∷ 6 ∷ 2 ∷ 0 ∷ 4 ∷ []) $
+        enters ! (𝓣 .C) (𝓣 .Λ) code.function (vs ∷ vt ∷ vw ∷ []) _ (λ bs. (sliced (s-room .0), (sliced (t-room .0), (sliced (room .0), tt))))
+        (λ bs.
         -- [the locals; the token of the units; what they own; that of the segments; what they own; the room; its token]
-        assigns ! (of-opd ! (load ! (from ! (fld ! refl (stop !))) (look-in ! 30 (sub ! 1 refl (whole !))))) (from ! (stop !)) (init ! 16 refl (tt, record { fits = s-room .0 })) $
-        use0 W (raw (LookedAt 𝓤 H A at-mem run .pre to-looked)) asks-looked $
-        calls-value ! fm looked-at.ended (looked-at.clauses 𝓤 H A at-mem run) known-looked to-looked n (λ r e. id⊢ 𝓤 _) (uint-vals w64) (uint-tells w64) (and-then ! (load ! (from ! (stop !)) (look ! 17 refl)) (no-more !)) (λ is-n.
-        let-go ! $ land ! (from ! (stop !)) (init ! 24 refl (uint-lawful 𝓤 H A W w64 .typed n _ is-n .0)) $
-        use0 W (raw (Begin 𝓤 H A at-mem run .pre ((tt, tt, tt, tt, tt), tt))) asks-begin $
-        calls-value ! fm begin.ended (begin.clauses 𝓤 H A at-mem run) known-begin ((tt, tt, tt, tt, tt), tt) begun (λ r e. id⊢ 𝓤 _) (EL.vals P.the-type P′.the-laws) (EL.tells P.the-type P′.the-laws) (no-more !) (λ is-p.
-        let-go ! $ land ! (from ! (stop !)) (init ! 22 refl (EL.lawful P.the-type P′.the-laws 𝓤 H A W tt .typed begun _ is-p .0)) $
-        rewrite ! 22 (λ (p : Progress). ‵ (fat fullShare P′.mir l₅ 0 (mach p))) (reached-none os us) refl $
-        assigns ! (of-opd ! (lit ! tt)) (from ! (stop !)) (init ! 20 refl (tt, record { fits = lit< tt })) $ forget ! 16 refl $ move ! (34 ∷ 35 ∷ 36 ∷ 37 ∷ 38 ∷ 39 ∷ []) $
-        looped 𝓣 fm known-turn known-quickly l₀ l₁ l₂ l₃ l₄ l₅ l₆ l₇ l₈ l₉ l₁₀ l₁₁ l₁₂ l₁₃ l₁₄ l₁₅ l₁₆ (subst IsP (reached-none os us) is-p))))))))))))))))))))
+        sets ! 16 (of-opd ! (part ! 30 1 refl refl refl)) refl (in64 (s-room .0)) $
+        use0 W (raw (LookedAt .pre to-looked)) (asks-looked .prf) $
+        calls-value ! fm looked-at.ended (looked-at.clauses 𝓤 H A at-mem run) known-looked to-looked n (λ r e.
+        id⊢ 𝓤 _) (kit.uint-vals w64) (kit.uint-tells w64) (arg ! 17 refl (no-more !)) (λ is-n.
+        let-go ! $ lands-in ! 24 refl (kit.uint-lawful 𝓤 H A W w64 .typed n _ is-n .0) $
+        use0 W (raw (Begin .pre ((tt, tt, tt, tt, tt), tt))) (asks-begin .prf) $
+        calls-value ! fm begin.ended (begin.clauses 𝓤 H A at-mem run) known-begin ((tt, tt, tt, tt, tt), tt) begun (λ r e.
+        id⊢ 𝓤 _) (EL.vals P.the-type P′.the-laws) (EL.tells P.the-type P′.the-laws) (no-more !) (λ is-p.
+        let-go ! $ lands-in ! 22 refl (EL.lawful P.the-type P′.the-laws 𝓤 H A W tt .typed begun _ is-p .0) $
+        recasts ! 22 mach (reached-none os us) refl $
+        sets ! 20 (of-opd ! (lit ! tt)) refl (in64 (lit< tt)) $ kit.forget ! 16 refl $ move ! (34 ∷ 35 ∷ 36 ∷ 37 ∷ 38 ∷ 39 ∷ []) $
+        looped 𝓣 fm known-turn known-quickly bs (subst IsP (reached-none os us) is-p))))
 
-pub stow-spec : {M : Type 1} → stated.statement M
+pub stow-spec : {M : Type 1} → stow.Statement.statement M
 unfolding code.routine tablesOf
 stow-spec 𝓤 H 𝓜 𝓖 𝓡 =
-    proved 𝓤 H 𝓜 𝓖 𝓡 code.env #stow code.function (code.unfolded 𝓤 H 𝓜 𝓡) stow.ended stayed (stow.clauses 𝓤 H (𝓖 .A) (𝓜 .mem) (𝓡 .run))
-    (goes-none-slice 𝓤 H (𝓖 .A) (givenOf 𝓤 H 𝓜 𝓖) 3 (0 ∷ []) tt (plain (λ _. U.the-row)) yes, (goes-none-slice 𝓤 H (𝓖 .A) (givenOf 𝓤 H 𝓜 𝓖) 3 (1 ∷ []) tt (plain (λ _. u8)) yes, (goes-slice 𝓤 H (𝓖 .A) (givenOf 𝓤 H 𝓜 𝓖) 3 2 tt (plain (λ _. u8)), tt)))
-    (walked 𝓤 H (𝓖 .A) stow.ended stayed (stow.clauses 𝓤 H (𝓖 .A) (𝓜 .mem) (𝓡 .run)) (WpFn 𝓤 H (𝓣of 𝓤 H 𝓜 𝓖 𝓡 code.env .C) (𝓣of 𝓤 H 𝓜 𝓖 𝓡 code.env .Λ) code.function)
-    (λ κs. (slice-vals, (slice-vals, (slice-vals, tt)))) (λ κs. (shr-slice-tells (named 0) (κs .0) U.the-row, (shr-slice-tells (named 1) (κs .1 .0) u8, (mut-slice-tells (named 2) (κs .1 .1 .0) u8, tt))))
-    (λ κs qs bounds a g are. via 𝓤 _ (fst∗ 𝓤 _ (emp 𝓤)) (walk 𝓤 H (𝓖 .A) (givenOf 𝓤 H 𝓜 𝓖) (𝓜 .mem) (𝓡 .run) (κs .0) (κs .1 .0) (κs .1 .1 .0) (qs .0) (qs .1 .0) (qs .1 .1 .0)
+    let W = givenOf 𝓤 H 𝓜 𝓖 in
+    let T = 𝓣of 𝓤 H 𝓜 𝓖 𝓡 code.env in
+    let A = 𝓖 .A in
+    proved-by 𝓤 H 𝓜 𝓖 𝓡 code.env stow.Key.name code.function (code.unfolded 𝓤 H 𝓜 𝓡) stow.ended stayed
+    (stow.clauses 𝓤 H A (𝓜 .mem) (𝓡 .run)) (
+      kit.goes-none-slice 𝓤 H A W 3 (0 ∷ []) tt (plain (λ _. U.the-row)) yes,
+      (
+        kit.goes-none-slice 𝓤 H A W 3 (1 ∷ []) tt (plain (λ _. u8)) yes,
+        (kit.goes-slice 𝓤 H A W 3 2 tt (plain (λ _. u8)), tt),
+      ),
+    )
+    (λ κs. (slice-vals, (slice-vals, (slice-vals, tt)))) (λ κs.
+    (kit.shr-slice-tells (named 0) (κs .0) U.the-row, (kit.shr-slice-tells (named 1) (κs .1 .0) u8, (kit.mut-slice-tells (named 2) (κs .1 .1 .0) u8, tt))))
+    (λ κs qs bounds a g are. kit.via 𝓤 _ (kit.fst∗ 𝓤 _ (kit.emp 𝓤)) (walk 𝓤 H A W (𝓜 .mem) (𝓡 .run)
+    (κs .0)
+    (κs .1 .0) (κs .1 .1 .0) (qs .0) (qs .1 .0) (qs .1 .1 .0)
     (a .0) (a .1 .0) (a .1 .1 .0 .ptr .0) (a .1 .1 .0 .ptr .1) (a .1 .1 .0 .name) (a .1 .1 .0 .now) (are .0 .0 .1) (are .1 .0 .0 .1) (are .1 .1 .0 .0 .1)
-    (𝓣of 𝓤 H 𝓜 𝓖 𝓡 code.env) (fmOf 𝓤 H (givenOf 𝓤 H 𝓜 𝓖 .laws) (𝓣of 𝓤 H 𝓜 𝓖 𝓡 code.env))
-    (cited 𝓤 H (LookedAt 𝓤 H (𝓖 .A) (𝓜 .mem) (𝓡 .run)) 𝓜 𝓡 code.env #looked-at looked-at-def.routine code.calls-check-list·looked-at (looked-at-thm.met 𝓤 H 𝓜 𝓖 𝓡))
-    (cited 𝓤 H (Begin 𝓤 H (𝓖 .A) (𝓜 .mem) (𝓡 .run)) 𝓜 𝓡 code.env #begin begin-def.routine code.calls-check-list·begin (begin-thm.met 𝓤 H 𝓜 𝓖 𝓡))
-    (cited 𝓤 H (Turn 𝓤 H (𝓖 .A) (𝓜 .mem) (𝓡 .run)) 𝓜 𝓡 code.env #turn turn-def.routine code.calls-check-list·turn (turn-thm.met 𝓤 H 𝓜 𝓖 𝓡))
-    (cited 𝓤 H (Quickly 𝓤 H (𝓖 .A) (𝓜 .mem) (𝓡 .run)) 𝓜 𝓡 code.env #quickly quickly-def.routine code.calls-write·stow-quickly (quickly-thm.met 𝓤 H 𝓜 𝓖 𝓡)))))
+    T (kit.fmOf 𝓤 H (W .laws) T)
+    (cited 𝓤 H _ 𝓜 𝓡 code.env looked-at.Symbol.name looked-at.Symbol.routine code.calls-check-list·looked-at
+    (looked-at.Met.met 𝓤 H 𝓜 𝓖 𝓡))
+    (cited 𝓤 H _ 𝓜 𝓡 code.env begin.Symbol.name begin.Symbol.routine code.calls-check-list·begin (begin.Met.met 𝓤 H 𝓜 𝓖 𝓡))
+    (cited 𝓤 H _ 𝓜 𝓡 code.env turn.Symbol.name turn.Symbol.routine code.calls-check-list·turn (turn.Met.met 𝓤 H 𝓜 𝓖 𝓡))
+    (cited 𝓤 H _ 𝓜 𝓡 code.env quickly.Symbol.name quickly.Symbol.routine code.calls-write·stow-quickly (quickly.Met.met 𝓤 H 𝓜 𝓖 𝓡))))

@@ -2,12 +2,14 @@
 -- the list, and the work room is lent to `quick_turn`, which says whether the quick check lets the record through and puts it into its row.
 -- Where it does, the next record has its turn; where it does not, the end is set to this place, and the loop is left. Of the functions that
 -- it calls the proof knows their contracts alone. Assumes nothing.
-use Rattle.walks.proofs.Names.{_≡_, refl, sym, _∙_, ap, subst, ℕ, suc, _+_, _-_, _*_, _≤_, _<_, _^_, Bool, true, false, not, [], _∷_, List, length, getD, URA, fullShare, Ty, named, erased, imm, mut, w8, w64, tyInt, tyBool, tyPtr, tyRef, Val, vint, vptr, SProp, ent, emp, sep, ex, guard, id⊢, Lft, Share, GName, Fml, ftrue, flft, fat, froom, fdies, Memory, Routine, Heap, Out, Env, afterSeq, afterBlock, Calls, Loops, Wp, atReturn, WpFn, Tables, Atoms, sem, Fun, fact, givenOf, let-go, Given, Item, ‵, raw, _⊛_, ⋆, runs, anyQ, atRet, Sq, _$_, _∵_, !, qed, by, move, keep, use0, use1, split, join, rewrite, fsplit, fjoin, check, show, suffices, frame, done, look, look-raw, init, store, forget, stop, hop, fld, from, load, lit, of-opd, bin, addr, and-then, no-more, assigns, assigns-last, first, blocks, branches, land, returns, enter, alloc1, alloc0, params1, pass1, pass0, exec, Below, again, loops, agg, whole, sub, look-in, FmC, fmOf, owns, pointee, Is, shows, bool-vals, bool-tells, uint-makes, uint-vals, uint-tells, uint-lawful, u8, usize, RefT, sliceVal, sliceTy, ShrSlice, MutSlice, Room, finally, slice-vals, shr-slice-tells, mut-slice-tells, shr-slice-copy, place-is, elem-out, elem-back, looks-slice, shuts-slice, owned, heard, nothing, plain, yes, onEntry, tripleOf, Contract, Triple, Lasts, lasts, cited, says, needs, Stays, stay-none, stay-none-slice, stay-slice, walkOf, goes-none, goes-none-slice, goes-slice, ends-at, walked}
+use Rattle.walks.proofs.Names.{_≡_, refl, sym, _∙_, ap, ℕ, suc, _+_, _-_, _*_, _≤_, _<_, _^_, true, false, [], _∷_, List, length, named, w64, Val}
+use Rattle.walks.proofs.Names.{vint, SProp, id⊢, GName, Fml, ftrue, flft, Tables, givenOf, let-go, ‵, _⊛_, prop, atRet, Sq, _$_, _∵_, !, qed, move}
+use Rattle.walks.proofs.Names.{split, rewrite, fsplit, frame, done, look, lit, of-opd, bin, FmC, Is, shows, uint-vals, uint-tells, u8, usize, RefT}
+use Rattle.walks.proofs.Names.{MutSlice, Room, nothing, plain, yes, Triple, cited, stay-none, goes-none}
+use Rattle.walks.proofs.Names as kit
 use native.Mathlib.Numerals.{add-one}
 use native.Mathlib.Omega.{arith}
-use mathlib.Core.WellFounded.{WellFounded, InvImage·wf}
-use lib.Dec.{T as Holds, ltb, ltb→lt, nltb→le}
-use lib.WfN.{Nat·lt-wfRel}
+use lib.Dec.{ltb→lt, nltb→le}
 use prog.Wp.{afterTurn}
 use contract.Running.{tablesOf}
 use denote.Enum.Laws as EL
@@ -16,9 +18,13 @@ use Rattle.base.specs.Choice.{pick}
 use Rattle.base.specs.declared.Unit.{Unit as UnitRecord}
 use Rattle.base.proofs.Unit as U
 use Rattle.base.proofs.Unit.Laws as U′
-use Rattle.walks.proofs.Body.{proved, 𝓣of, tests, holds, fails, frees-all}
-use Rattle.walks.proofs.Calls.{calls-value, gave-some}
-use Rattle.walks.proofs.Lent.{calls-lent}
+use Rattle.walks.proofs.Body.{𝓣of, tests, holds, fails, proved-by}
+use Rattle.walks.proofs.Calls.{calls-value, gave-one}
+use Rattle.walks.proofs.Lent.{calls-lent, Alone, back-alone}
+use Rattle.walks.proofs.Loop.{Turns, rounds, loop-by}
+use Rattle.walks.proofs.Frame.{empty, full, Blocks, envOf, laid, enters, clears, leaves}
+use Rattle.walks.proofs.Steps.{var, arg, part, sets, resets-last, lands-in, recasts, behind, resliced, in64, sliced, beside, copies, past, front}
+use Rattle.walks.proofs.Steps.{number, joins, fjoins}
 use Rattle.shortest.specs.Offence.{noRecord}
 use Rattle.rows.specs.Rows.{withRecord}
 use Rattle.check_list.specs.Plain.{plainOf}
@@ -28,44 +34,20 @@ use Rattle.check_list.proofs.Turns.{until-quick, until-most}
 use Rattle.check_list.proofs.Progress as P
 use Rattle.check_list.proofs.Progress.Laws as P′
 use Rattle.check_list.proofs.quick_until as quick-until
-use Rattle.check_list.proofs.quick_until.Symbol as quick-until-def
-use Rattle.check_list.proofs.quick_until.Symbol.{name as #quick-until}
-use Rattle.check_list.proofs.quick_until.Met as quick-until-thm
 use Rattle.check_list.proofs.quick_turn as quick-turn
-use Rattle.check_list.proofs.quick_turn.Symbol as quick-turn-def
-use Rattle.check_list.proofs.quick_turn.Symbol.{name as #quick-turn}
-use Rattle.check_list.proofs.quick_turn.Met as quick-turn-thm
 use Rattle.write.specs.Stowed.{quickRun, quickEnd, Passed}
 use Rattle.write.proofs.Lists.{length-quick, run-over, run-stops, run-goes, run-most, passed-none, passed-next}
-use Rattle.write.proofs.stow_quickly.Key.{name as #stow-quickly}
 use Rattle.write.proofs.stow_quickly as stow-quickly
-use Rattle.write.proofs.stow_quickly.Statement as stated
 use Rattle.write.proofs.stow_quickly.Code as code
-use Rattle.write.proofs.stow_quickly.Code.Mir as M1
 
--- ---- the contracts that the proof cites
-module _ {M : Type 1} (𝓤 : URA M) (H : Heap 𝓤) (A : Atoms 𝓤) (mem : Memory → SProp 𝓤) (run : Routine → Fun 𝓤) where
-  abbrev QuickUntil : Contract 𝓤
-  QuickUntil = tripleOf 𝓤 H A quick-until.signature (quick-until.spec 𝓤 H A mem run)
-
-  abbrev QuickTurn : Contract 𝓤
-  QuickTurn = tripleOf 𝓤 H A quick-turn.signature (quick-turn.spec 𝓤 H A mem run)
-
-abbrev stayed : Stays (stow-quickly.ended .signature .params) (stow-quickly.ended .kept)
-stayed = (stay-none (λ _. P.the-row) yes, (stay-none-slice (0 ∷ []) tt (plain (λ _. U.the-row)) yes, (stay-none (λ _. usize) yes, (stay-none (λ _. usize) yes, (stay-slice (1 ∷ []) tt (plain (λ _. u8)), tt)))))
-
--- ---- the types of the locals
-abbrev word : Ty
-word = tyInt w64
-
-abbrev list : Ty
-list = sliceTy (tyRef (named 0) imm (pointee (U.the-row .written)))
-
-abbrev room-ty : Ty
-room-ty = sliceTy (tyRef (named 1) mut (tyInt w8))
-
-abbrev lent : Ty
-lent = tyRef erased mut (tyInt w8)
+abbrev stayed : kit.Stays (stow-quickly.ended .signature .params) (stow-quickly.ended .kept)
+stayed = (
+  stay-none (λ _. P.the-row) yes,
+  (
+    kit.stay-none-slice (0 ∷ []) tt (plain (λ _. U.the-row)) yes,
+    (stay-none (λ _. usize) yes, (stay-none (λ _. usize) yes, (kit.stay-slice (1 ∷ []) tt (plain (λ _. u8)), tt))),
+  ),
+)
 
 -- the machine value of a progress
 abbrev mach : Progress → Val
@@ -74,10 +56,19 @@ mach p = EL.val P.the-type P′.the-laws p
 abbrev IsP : Progress → Type 0
 IsP p = Is P.the-row p (mach p ∷ [])
 
-module _ {M : Type 1} (𝓤 : URA M) (H : Heap 𝓤) (A : Atoms 𝓤) (W : Given 𝓤 H A) (at-mem : Memory → SProp 𝓤) (run : Routine → Fun 𝓤) (κ₀ κ₁ : Lft) (q₀ q₁ : Share)
+module _ {M : Type 1} (𝓤 : kit.URA M) (H : kit.Heap 𝓤) (A : kit.Atoms 𝓤) (W : kit.Given 𝓤 H A) (at-mem : kit.Memory → SProp 𝓤)
+    (run : kit.Routine → kit.Fun 𝓤)
+    (κ₀ κ₁ : kit.Lft) (q₀ q₁ : kit.Share)
     (p : Progress) (s : RefT (List UnitRecord)) (i₀ n : ℕ) (b o : ℕ) (γ : GName) (ys : List ℕ)
     (is-p : IsP p) (s-room : Room U.the-row (length (s .now))) (i₀-fits : i₀ < 2 ^ 64) (n-fits : n < 2 ^ 64) (room : Room u8 (length ys))
     (i₀-most : i₀ ≤ n) (n-most : n ≤ length (s .now)) where
+  -- the contracts that the proof cites
+  abbrev QuickUntil : kit.Contract 𝓤
+  QuickUntil = kit.tripleOf 𝓤 H A quick-until.signature (quick-until.spec 𝓤 H A at-mem run)
+
+  abbrev QuickTurn : kit.Contract 𝓤
+  QuickTurn = kit.tripleOf 𝓤 H A quick-turn.signature (quick-turn.spec 𝓤 H A at-mem run)
+
   abbrev us : List UnitRecord
   us = s .now
 
@@ -86,10 +77,10 @@ module _ {M : Type 1} (𝓤 : URA M) (H : Heap 𝓤) (A : Atoms 𝓤) (W : Given
 
   -- the machine values passed
   abbrev vs : Val
-  vs = sliceVal (s .ptr) (length us)
+  vs = kit.sliceVal (s .ptr) (length us)
 
   abbrev vw : Val
-  vw = sliceVal (b, o) (length ys)
+  vw = kit.sliceVal (b, o) (length ys)
 
   abbrev Arg : Type 0
   Arg = Progress × (RefT (List UnitRecord) × (ℕ × (ℕ × (RefT (List ℕ) × Unit {0}))))
@@ -101,7 +92,7 @@ module _ {M : Type 1} (𝓤 : URA M) (H : Heap 𝓤) (A : Atoms 𝓤) (W : Given
   vals = (mach p ∷ [], (vs ∷ [], (vint w64 i₀ ∷ [], (vint w64 n ∷ [], (vw ∷ [], tt)))))
 
   abbrev unit : ℕ → UnitRecord
-  unit i = getD us i noRecord
+  unit i = kit.getD us i noRecord
 
   -- where the check ends at the latest, and where it ends
   abbrev until : ℕ
@@ -111,10 +102,13 @@ module _ {M : Type 1} (𝓤 : URA M) (H : Heap 𝓤) (A : Atoms 𝓤) (W : Given
   fin = quickEnd p us i₀ n
 
   abbrev Post : Val → SProp 𝓤
-  Post = walkOf 𝓤 H A stow-quickly.ended stayed (stow-quickly.clauses 𝓤 H A at-mem run) .post (((κ₀, (κ₁, tt)), (q₀, (q₁, tt)), tt, a, vals), tt)
+  Post = kit.walkOf 𝓤 H A stow-quickly.ended stayed (stow-quickly.clauses 𝓤 H A at-mem run) .post (
+    ((κ₀, (κ₁, tt)), (q₀, (q₁, tt)), tt, a, vals),
+    tt,
+  )
 
   abbrev Units : Fml
-  Units = ShrSlice (named 0) κ₀ U.the-row .own s (vs ∷ [])
+  Units = kit.ShrSlice (named 0) κ₀ U.the-row .own s (vs ∷ [])
 
   abbrev Work : List ℕ → Fml
   Work w = MutSlice (named 1) κ₁ u8 .own (x γ w) (vw ∷ [])
@@ -125,26 +119,28 @@ module _ {M : Type 1} (𝓤 : URA M) (H : Heap 𝓤) (A : Atoms 𝓤) (W : Given
   fin-fits : fin < 2 ^ 64
   fin-fits = omega (arith, run-most us (until - i₀) i₀, until-fits, i₀-fits)
 
-  exits : (w : List ℕ) → Passed p us i₀ fin ys w → ent 𝓤 (⋆ 𝓤 H A (‵ (flft κ₀ q₀) ∷ ‵ Units ∷ ‵ (Work w) ∷ ‵ (flft κ₁ q₁) ∷ [])) (Post (vint w64 fin))
+  exits : (w : List ℕ) → Passed p us i₀ fin ys w
+      → Sq W (‵ (flft κ₀ q₀) ∷ ‵ Units ∷ ‵ (Work w) ∷ ‵ (flft κ₁ q₁) ∷ []) (prop (Post (vint w64 fin)))
   exits w st =
-      qed W (‵ (flft κ₀ q₀) ∷ ‵ Units ∷ ‵ (Work w) ∷ ‵ (flft κ₁ q₁) ∷ []) ∵
-      suffices ! _ (ends-at 𝓤 H A stow-quickly.ended stayed (stow-quickly.clauses 𝓤 H A at-mem run) W (((κ₀, (κ₁, tt)), (q₀, (q₁, tt)), tt, a, vals), tt) (vint w64 fin) fin (tt, (tt, (tt, (tt, (w, tt))))) (tt, (tt, (tt, (tt, (st .same, tt)))))) $
-      says ! (refl, st) $
+      kit.suffices ! _ (kit.ends-at 𝓤 H A stow-quickly.ended stayed (stow-quickly.clauses 𝓤 H A at-mem run) W
+      (((κ₀, (κ₁, tt)), (q₀, (q₁, tt)), tt, a, vals), tt) (vint w64 fin) fin (tt, (tt, (tt, (tt, (w, tt))))) (tt, (tt, (tt, (tt, (st .same, tt)))))) $
+      kit.says ! (refl, st) $
       -- the tokens
-      nothing ! $ move ! (4 ∷ 0 ∷ []) $ join ! $ move ! (1 ∷ 0 ∷ []) $ join ! $ frame ! $
+      nothing ! $ joins ! 3 refl $ joins ! 0 refl $ frame ! $
       -- [what the units own; the room]
-      nothing ! $ move ! (2 ∷ 0 ∷ []) $ fjoin ! $ owned ! usize (Is usize) (uint-makes 𝓤 H A W w64) n _ (refl, n-fits) $ fjoin ! $ owned ! usize (Is usize) (uint-makes 𝓤 H A W w64) i₀ _ (refl, i₀-fits) $ fjoin ! $
-      move ! (1 ∷ 0 ∷ []) $ fjoin ! $ owned ! P.the-row (Is P.the-row) (EL.makes P.the-type P′.the-plain 𝓤 H A) p _ is-p $ fjoin ! $ frame ! $
-      owned ! usize (Is usize) (uint-makes 𝓤 H A W w64) fin _ (refl, fin-fits) $ done !
+      nothing ! $ fjoins ! 1 refl $ number ! n n-fits $
+      number ! i₀ i₀-fits $
+      fjoins ! 0 refl $ beside ! P.the-row (EL.makes P.the-type P′.the-plain 𝓤 H A) p _ is-p $ frame ! $
+      kit.owned ! usize (Is usize) (kit.uint-makes 𝓤 H A W w64) fin _ (refl, fin-fits) $ done !
 
   -- ---- what the callees ask and give
-  abbrev to-until : QuickUntil 𝓤 H A at-mem run .Ghost
+  abbrev to-until : QuickUntil .Ghost
   to-until = ((tt, tt, tt, (p, (i₀, (n, tt))), (mach p ∷ [], (vint w64 i₀ ∷ [], (vint w64 n ∷ [], tt)))), tt)
 
-  asks-until : ent 𝓤 (emp 𝓤) (QuickUntil 𝓤 H A at-mem run .pre to-until)
+  asks-until : Sq W [] (prop (QuickUntil .pre to-until))
   asks-until =
-      qed W [] ∵ nothing ! $ owned ! usize (Is usize) (uint-makes 𝓤 H A W w64) n _ (refl, n-fits) $ fjoin ! $ owned ! usize (Is usize) (uint-makes 𝓤 H A W w64) i₀ _ (refl, i₀-fits) $ fjoin ! $
-      owned ! P.the-row (Is P.the-row) (EL.makes P.the-type P′.the-plain 𝓤 H A) p _ is-p $ fjoin ! $ nothing ! $ join ! $ frame ! $ done !
+      nothing ! $ number ! n n-fits $ number ! i₀ i₀-fits $
+      beside ! P.the-row (EL.makes P.the-type P′.the-plain 𝓤 H A) p _ is-p $ nothing ! $ kit.join ! $ frame ! $ done !
 
   abbrev IsU : ℕ → Type 0
   IsU i = Is U.the-row (unit i) (U′.lowered (unit i) ∷ [])
@@ -153,29 +149,26 @@ module _ {M : Type 1} (𝓤 : URA M) (H : Heap 𝓤) (A : Atoms 𝓤) (W : Given
   abbrev left : ℕ → List ℕ → List ℕ
   left i w = pick (plainOf (unit i)) (withRecord w i (unit i)) w
 
-  abbrev to-turn : ℕ → List ℕ → ℕ → GName → QuickTurn 𝓤 H A at-mem run .Ghost
-  to-turn i w ν δ = (((ν ∷ [], tt), (fullShare, tt), tt, (unit i, (i, (x δ w, tt))), (U′.lowered (unit i) ∷ [], (vint w64 i ∷ [], (vw ∷ [], tt)))), tt)
+  abbrev to-turn : ℕ → List ℕ → ℕ → GName → QuickTurn .Ghost
+  to-turn i w ν δ = (
+    (
+      (ν ∷ [], tt),
+      (kit.fullShare, tt),
+      tt,
+      (unit i, (i, (x δ w, tt))),
+      (U′.lowered (unit i) ∷ [], (vint w64 i ∷ [], (vw ∷ [], tt))),
+    ),
+    tt,
+  )
 
   asks-turn : (i : ℕ) (w : List ℕ) → i < 2 ^ 64 → IsU i → (ν : ℕ) (δ : GName)
-      → ent 𝓤 (sep 𝓤 (emp 𝓤) (sep 𝓤 (A .lft (ν ∷ []) fullShare) (sem 𝓤 H A (MutSlice (named 0) (ν ∷ []) u8 .own (x δ w) (vw ∷ []))))) (QuickTurn 𝓤 H A at-mem run .pre (to-turn i w ν δ))
+      → Sq W (‵ ftrue ∷ ‵ (flft (ν ∷ []) kit.fullShare) ∷ ‵ (MutSlice (named 0) (ν ∷ []) u8 .own (x δ w) (vw ∷ [])) ∷ [])
+      (prop (QuickTurn .pre (to-turn i w ν δ)))
   asks-turn i w fits is-u ν δ =
-      qed W (‵ ftrue ∷ ‵ (flft (ν ∷ []) fullShare) ∷ ‵ (MutSlice (named 0) (ν ∷ []) u8 .own (x δ w) (vw ∷ [])) ∷ []) ∵
-      let-go ! $ nothing ! $ move ! (1 ∷ 0 ∷ []) $ join ! $
+      let-go ! $ nothing ! $ joins ! 0 refl $
       -- [the token; the room]
-      nothing ! $ move ! (2 ∷ 0 ∷ []) $ fjoin ! $ owned ! usize (Is usize) (uint-makes 𝓤 H A W w64) i _ (refl, fits) $ fjoin ! $
-      owned ! U.the-row (Is U.the-row) (LL.makes U.the-type U′.the-plain 𝓤 H A) (unit i) _ is-u $ fjoin ! $ move ! (1 ∷ 0 ∷ []) $ join ! $ frame ! $ done !
-
-  back-turn : (ν : ℕ) → ent 𝓤 (sep 𝓤 (A .lft (ν ∷ []) fullShare) (emp 𝓤)) (sep 𝓤 (emp 𝓤) (A .lft (ν ∷ []) fullShare))
-  back-turn ν = qed W ((‵ (flft (ν ∷ []) fullShare) ⊛ ‵ ftrue) ∷ []) ∵ split ! $ keep ! (1 ∷ 0 ∷ []) $ done !
-
-  gives-turn : (i : ℕ) (w : List ℕ) (ν : ℕ) (δ : GName) (r : Bool) (ws : Lasts quick-turn.ended (ν ∷ [], tt) (unit i, (i, (x δ w, tt))))
-      → ent 𝓤 (sep 𝓤 (sem 𝓤 H A (lasts quick-turn.ended (ν ∷ [], tt) (unit i, (i, (x δ w, tt))) ws)) (fact 𝓤 ((r ≡ plainOf (unit i)) × (ws .1 .1 .0 ≡ left i w))))
-      (ex 𝓤 (λ (l : List ℕ). guard 𝓤 ((r ≡ plainOf (unit i)) × (l ≡ left i w)) (sem 𝓤 H A (finally u8 δ l))))
-  gives-turn i w ν δ r ws =
-      qed W (‵ (lasts quick-turn.ended (ν ∷ [], tt) (unit i, (i, (x δ w, tt))) ws) ∷ raw (fact 𝓤 ((r ≡ plainOf (unit i)) × (ws .1 .1 .0 ≡ left i w))) ∷ []) ∵
-      move ! (1 ∷ []) $ heard ! ((r ≡ plainOf (unit i)) × (ws .1 .1 .0 ≡ left i w)) (λ e.
-      fsplit ! $ move ! (1 ∷ []) $ fsplit ! $ move ! (1 ∷ []) $ fsplit ! $ fsplit ! $ keep ! (0 ∷ []) $
-      show ! (λ (l : List ℕ). guard 𝓤 ((r ≡ plainOf (unit i)) × (l ≡ left i w)) (sem 𝓤 H A (finally u8 δ l))) (ws .1 .1 .0) $ check ! e $ done !)
+      nothing ! $ fjoins ! 1 refl $ number ! i fits $
+      beside ! U.the-row (LL.makes U.the-type U′.the-plain 𝓤 H A) (unit i) _ is-u $ joins ! 0 refl $ frame ! $ done !
 
   -- ---- the loop: its variant is a turn's number, the end, the room, and what is known of them
   record Known (i end : ℕ) (w : List ℕ) : Type 0 where
@@ -197,11 +190,8 @@ module _ {M : Type 1} (𝓤 : URA M) (H : Heap 𝓤) (A : Atoms 𝓤) (W : Given
   abbrev known : (g : Going) → Known (g .0) (end g) (got g)
   known g = g .1 .1 .1
 
-  abbrev Nearer : Going → Going → Type 0
-  Nearer h g = end h - h .0 < end g - g .0
-
-  Nearer-wf : WellFounded Nearer
-  Nearer-wf = InvImage·wf (λ (g : Going). end g - g .0) (Nat·lt-wfRel .wf)
+  abbrev μ : Going → ℕ
+  μ g = end g - g .0
 
   inside : (g : Going) → g .0 < end g → g .0 < length us
   inside g less = omega (arith, less, known g .most, n-most)
@@ -256,121 +246,152 @@ module _ {M : Type 1} (𝓤 : URA M) (H : Heap 𝓤) (A : Atoms 𝓤) (W : Given
   unfolding pick
   left-out g e = rw e
 
-  module _ (𝓣 : Tables 𝓤 H) (fm : FmC 𝓤 H (W .laws) (𝓣 .C)) (known-turn : Triple 𝓤 (𝓣 .C #quick-turn) (QuickTurn 𝓤 H A at-mem run)) (l₀ l₁ l₂ l₃ l₄ l₅ l₆ l₇ l₈ l₉ l₁₀ l₁₁ l₁₂ l₁₃ l₁₄ : ℕ) where
-    abbrev C : Calls 𝓤 H
-    C = 𝓣 .C
+  module _ (𝓣 : Tables 𝓤 H) (fm : FmC 𝓤 H (W .laws) (𝓣 .C)) (known-turn : Triple 𝓤 (𝓣 .C quick-turn.Symbol.name) QuickTurn)
+      (bs : Blocks (code.function .locals)) where
+    abbrev En : kit.Env 𝓤 H
+    En = envOf (code.function .locals) bs
 
-    abbrev Λ : Loops 𝓤 H
-    Λ = 𝓣 .Λ
+    abbrev At : Going → List (kit.Item 𝓤)
+    At g = ‵ (flft κ₀ q₀) ∷ ‵ Units ∷ ‵ (Work (got g)) ∷ ‵ (flft κ₁ q₁) ∷
+        laid En (empty ∷ full (mach p) ∷ full vs ∷ full (vint w64 i₀) ∷ full (vint w64 n) ∷ full vw ∷ full (vint w64 (end g)) ∷
+        full (vint w64 (g .0)) ∷ []) []
 
-    abbrev En : Env 𝓤 H
-    En = (word, l₀) ∷ (P′.mir, l₁) ∷ (list, l₂) ∷ (word, l₃) ∷ (word, l₄) ∷ (room-ty, l₅) ∷ (word, l₆) ∷ (word, l₇) ∷ (tyBool, l₈) ∷ (tyBool, l₉) ∷ (word, l₁₀) ∷ (tyPtr, l₁₁) ∷ (U′.mir, l₁₂) ∷ (lent, l₁₃) ∷ (sliceTy lent, l₁₄) ∷ []
-
-    abbrev At : Going → List (Item 𝓤)
-    At g = ‵ (flft κ₀ q₀) ∷ ‵ Units ∷ ‵ (Work (got g)) ∷ ‵ (flft κ₁ q₁)
-        ∷ ‵ (froom (sliceTy lent) l₁₄ 0) ∷ ‵ (fdies (sliceTy lent) l₁₄) ∷ ‵ (froom lent l₁₃ 0) ∷ ‵ (fdies lent l₁₃) ∷ ‵ (froom U′.mir l₁₂ 0) ∷ ‵ (fdies U′.mir l₁₂) ∷ ‵ (froom tyPtr l₁₁ 0) ∷ ‵ (fdies tyPtr l₁₁)
-        ∷ ‵ (froom word l₁₀ 0) ∷ ‵ (fdies word l₁₀) ∷ ‵ (froom tyBool l₉ 0) ∷ ‵ (fdies tyBool l₉) ∷ ‵ (froom tyBool l₈ 0) ∷ ‵ (fdies tyBool l₈)
-        ∷ ‵ (fat fullShare word l₇ 0 (vint w64 (g .0))) ∷ ‵ (fdies word l₇) ∷ ‵ (fat fullShare word l₆ 0 (vint w64 (end g))) ∷ ‵ (fdies word l₆) ∷ ‵ (fat fullShare room-ty l₅ 0 vw) ∷ ‵ (fdies room-ty l₅)
-        ∷ ‵ (fat fullShare word l₄ 0 (vint w64 n)) ∷ ‵ (fdies word l₄) ∷ ‵ (fat fullShare word l₃ 0 (vint w64 i₀)) ∷ ‵ (fdies word l₃) ∷ ‵ (fat fullShare list l₂ 0 vs) ∷ ‵ (fdies list l₂)
-        ∷ ‵ (fat fullShare P′.mir l₁ 0 (mach p)) ∷ ‵ (fdies P′.mir l₁) ∷ ‵ (froom word l₀ 0) ∷ ‵ (fdies word l₀) ∷ []
-
-    abbrev Turned : Going → Out → SProp 𝓤
-    Turned g = afterTurn 𝓤 H (Below 𝓤 H A Nearer At g) (afterBlock 𝓤 H (afterSeq 𝓤 H (Wp 𝓤 H C Λ En M1.t-4 (atReturn 𝓤 H En Post)) (atReturn 𝓤 H En Post)))
-
-    turns : (g : Going) → Sq W (At g) (runs C Λ En M1.turn-1 (anyQ (Turned g)))
+    turns : (g : Going) → Turns W 𝓣 En Post code.Mir.turn-1 code.Mir.t-4 μ At g
     unfolding afterTurn
     turns g =
-        assigns ! (bin ! (load ! (from ! (stop !)) (look ! 18 refl)) (load ! (from ! (stop !)) (look ! 20 refl)) tt) (from ! (stop !)) (init ! 16 refl (tt, tt)) $
-        tests ! (load ! (from ! (stop !)) (look ! 16 refl))
+        sets ! 16 (bin ! (var ! 18 refl) (var ! 20 refl) tt) refl (tt, tt) $
+        tests ! (var ! 16 refl)
         (λ test.
         let less : g .0 < end g = ltb→lt (g .0) (end g) test in
         -- the record is read
-        assigns ! (bin ! (load ! (from ! (stop !)) (look ! 18 refl)) (lit ! tt) (record { fits = place-fits g less })) (from ! (stop !)) (init ! 12 refl (tt, record { fits = place-fits g less })) $
-        assigns ! (bin ! (load ! (from ! (fld ! refl (stop !))) (look-in ! 28 (sub ! 0 refl (whole !)))) (load ! (from ! (stop !)) (look ! 12 refl)) tt) (from ! (stop !)) (init ! 10 refl (tt, tt)) $
-        rewrite ! 10 (λ (q : ℕ). ‵ (fat fullShare tyPtr l₁₁ 0 (vptr (s .ptr .0) q))) (sym (place-is 12 (s .ptr .1) (g .0))) refl $
-        move ! (1 ∷ []) $ use1 W (‵ Units ⊛ ‵ Units) (shr-slice-copy 𝓤 H A W (named 0) κ₀ U.the-row .twice s (vs ∷ [])) $ split ! $ fsplit ! $ let-go ! $ fsplit ! $ let-go ! $ move ! (0 ∷ 2 ∷ []) $
-        looks-slice ! tt U.the-row (Is U.the-row) (shows 𝓤 H A U.the-row) (LL.vals U.the-type U′.the-laws) (LL.tells U.the-type U′.the-laws) (LL.copy U.the-type U′.the-copy 𝓤 H A W) us (s .ptr .0) (s .ptr .1) (λ q.
-        elem-out ! U.the-row (Is U.the-row) (shows 𝓤 H A U.the-row) (LL.vals U.the-type U′.the-laws) (LL.tells U.the-type U′.the-laws) q us (g .0) noRecord (s .ptr .0) (s .ptr .1) (inside g less) (λ is-u.
-        assigns ! (of-opd ! (load ! (from ! (hop ! (look ! 14 refl) (stop !))) (look-raw ! 0 refl))) (from ! (stop !)) (init ! 12 refl (LL.lawful U.the-type U′.the-laws 𝓤 H A W .typed (unit (g .0)) _ is-u .0)) $
-        elem-back ! U.the-row q us (g .0) noRecord (U′.lowered (unit (g .0)) ∷ []) (s .ptr .0) (s .ptr .1) (inside g less) $ shuts-slice ! tt U.the-row q us (s .ptr .0) (s .ptr .1) $ move ! (1 ∷ []) $ let-go ! $
+        sets ! 12 (bin ! (var ! 18 refl) (lit ! tt) (record { fits = place-fits g less })) refl (in64 (place-fits g less)) $
+        sets ! 10 (bin ! (part ! 28 0 refl refl refl) (var ! 12 refl) tt) refl (tt, tt) $
+        recasts ! 10 (kit.vptr (s .ptr .0)) (sym (kit.place-is 12 (s .ptr .1) (g .0))) refl $
+        move ! (1 ∷ []) $ copies ! (named 0) κ₀ U.the-row s (vs ∷ []) $ fsplit ! $ let-go ! $ fsplit ! $ let-go ! $ move ! (0 ∷ 2 ∷ []) $
+        kit.looks-slice ! tt U.the-row (Is U.the-row) (shows 𝓤 H A U.the-row) (LL.vals U.the-type U′.the-laws) (LL.tells U.the-type U′.the-laws)
+        (LL.copy U.the-type U′.the-copy 𝓤 H A W) us (s .ptr .0) (s .ptr .1) (λ q.
+        kit.elem-out ! U.the-row (Is U.the-row) (shows 𝓤 H A U.the-row) (LL.vals U.the-type U′.the-laws) (LL.tells U.the-type U′.the-laws) q us (g .0)
+        noRecord (s .ptr .0) (s .ptr .1) (inside g less) (λ is-u.
+        sets ! 12 (of-opd ! (kit.load ! (kit.from ! (kit.hop ! (look ! 14 refl) (kit.stop !))) (kit.look-raw ! 0 refl))) refl
+        (LL.lawful U.the-type U′.the-laws 𝓤 H A W .typed (unit (g .0)) _ is-u .0) $
+        kit.elem-back ! U.the-row q us (g .0) noRecord (U′.lowered (unit (g .0)) ∷ []) (s .ptr .0) (s .ptr .1) (inside g less) $
+        kit.shuts-slice ! tt U.the-row q us (s .ptr .0) (s .ptr .1) $ move ! (1 ∷ []) $ let-go ! $
         -- [the token of the units; what they own; the room; its token; the locals]: the room is borrowed again
-        assigns ! (addr ! (from ! (fld ! refl (hop ! (look-in ! 22 (sub ! 0 refl (whole !))) (stop !))))) (from ! (stop !)) (init ! 6 refl (tt, tt)) $
-        assigns ! (agg ! (and-then ! (load ! (from ! (stop !)) (look ! 6 refl)) (and-then ! (load ! (from ! (fld ! refl (stop !))) (look-in ! 22 (sub ! 1 refl (whole !)))) (no-more !)))) (from ! (stop !)) (init ! 4 refl (tt, (tt, (record { fits = room .0 }, tt)))) $
+        sets ! 6 (behind ! 22 refl refl) refl (tt, tt) $
+        sets ! 4 (resliced ! 6 22 refl refl refl) refl (sliced (room .0)) $
         -- the call
         nothing ! $ move ! (0 ∷ 3 ∷ 4 ∷ []) $
-        calls-lent ! fm (QuickTurn 𝓤 H A at-mem run) known-turn u8 κ₁ q₁ (named 1) γ b o (length ys) (got g) room (known g .passed .same)
-        (to-turn (g .0) (got g)) (‵ ftrue) (‵ ftrue) _ (λ l. l ≡ left (g .0) (got g)) (λ l e. ap length e ∙ length-quick (plainOf (unit (g .0))) (unit (g .0)) (g .0) (got g) ∙ known g .passed .same)
-        (λ ν. sep 𝓤 (A .lft (ν ∷ []) fullShare) (emp 𝓤)) back-turn (asks-turn (g .0) (got g) (known g .fits) is-u) _
-        (λ ν δ u. gave-some 𝓤 H A W quick-turn.ended (quick-turn.clauses 𝓤 H A at-mem run) (to-turn (g .0) (got g) ν δ) (plainOf (unit (g .0))) (λ l. l ≡ left (g .0) (got g)) (λ l. finally u8 δ l) (gives-turn (g .0) (got g) ν δ) bool-vals bool-tells u)
-        (λ ν δ. and-then ! (load ! (from ! (stop !)) (look ! 8 refl)) (and-then ! (load ! (from ! (stop !)) (look ! 18 refl)) (and-then ! (load ! (from ! (stop !)) (look ! 4 refl)) (no-more !)))) (λ l is e.
+        calls-lent ! fm QuickTurn known-turn u8 κ₁ q₁ (named 1) γ b o (length ys) (got g) room (known g .passed .same)
+        (to-turn (g .0) (got g)) (‵ ftrue) (‵ ftrue) _ (λ l. l ≡ left (g .0) (got g)) (λ l e.
+        ap length e ∙ length-quick (plainOf (unit (g .0))) (unit (g .0)) (g .0) (got g) ∙ known g .passed .same)
+        (Alone W) (back-alone W) (λ ν δ. asks-turn (g .0) (got g) (known g .fits) is-u ν δ .prf) _
+        (λ ν δ u. gave-one 𝓤 H A W quick-turn.ended (quick-turn.clauses 𝓤 H A at-mem run) (to-turn (g .0) (got g) ν δ) (plainOf (unit (g .0)))
+        (λ l. l ≡ left (g .0) (got g)) (kit.finally u8 δ) (λ ws. ws .1 .1 .0) (λ r ws. id⊢ 𝓤 _)
+        (λ ws. past ! $ past ! $ front ! $ front ! $ done !) kit.bool-vals kit.bool-tells u)
+        (λ ν δ. arg ! 8 refl (arg ! 18 refl (arg ! 4 refl (kit.no-more !)))) (λ l is e.
         -- [nothing; the room; its token; the token of the units; what they own; the locals]
-        let-go ! $ rewrite ! 0 (λ (w : List ℕ). ‵ (Work w)) e refl $ land ! (from ! (stop !)) (init ! 14 refl (tt, tt)) $
-        branches ! (load ! (from ! (stop !)) (look ! 14 refl))
+        let-go ! $ rewrite ! 0 (λ (w : List ℕ). ‵ (Work w)) e refl $ lands-in ! 14 refl (tt, tt) $
+        kit.branches ! (var ! 14 refl)
         -- the record is let through
         (λ yes-b.
         rewrite ! 0 (λ (w : List ℕ). ‵ (Work w)) (put-in g (holds (plainOf (unit (g .0))) yes-b)) refl $
-        assigns-last ! (bin ! (load ! (from ! (stop !)) (look ! 18 refl)) (lit ! tt) (record { fits = next-fits g less })) (from ! (stop !)) (store ! 18 refl (tt, record { fits = next-fits g less })) $
-        rewrite ! 18 (λ (j : ℕ). ‵ (fat fullShare word l₇ 0 (vint w64 j))) (add-one (g .0)) refl $
-        forget ! 4 refl $ forget ! 6 refl $ forget ! 8 refl $ forget ! 10 refl $ forget ! 12 refl $ forget ! 14 refl $ forget ! 16 refl $ move ! (2 ∷ 3 ∷ 0 ∷ 1 ∷ []) $
-        again ! Nearer At g (further g less (holds (plainOf (unit (g .0))) yes-b)) (let h : end g - suc (g .0) < end g - g .0 = omega (arith, less) in h))
+        resets-last ! 18 (bin ! (var ! 18 refl) (lit ! tt) (record { fits = next-fits g less })) refl (in64 (next-fits g less)) $
+        recasts ! 18 (vint w64) (add-one (g .0)) refl $
+        clears ! 4 13 refl $ move ! (2 ∷ 3 ∷ 0 ∷ 1 ∷ []) $
+        rounds ! μ At g (further g less (holds (plainOf (unit (g .0))) yes-b)) (let h : end g - suc (g .0) < end g - g .0 = omega (arith, less) in h))
         -- it is not: the end is here
         (λ no-b.
         rewrite ! 0 (λ (w : List ℕ). ‵ (Work w)) (left-out g (fails (plainOf (unit (g .0))) no-b)) refl $
-        assigns-last ! (of-opd ! (load ! (from ! (stop !)) (look ! 18 refl))) (from ! (stop !)) (store ! 20 refl (tt, record { fits = known g .fits })) $
-        forget ! 4 refl $ forget ! 6 refl $ forget ! 8 refl $ forget ! 10 refl $ forget ! 12 refl $ forget ! 14 refl $ forget ! 16 refl $ move ! (2 ∷ 3 ∷ 0 ∷ 1 ∷ []) $
-        again ! Nearer At g (stopped g less (fails (plainOf (unit (g .0))) no-b)) (let h : g .0 - g .0 < end g - g .0 = omega (arith, less) in h))))))
+        resets-last ! 20 (of-opd ! (var ! 18 refl)) refl (in64 (known g .fits)) $
+        clears ! 4 13 refl $ move ! (2 ∷ 3 ∷ 0 ∷ 1 ∷ []) $
+        rounds ! μ At g (stopped g less (fails (plainOf (unit (g .0))) no-b)) (let h : g .0 - g .0 < end g - g .0 = omega (arith, less) in h))))))
         -- the loop is left
         (λ over.
         let at-end : g .0 ≡ fin = run-over us (end g - g .0) (g .0) (omega (arith, nltb→le (g .0) (end g) over)) ∙ known g .ends in
-        exec ! C Λ En M1.t-4 (atRet En Post) $
-        assigns ! (of-opd ! (load ! (from ! (stop !)) (look ! 18 refl))) (from ! (stop !)) (init ! 32 refl (tt, record { fits = known g .fits })) $
-        rewrite ! 32 (λ (j : ℕ). ‵ (fat fullShare word l₀ 0 (vint w64 j))) at-end refl $
-        returns ! (look ! 32 refl) $ forget ! 16 refl $ forget ! 18 refl $ forget ! 20 refl $ forget ! 22 refl $ forget ! 24 refl $ forget ! 26 refl $ forget ! 28 refl $ forget ! 30 refl $ forget ! 32 refl $
-        move ! (32 ∷ 33 ∷ 30 ∷ 31 ∷ 28 ∷ 29 ∷ 26 ∷ 27 ∷ 24 ∷ 25 ∷ 22 ∷ 23 ∷ 20 ∷ 21 ∷ 18 ∷ 19 ∷ 16 ∷ 17 ∷ 14 ∷ 15 ∷ 12 ∷ 13 ∷ 10 ∷ 11 ∷ 8 ∷ 9 ∷ 6 ∷ 7 ∷ 4 ∷ 5 ∷ []) $ frees-all ! En $
-        by ! (exits (got g) (subst (λ (j : ℕ). Passed p us i₀ j ys (got g)) at-end (known g .passed))))
+        kit.exec ! (𝓣 .C) (𝓣 .Λ) En code.Mir.t-4 (atRet En Post) $
+        sets ! 32 (of-opd ! (var ! 18 refl)) refl (in64 (known g .fits)) $
+        recasts ! 32 (vint w64) at-end refl $
+        kit.returns ! (look ! 32 refl) $ leaves ! 4 refl refl $
+        (exits (got g) (kit.subst (λ (j : ℕ). Passed p us i₀ j ys (got g)) at-end (known g .passed))))
 
     abbrev start-at : Going
-    start-at = (i₀, (until, (ys, record { most = until-most p i₀ n i₀-most; quick = until-quick p i₀ n; ends = refl; passed = passed-none p us i₀ ys; fits = i₀-fits })))
-
-    looped : Sq W (At start-at) (runs C Λ En M1.t-3 (atRet En Post))
-    looped = first ! $ blocks ! $ loops ! 𝓣 Nearer Nearer-wf At turns start-at
-
-  -- ---- the code up to the loop
-  module _ (𝓣 : Tables 𝓤 H) (fm : FmC 𝓤 H (W .laws) (𝓣 .C)) (known-until : Triple 𝓤 (𝓣 .C #quick-until) (QuickUntil 𝓤 H A at-mem run)) (known-turn : Triple 𝓤 (𝓣 .C #quick-turn) (QuickTurn 𝓤 H A at-mem run)) where
-    walk : ent 𝓤 (onEntry 𝓤 H A stow-quickly.signature (κ₀, (κ₁, tt)) (q₀, (q₁, tt)) a vals) (WpFn 𝓤 H (𝓣 .C) (𝓣 .Λ) code.function (mach p ∷ vs ∷ vint w64 i₀ ∷ vint w64 n ∷ vw ∷ []) Post)
-    walk =
-        qed W ((‵ (flft κ₀ q₀) ⊛ ‵ (flft κ₁ q₁) ⊛ ‵ ftrue) ∷ ‵ (owns (P.the-row ∷ ShrSlice (named 0) κ₀ U.the-row ∷ usize ∷ usize ∷ MutSlice (named 1) κ₁ u8 ∷ []) a vals) ∷ []) ∵
-        split ! $ move ! (1 ∷ []) $ split ! $ move ! (3 ∷ []) $ fsplit ! $ move ! (1 ∷ []) $ fsplit ! $ move ! (1 ∷ []) $ fsplit ! $ move ! (1 ∷ []) $ fsplit ! $ move ! (1 ∷ []) $ fsplit ! $ keep ! (8 ∷ 4 ∷ 0 ∷ 6 ∷ []) $
-        enter ! (𝓣 .C) (𝓣 .Λ) code.function (mach p ∷ vs ∷ vint w64 i₀ ∷ vint w64 n ∷ vw ∷ []) _ $
-        alloc1 ! (λ l₀. alloc1 ! (λ l₁. alloc1 ! (λ l₂. alloc1 ! (λ l₃. alloc1 ! (λ l₄. alloc1 ! (λ l₅. alloc1 ! (λ l₆. alloc1 ! (λ l₇. alloc1 ! (λ l₈. alloc1 ! (λ l₉. alloc1 ! (λ l₁₀. alloc1 ! (λ l₁₁. alloc1 ! (λ l₁₂. alloc1 ! (λ l₁₃. alloc1 ! (λ l₁₄. alloc0 ! $ params1 ! $
-        pass1 ! (init ! 26 refl (EL.lawful P.the-type P′.the-laws 𝓤 H A W tt .typed p _ is-p .0)) $ pass1 ! (init ! 24 refl (tt, (tt, (record { fits = s-room .0 }, tt)))) $ pass1 ! (init ! 22 refl (tt, record { fits = i₀-fits })) $
-        pass1 ! (init ! 20 refl (tt, record { fits = n-fits })) $ pass1 ! (init ! 18 refl (tt, (tt, (record { fits = room .0 }, tt)))) $ pass0 ! $
-        -- [the locals; the token of the units; what they own; the room; its token]
-        use0 W (raw (QuickUntil 𝓤 H A at-mem run .pre to-until)) asks-until $
-        calls-value ! fm quick-until.ended (quick-until.clauses 𝓤 H A at-mem run) known-until to-until until (λ r e. id⊢ 𝓤 _) (uint-vals w64) (uint-tells w64) (and-then ! (load ! (from ! (stop !)) (look ! 27 refl)) (and-then ! (load ! (from ! (stop !)) (look ! 23 refl)) (and-then ! (load ! (from ! (stop !)) (look ! 21 refl)) (no-more !)))) (λ is-end.
-        let-go ! $ land ! (from ! (stop !)) (init ! 16 refl (uint-lawful 𝓤 H A W w64 .typed until _ is-end .0)) $
-        assigns ! (of-opd ! (load ! (from ! (stop !)) (look ! 22 refl))) (from ! (stop !)) (init ! 14 refl (tt, record { fits = i₀-fits })) $ move ! (30 ∷ 31 ∷ 32 ∷ 33 ∷ []) $
-        looped 𝓣 fm known-turn l₀ l₁ l₂ l₃ l₄ l₅ l₆ l₇ l₈ l₉ l₁₀ l₁₁ l₁₂ l₁₃ l₁₄))))))))))))))))
-
-pub stow-quickly-spec : {M : Type 1} → stated.statement M
-unfolding code.routine tablesOf
-stow-quickly-spec 𝓤 H 𝓜 𝓖 𝓡 =
-    proved 𝓤 H 𝓜 𝓖 𝓡 code.env #stow-quickly code.function (code.unfolded 𝓤 H 𝓜 𝓡) stow-quickly.ended stayed (stow-quickly.clauses 𝓤 H (𝓖 .A) (𝓜 .mem) (𝓡 .run)) (
-      goes-none 𝓤 H (𝓖 .A) (givenOf 𝓤 H 𝓜 𝓖) 2 (λ _. P.the-row) yes (λ κs x f. refl),
+    start-at = (
+      i₀,
       (
-        goes-none-slice 𝓤 H (𝓖 .A) (givenOf 𝓤 H 𝓜 𝓖) 2 (0 ∷ []) tt (plain (λ _. U.the-row)) yes,
+        until,
         (
-          goes-none 𝓤 H (𝓖 .A) (givenOf 𝓤 H 𝓜 𝓖) 2 (λ _. usize) yes (λ κs x f. refl),
-          (goes-none 𝓤 H (𝓖 .A) (givenOf 𝓤 H 𝓜 𝓖) 2 (λ _. usize) yes (λ κs x f. refl), (goes-slice 𝓤 H (𝓖 .A) (givenOf 𝓤 H 𝓜 𝓖) 2 1 tt (plain (λ _. u8)), tt)),
+          ys,
+          record {
+            most = until-most p i₀ n i₀-most;
+            quick = until-quick p i₀ n;
+            ends = refl;
+            passed =
+                passed-none p us i₀ ys;
+            fits = i₀-fits;
+          },
         ),
       ),
     )
-    (walked 𝓤 H (𝓖 .A) stow-quickly.ended stayed (stow-quickly.clauses 𝓤 H (𝓖 .A) (𝓜 .mem) (𝓡 .run)) (WpFn 𝓤 H (𝓣of 𝓤 H 𝓜 𝓖 𝓡 code.env .C) (𝓣of 𝓤 H 𝓜 𝓖 𝓡 code.env .Λ) code.function)
-    (λ κs. (EL.vals P.the-type P′.the-laws, (slice-vals, (uint-vals w64, (uint-vals w64, (slice-vals, tt))))))
-    (λ κs. (EL.tells P.the-type P′.the-laws, (shr-slice-tells (named 0) (κs .0) U.the-row, (uint-tells w64, (uint-tells w64, (mut-slice-tells (named 1) (κs .1 .0) u8, tt))))))
-    (λ κs qs bounds a g are. needs 𝓤 _ _ (λ pre. walk 𝓤 H (𝓖 .A) (givenOf 𝓤 H 𝓜 𝓖) (𝓜 .mem) (𝓡 .run) (κs .0) (κs .1 .0) (qs .0) (qs .1 .0)
+
+    looped : Sq W (At start-at) (kit.runs (𝓣 .C) (𝓣 .Λ) En code.Mir.t-3 (atRet En Post))
+    looped = loop-by W 𝓣 En Post code.Mir.turn-1 code.Mir.t-4 μ At turns start-at
+
+  -- ---- the code up to the loop
+  module _ (𝓣 : Tables 𝓤 H) (fm : FmC 𝓤 H (W .laws) (𝓣 .C)) (known-until : Triple 𝓤 (𝓣 .C quick-until.Symbol.name) QuickUntil)
+      (known-turn : Triple 𝓤 (𝓣 .C quick-turn.Symbol.name) QuickTurn) where
+    walk : kit.ent 𝓤 (kit.onEntry 𝓤 H A stow-quickly.signature (κ₀, (κ₁, tt)) (q₀, (q₁, tt)) a vals)
+        (kit.WpFn 𝓤 H (𝓣 .C) (𝓣 .Λ) code.function (mach p ∷ vs ∷ vint w64 i₀ ∷ vint w64 n ∷ vw ∷ []) Post)
+    walk =
+        qed W ((‵ (flft κ₀ q₀) ⊛ ‵ (flft κ₁ q₁) ⊛ ‵ ftrue) ∷
+        ‵ (kit.owns (P.the-row ∷ kit.ShrSlice (named 0) κ₀ U.the-row ∷ usize ∷ usize ∷ MutSlice (named 1) κ₁ u8 ∷ []) a vals) ∷ []) ∵
+        split ! $ move ! (1 ∷ []) $ split ! $ move ! (3 ∷ []) $ fsplit ! $ move ! (1 ∷ []) $ fsplit ! $ move ! (1 ∷ []) $ fsplit ! $
+        move ! (1 ∷ []) $ fsplit ! $ move ! (1 ∷ []) $ fsplit ! $ kit.keep ! (8 ∷ 4 ∷ 0 ∷ 6 ∷ []) $
+        enters ! (𝓣 .C) (𝓣 .Λ) code.function (mach p ∷ vs ∷ vint w64 i₀ ∷ vint w64 n ∷ vw ∷ []) _ (λ bs.
+        (EL.lawful P.the-type P′.the-laws 𝓤 H A W tt .typed p _ is-p .0, (sliced (s-room .0), (in64 i₀-fits, (in64 n-fits, (sliced (room .0), tt))))))
+        (λ bs.
+        -- [the locals; the token of the units; what they own; the room; its token]
+        kit.use0 W (kit.raw (QuickUntil .pre to-until)) (asks-until .prf) $
+        calls-value ! fm quick-until.ended (quick-until.clauses 𝓤 H A at-mem run) known-until to-until until (λ r e.
+        id⊢ 𝓤 _) (uint-vals w64) (uint-tells w64) (arg ! 27 refl (arg ! 23 refl (arg ! 21 refl (kit.no-more !)))) (λ is-end.
+        let-go ! $ lands-in ! 16 refl (kit.uint-lawful 𝓤 H A W w64 .typed until _ is-end .0) $
+        sets ! 14 (of-opd ! (var ! 22 refl)) refl (in64 i₀-fits) $ move ! (30 ∷ 31 ∷ 32 ∷ 33 ∷ []) $
+        looped 𝓣 fm known-turn bs))
+
+pub stow-quickly-spec : {M : Type 1} → stow-quickly.Statement.statement M
+unfolding code.routine tablesOf
+stow-quickly-spec 𝓤 H 𝓜 𝓖 𝓡 =
+    let W = givenOf 𝓤 H 𝓜 𝓖 in
+    let T = 𝓣of 𝓤 H 𝓜 𝓖 𝓡 code.env in
+    let A = 𝓖 .A in
+    proved-by 𝓤 H 𝓜 𝓖 𝓡 code.env stow-quickly.Key.name code.function (code.unfolded 𝓤 H 𝓜 𝓡) stow-quickly.ended stayed
+    (stow-quickly.clauses 𝓤 H A (𝓜 .mem) (𝓡 .run)) (
+      goes-none 𝓤 H A W 2 (λ _. P.the-row) yes (λ κs x f. refl),
+      (
+        kit.goes-none-slice 𝓤 H A W 2 (0 ∷ []) tt (plain (λ _. U.the-row)) yes,
+        (
+          goes-none 𝓤 H A W 2 (λ _. usize) yes (λ κs x f. refl),
+          (
+            goes-none 𝓤 H A W 2 (λ _. usize) yes (λ κs x f.
+                refl),
+            (kit.goes-slice 𝓤 H A W 2 1 tt (plain (λ _. u8)), tt),
+          ),
+        ),
+      ),
+    )
+    (λ κs. (EL.vals P.the-type P′.the-laws, (kit.slice-vals, (uint-vals w64, (uint-vals w64, (kit.slice-vals, tt))))))
+    (λ κs. (
+      EL.tells P.the-type P′.the-laws,
+      (
+        kit.shr-slice-tells (named 0) (κs .0) U.the-row,
+        (uint-tells w64, (uint-tells w64, (kit.mut-slice-tells (named 1) (κs .1 .0) u8, tt))),
+      ),
+    ))
+    (λ κs qs bounds a g are. kit.needs 𝓤 _ _ (λ pre.
+    walk 𝓤 H A W (𝓜 .mem) (𝓡 .run) (κs .0) (κs .1 .0) (qs .0) (qs .1 .0)
     (a .0) (a .1 .0) (a .1 .1 .0) (a .1 .1 .1 .0) (a .1 .1 .1 .1 .0 .ptr .0) (a .1 .1 .1 .1 .0 .ptr .1) (a .1 .1 .1 .1 .0 .name) (a .1 .1 .1 .1 .0 .now)
     (are .0) (are .1 .0 .0 .1) (are .1 .1 .0 .1) (are .1 .1 .1 .0 .1) (are .1 .1 .1 .1 .0 .0 .1) (pre .0) (pre .1)
-    (𝓣of 𝓤 H 𝓜 𝓖 𝓡 code.env) (fmOf 𝓤 H (givenOf 𝓤 H 𝓜 𝓖 .laws) (𝓣of 𝓤 H 𝓜 𝓖 𝓡 code.env))
-    (cited 𝓤 H (QuickUntil 𝓤 H (𝓖 .A) (𝓜 .mem) (𝓡 .run)) 𝓜 𝓡 code.env #quick-until quick-until-def.routine code.calls-check-list·quick-until (quick-until-thm.met 𝓤 H 𝓜 𝓖 𝓡))
-    (cited 𝓤 H (QuickTurn 𝓤 H (𝓖 .A) (𝓜 .mem) (𝓡 .run)) 𝓜 𝓡 code.env #quick-turn quick-turn-def.routine code.calls-check-list·quick-turn (quick-turn-thm.met 𝓤 H 𝓜 𝓖 𝓡)))))
+    T (kit.fmOf 𝓤 H (W .laws) T)
+    (cited 𝓤 H _ 𝓜 𝓡 code.env quick-until.Symbol.name quick-until.Symbol.routine code.calls-check-list·quick-until
+    (quick-until.Met.met 𝓤 H 𝓜 𝓖 𝓡))
+    (cited 𝓤 H _ 𝓜 𝓡 code.env quick-turn.Symbol.name quick-turn.Symbol.routine code.calls-check-list·quick-turn
+    (quick-turn.Met.met 𝓤 H 𝓜 𝓖 𝓡))))

@@ -11,18 +11,6 @@ use borrow.Author.Needs.{needs}
 use Rattle.check_list.proofs.own.character.Statement.{statement}
 use Rattle.check_list.proofs.own.character.Tie as tie
 
-form-of-requires : tie.Need-form-of-requires
-form-of-requires c κs = search needs
-
-code-used-requires : tie.Need-code-used-requires
-code-used-requires c κs = search needs
-
-counts-as-text-requires : tie.Need-counts-as-text-requires
-counts-as-text-requires c κs = search needs
-
-step-requires : tie.Need-step-requires
-step-requires c κs = search needs
-
 returns : tie.Need-returns
 returns c =
     let args = c .before .before .before .before .before .before .args in
@@ -45,10 +33,10 @@ pub character-spec : {M : Type 1} → statement M
 character-spec =
     tie.close
     (tie.spec
-    form-of-requires
-    code-used-requires
-    counts-as-text-requires
-    step-requires
+    (search needs)
+    (search needs)
+    (search needs)
+    (search needs)
     returns
     returns-2
     returns-3)

@@ -6,12 +6,6 @@ use borrow.Author.Needs.{needs}
 use Rattle.check_list.proofs.own.code_used.Statement.{statement}
 use Rattle.check_list.proofs.own.code_used.Tie as tie
 
-graphic-requires : tie.Need-graphic-requires
-graphic-requires c κs = search needs
-
-graphic-requires-2 : tie.Need-graphic-requires-2
-graphic-requires-2 c κs = search needs
-
 returns : tie.Need-returns
 unfolding codeUsed
 returns c = simp (eq-eqb _ _ (c .before .before .before .if1 .taken), sym (c .before .before .graphic .ensures) ∙ c .before .if2 .taken) (c .graphic2 .ensures)
@@ -28,9 +22,6 @@ returns-4 : tie.Need-returns-4
 unfolding codeUsed
 returns-4 c = simp (ne-eqb _ _ (c .before .before .if1 .left), eq-eqb _ _ (c .before .if3 .taken), le-leb _ _ (c .if4 .left))
 
-graphic-requires-3 : tie.Need-graphic-requires-3
-graphic-requires-3 c κs = search needs
-
 returns-5 : tie.Need-returns-5
 unfolding codeUsed
 returns-5 c = simp (ne-eqb _ _ (c .before .before .if1 .left), ne-eqb _ _ (c .before .if3 .left)) (c .graphic3 .ensures)
@@ -39,11 +30,11 @@ pub code-used-spec : {M : Type 1} → statement M
 code-used-spec =
     tie.close
     (tie.spec
-    graphic-requires
-    graphic-requires-2
+    (search needs)
+    (search needs)
     returns
     returns-2
     returns-3
     returns-4
-    graphic-requires-3
+    (search needs)
     returns-5)

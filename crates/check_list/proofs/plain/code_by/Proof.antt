@@ -4,13 +4,6 @@ use Rattle.check_list.specs.Plain.{codeBy}
 use Rattle.check_list.proofs.plain.code_by.Statement.{statement}
 use Rattle.check_list.proofs.plain.code_by.Tie as tie
 
-returns : tie.Need-returns
-unfolding codeBy
-returns c = search ladder depth 9
-
-returns-2 : tie.Need-returns-2
-unfolding codeBy
-returns-2 c = search ladder depth 9
-
 pub code-by-spec : {M : Type 1} → statement M
-code-by-spec = tie.close (tie.spec returns returns-2)
+unfolding codeBy
+code-by-spec = tie.close (tie.spec (λ c. search ladder depth 9) (λ c. search ladder depth 9))

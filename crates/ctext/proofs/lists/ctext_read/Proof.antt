@@ -1,67 +1,71 @@
 -- `ctext::lists::ctext_read` meets its contract, which is that of `read::read`: its code is followed by hand, for the list lent is of
 -- structs. It passes its two slices on, and what `read` leaves is what it leaves.
 -- Assumes nothing.
-use Rattle.walks.proofs.Names.{_≡_, refl, ℕ, _<_, _^_, [], _∷_, List, length, URA, named, Val, SProp, ent, Lft, Share, Memory, Routine, Heap, WpFn, Tables, Atoms, Fun, givenOf, Given, raw, _$_, _∵_, !, qed, move, done, look, init, forget, stop, hop, fld, from, load, addr, and-then, no-more, assigns, land, returns, enter, alloc1, alloc0, params1, pass1, pass0, agg, whole, sub, look-in, FmC, fmOf, u8, RefT, sliceVal, slice-vals, shr-slice-tells, mut-slice-tells, tripleOf, Contract, Triple, cited}
+use Rattle.walks.proofs.Names.{_≡_, refl, _<_, _^_, [], _∷_, List, length, URA, named, Val, SProp, Memory, Routine, Heap, WpFn, Atoms, Fun, _$_, _∵_}
+use Rattle.walks.proofs.Names.{ !, qed, u8, RefT, Triple}
+use Rattle.walks.proofs.Names as kit
 use contract.Running.{tablesOf}
 use denote.Struct.Laws as LL
 use Rattle.base.specs.declared.Unit.{Unit as UnitRecord}
 use Rattle.base.proofs.Unit as U
 use Rattle.base.proofs.Answer as N
 use Rattle.base.proofs.Answer.Laws as N′
-use Rattle.walks.proofs.Body.{𝓣of, frees-all}
+use Rattle.walks.proofs.Body.{𝓣of}
+use Rattle.walks.proofs.Frame.{enters, leaves}
+use Rattle.walks.proofs.Steps.{arg, sets, lands-in, behind, resliced, sliced}
 use Rattle.walks.proofs.Passing.{calls-whole, written-out, passed-on}
 use Rattle.read.proofs.read as read
-use Rattle.read.proofs.read.Symbol as read-def
-use Rattle.read.proofs.read.Symbol.{name as #read}
-use Rattle.read.proofs.read.Met as read-thm
-use Rattle.ctext.proofs.lists.ctext_read.Key.{name as #ctext-read}
 use Rattle.ctext.proofs.lists.ctext_read as ctext-read
-use Rattle.ctext.proofs.lists.ctext_read.Statement as stated
 use Rattle.ctext.proofs.lists.ctext_read.Code as code
 
 -- the contract of `read`
-abbrev Reads : {M : Type 1} (𝓤 : URA M) (H : Heap 𝓤) (A : Atoms 𝓤) (mem : Memory → SProp 𝓤) (run : Routine → Fun 𝓤) → Contract 𝓤
-Reads 𝓤 H A mem run = tripleOf 𝓤 H A read.signature (read.spec 𝓤 H A mem run)
+abbrev Reads : {M : Type 1} (𝓤 : URA M) (H : Heap 𝓤) (A : Atoms 𝓤) (mem : Memory → SProp 𝓤) (run : Routine → Fun 𝓤) → kit.Contract 𝓤
+Reads 𝓤 H A mem run = kit.tripleOf 𝓤 H A read.signature (read.spec 𝓤 H A mem run)
 
 -- the two contracts are one
-same : {M : Type 1} (𝓤 : URA M) (H : Heap 𝓤) (A : Atoms 𝓤) (mem : Memory → SProp 𝓤) (run : Routine → Fun 𝓤) → read.spec 𝓤 H A mem run ≡ ctext-read.spec 𝓤 H A mem run
+same : {M : Type 1} (𝓤 : URA M) (H : Heap 𝓤) (A : Atoms 𝓤) (mem : Memory → SProp 𝓤) (run : Routine → Fun 𝓤)
+    → read.spec 𝓤 H A mem run ≡ ctext-read.spec 𝓤 H A mem run
 same 𝓤 H A mem run = refl
 
-module _ {M : Type 1} (𝓤 : URA M) (H : Heap 𝓤) (A : Atoms 𝓤) (W : Given 𝓤 H A) (mem : Memory → SProp 𝓤) (run : Routine → Fun 𝓤) (𝓣 : Tables 𝓤 H) (fm : FmC 𝓤 H (W .laws) (𝓣 .C)) (known : Triple 𝓤 (𝓣 .C #read) (Reads 𝓤 H A mem run)) where
+module _ {M : Type 1} (𝓤 : URA M) (H : Heap 𝓤) (A : Atoms 𝓤) (W : kit.Given 𝓤 H A) (mem : Memory → SProp 𝓤) (run : Routine → Fun 𝓤)
+    (𝓣 : kit.Tables 𝓤 H) (fm : kit.FmC 𝓤 H (W .laws) (𝓣 .C)) (known : Triple 𝓤 (𝓣 .C read.Symbol.name) (Reads 𝓤 H A mem run)) where
   -- at the string s and the list lent, us
-  module _ (κ κ′ : Lft) (q q′ : Share) (s : RefT (List ℕ)) (us : RefT (List UnitRecord)) (s-fits : length (s .now) < 2 ^ 64) (us-fits : length (us .now) < 2 ^ 64) where
+  module _ (κ κ′ : kit.Lft) (q q′ : kit.Share) (s : RefT (List kit.ℕ)) (us : RefT (List UnitRecord)) (s-fits : length (s .now) < 2 ^ 64)
+      (us-fits : length (us .now) < 2 ^ 64) where
     abbrev vs : Val
-    vs = sliceVal (s .ptr) (length (s .now))
+    vs = kit.sliceVal (s .ptr) (length (s .now))
 
     abbrev vo : Val
-    vo = sliceVal (us .ptr) (length (us .now))
+    vo = kit.sliceVal (us .ptr) (length (us .now))
 
     abbrev to : Reads 𝓤 H A mem run .Ghost
     to = (((κ, (κ′, tt)), (q, (q′, tt)), tt, (s, (us, tt)), (vs ∷ [], (vo ∷ [], tt))), tt)
 
-    walk : ent 𝓤 (Reads 𝓤 H A mem run .pre to) (WpFn 𝓤 H (𝓣 .C) (𝓣 .Λ) code.function (vs ∷ vo ∷ []) (Reads 𝓤 H A mem run .post to))
+    walk : kit.ent 𝓤 (Reads 𝓤 H A mem run .pre to) (WpFn 𝓤 H (𝓣 .C) (𝓣 .Λ) code.function (vs ∷ vo ∷ []) (Reads 𝓤 H A mem run .post to))
     walk =
-        qed W (raw (Reads 𝓤 H A mem run .pre to) ∷ []) ∵ enter ! (𝓣 .C) (𝓣 .Λ) code.function (vs ∷ vo ∷ []) _ $
-        alloc1 ! (λ l₀. alloc1 ! (λ l₁. alloc1 ! (λ l₂. alloc1 ! (λ l₃. alloc1 ! (λ l₄. alloc0 ! $ params1 ! $
-        pass1 ! (init ! 6 refl (tt, (tt, (record { fits = s-fits }, tt)))) $ pass1 ! (init ! 4 refl (tt, (tt, (record { fits = us-fits }, tt)))) $ pass0 ! $
-        assigns ! (addr ! (from ! (fld ! refl (hop ! (look-in ! 4 (sub ! 0 refl (whole !))) (stop !))))) (from ! (stop !)) (init ! 2 refl (tt, tt)) $
-        assigns ! (agg ! (and-then ! (load ! (from ! (stop !)) (look ! 2 refl)) (and-then ! (load ! (from ! (fld ! refl (stop !))) (look-in ! 4 (sub ! 1 refl (whole !)))) (no-more !)))) (from ! (stop !)) (init ! 0 refl (tt, (tt, (record { fits = us-fits }, tt)))) $
+        qed W (kit.raw (Reads 𝓤 H A mem run .pre to) ∷ []) ∵
+        enters ! (𝓣 .C) (𝓣 .Λ) code.function (vs ∷ vo ∷ []) _ (λ bs. (sliced s-fits, (sliced us-fits, tt))) (λ bs.
+        sets ! 2 (behind ! 4 refl refl) refl (tt, tt) $
+        sets ! 0 (resliced ! 2 4 refl refl refl) refl (sliced us-fits) $
         -- [the locals; what `read` asks]
-        move ! (10 ∷ []) $ calls-whole ! fm read.signature (read.spec 𝓤 H A mem run) known to (LL.lawful N.the-type N′.the-laws 𝓤 H A W)
-        (and-then ! (load ! (from ! (stop !)) (look ! 7 refl)) (and-then ! (load ! (from ! (stop !)) (look ! 1 refl)) (no-more !))) (λ v typed.
-        land ! (from ! (stop !)) (init ! 9 refl (typed .0)) $
-        returns ! (look ! 9 refl) $ forget ! 1 refl $ forget ! 3 refl $ forget ! 5 refl $ forget ! 7 refl $ forget ! 9 refl $
-        move ! (9 ∷ 10 ∷ 7 ∷ 8 ∷ 5 ∷ 6 ∷ 3 ∷ 4 ∷ 1 ∷ 2 ∷ []) $ frees-all ! _ $ done !))))))
+        kit.move ! (10 ∷ []) $ calls-whole ! fm read.signature (read.spec 𝓤 H A mem run) known to (LL.lawful N.the-type N′.the-laws 𝓤 H A W)
+        (arg ! 7 refl (arg ! 1 refl (kit.no-more !))) (λ v typed.
+        lands-in ! 9 refl (typed .0) $
+        kit.returns ! (kit.look ! 9 refl) $ leaves ! 1 refl refl $ kit.done !))
 
   reads : Triple 𝓤 (WpFn 𝓤 H (𝓣 .C) (𝓣 .Λ) code.function) (Reads 𝓤 H A mem run)
   reads =
-      written-out 𝓤 H A read.signature (read.spec 𝓤 H A mem run) (WpFn 𝓤 H (𝓣 .C) (𝓣 .Λ) code.function) (λ κs. (slice-vals, (slice-vals, tt)))
-      (λ κs. (shr-slice-tells (named 0) (κs .0) u8, (mut-slice-tells (named 1) (κs .1 .0) U.the-row, tt)))
+      written-out 𝓤 H A read.signature (read.spec 𝓤 H A mem run) (WpFn 𝓤 H (𝓣 .C) (𝓣 .Λ) code.function)
+      (λ κs. (kit.slice-vals, (kit.slice-vals, tt)))
+      (λ κs. (kit.shr-slice-tells (named 0) (κs .0) u8, (kit.mut-slice-tells (named 1) (κs .1 .0) U.the-row, tt)))
       (λ y are. walk (y .0 .0 .0) (y .0 .0 .1 .0) (y .0 .1 .0) (y .0 .1 .1 .0) (y .0 .3 .0) (y .0 .3 .1 .0) (are .0 .0 .1 .0) (are .1 .0 .0 .1 .0))
 
-pub ctext-read-spec : {M : Type 1} → stated.statement M
+pub ctext-read-spec : {M : Type 1} → ctext-read.Statement.statement M
 unfolding code.routine tablesOf
 ctext-read-spec 𝓤 H 𝓜 𝓖 𝓡 =
-    passed-on 𝓤 H 𝓜 𝓖 𝓡 code.env #ctext-read code.function (code.unfolded 𝓤 H 𝓜 𝓡) read.signature (read.spec 𝓤 H (𝓖 .A) (𝓜 .mem) (𝓡 .run))
-    (reads 𝓤 H (𝓖 .A) (givenOf 𝓤 H 𝓜 𝓖) (𝓜 .mem) (𝓡 .run) (𝓣of 𝓤 H 𝓜 𝓖 𝓡 code.env) (fmOf 𝓤 H (givenOf 𝓤 H 𝓜 𝓖 .laws) (𝓣of 𝓤 H 𝓜 𝓖 𝓡 code.env))
-    (cited 𝓤 H (Reads 𝓤 H (𝓖 .A) (𝓜 .mem) (𝓡 .run)) 𝓜 𝓡 code.env #read read-def.routine code.calls-read·read (read-thm.met 𝓤 H 𝓜 𝓖 𝓡)))
+    passed-on 𝓤 H 𝓜 𝓖 𝓡 code.env ctext-read.Key.name code.function (code.unfolded 𝓤 H 𝓜 𝓡) read.signature
+    (read.spec 𝓤 H (𝓖 .A) (𝓜 .mem) (𝓡 .run))
+    (reads 𝓤 H (𝓖 .A) (kit.givenOf 𝓤 H 𝓜 𝓖) (𝓜 .mem) (𝓡 .run) (𝓣of 𝓤 H 𝓜 𝓖 𝓡 code.env)
+    (kit.fmOf 𝓤 H (kit.givenOf 𝓤 H 𝓜 𝓖 .laws) (𝓣of 𝓤 H 𝓜 𝓖 𝓡 code.env))
+    (kit.cited 𝓤 H (Reads 𝓤 H (𝓖 .A) (𝓜 .mem) (𝓡 .run)) 𝓜 𝓡 code.env read.Symbol.name read.Symbol.routine code.calls-read·read
+    (read.Met.met 𝓤 H 𝓜 𝓖 𝓡)))

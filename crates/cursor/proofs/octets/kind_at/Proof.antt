@@ -5,16 +5,6 @@ use Rattle.cursor.specs.Cursor.{kindAt}
 use Rattle.cursor.proofs.octets.kind_at.Statement.{statement}
 use Rattle.cursor.proofs.octets.kind_at.Tie as tie
 
-returns : tie.Need-returns
-unfolding kindAt
-returns c = search ladder depth 9
-
-add-result : tie.Need-add-result
-add-result c = search needs
-
-returns-2 : tie.Need-returns-2
-unfolding kindAt
-returns-2 c = search ladder depth 9
-
 pub kind-at-spec : {M : Type 1} → statement M
-kind-at-spec = tie.close (tie.spec returns add-result returns-2)
+unfolding kindAt
+kind-at-spec = tie.close (tie.spec (λ c. search ladder depth 9) (search needs) (λ c. search ladder depth 9))

@@ -7,30 +7,6 @@ use Rattle.program.proofs.Texts.{line-length, stored-line, stored-not}
 use Rattle.program.proofs.line.refused.Statement.{statement}
 use Rattle.program.proofs.line.refused.Tie as tie
 
-slice-aggregate-make : tie.Need-slice-aggregate-make
-slice-aggregate-make c = search needs
-
-make-requires : tie.Need-make-requires
-make-requires c κs = search needs
-
-sub-n : tie.Need-sub-n
-sub-n c = search needs
-
-sub-put : tie.Need-sub-put
-sub-put c = search needs
-
-part-put-start : tie.Need-part-put-start
-part-put-start c = search needs
-
-part-put-end : tie.Need-part-put-end
-part-put-end c = search needs
-
-put-requires : tie.Need-put-requires
-put-requires c κs = search needs
-
-same-length : tie.Need-same-length
-same-length c = search needs
-
 returns : tie.Need-returns
 returns c =
     let put = c .before .before .put in
@@ -53,13 +29,13 @@ pub refused-spec : {M : Type 1} → statement M
 refused-spec =
     tie.close
     (tie.spec
-    slice-aggregate-make
-    make-requires
-    sub-n
-    sub-put
-    part-put-start
-    part-put-end
-    put-requires
-    same-length
+    (search needs)
+    (search needs)
+    (search needs)
+    (search needs)
+    (search needs)
+    (search needs)
+    (search needs)
+    (search needs)
     returns
     returns-2)

@@ -6,9 +6,6 @@ use Rattle.read.specs.Spans.{anyOf}
 use Rattle.read.proofs.spans.any_unit.Statement.{statement}
 use Rattle.read.proofs.spans.any_unit.Tie as tie
 
-advance-requires : tie.Need-advance-requires
-advance-requires c κs = search needs
-
 returns : tie.Need-returns
 returns c = rw (c .before .before .before .advance .ensures)
 
@@ -16,5 +13,5 @@ pub any-unit-spec : {M : Type 1} → statement M
 any-unit-spec =
     tie.close
     (tie.spec
-    advance-requires
+    (search needs)
     returns)

@@ -5,13 +5,6 @@ use Rattle.read.specs.Spans.{leftFirst}
 use Rattle.read.proofs.spans.left_first.Statement.{statement}
 use Rattle.read.proofs.spans.left_first.Tie as tie
 
-returns : tie.Need-returns
-unfolding leftFirst
-returns c = search ladder depth 9
-
-returns-2 : tie.Need-returns-2
-unfolding leftFirst
-returns-2 c = search ladder depth 9
-
 pub left-first-spec : {M : Type 1} → statement M
-left-first-spec = tie.close (tie.spec returns returns-2)
+unfolding leftFirst
+left-first-spec = tie.close (tie.spec (λ c. search ladder depth 9) (λ c. search ladder depth 9))

@@ -8,23 +8,12 @@ use Rattle.read.proofs.spans.moved.Tie as tie
 add-place : tie.Need-add-place
 add-place c = let h = c .before .before .before .before .pre .0 (c .before .if1 .taken) in omega (arith, h)
 
-returns : tie.Need-returns
-unfolding movedOf
-returns c = search ladder depth 9
-
 mul-place : tie.Need-mul-place
 mul-place c = let h = c .before .before .before .before .before .pre .1 (c .if2 .taken) in record { fits = omega (arith, h) }
 
 add-place-2 : tie.Need-add-place-2
 add-place-2 c = let h = c .before .before .before .before .before .before .pre .1 (c .before .if2 .taken) in omega (arith, h)
 
-returns-2 : tie.Need-returns-2
-unfolding movedOf
-returns-2 c = search ladder depth 9
-
-returns-3 : tie.Need-returns-3
-unfolding movedOf
-returns-3 c = search ladder depth 9
-
 pub moved-spec : {M : Type 1} → statement M
-moved-spec = tie.close (tie.spec add-place returns mul-place add-place-2 returns-2 returns-3)
+unfolding movedOf
+moved-spec = tie.close (tie.spec add-place (λ c. search ladder depth 9) mul-place add-place-2 (λ c. search ladder depth 9) (λ c. search ladder depth 9))

@@ -17,10 +17,6 @@ one-requires c κs =
     let h = one-within (c .before .before .before .before .before .before .pre) (c .before .if1 .taken) in
     omega (arith, h)
 
-returns : tie.Need-returns
-unfolding nthOf
-returns c = search ladder depth 9
-
 mul-two : tie.Need-mul-two
 mul-two c =
     let h = two-within (c .before .before .before .before .before .before .before .pre) (omega (arith, c .if2 .taken)) in
@@ -35,10 +31,6 @@ two-requires : tie.Need-two-requires
 two-requires c κs =
     let h = two-within (c .before .before .before .before .before .before .before .before .pre) (omega (arith, c .before .if2 .taken)) in
     omega (arith, h)
-
-returns-2 : tie.Need-returns-2
-unfolding nthOf
-returns-2 c = search ladder depth 9
 
 mul-two-2 : tie.Need-mul-two-2
 mul-two-2 c =
@@ -55,27 +47,20 @@ two-requires-2 c κs =
     let h = two-within (c .before .before .before .before .before .before .before .before .before .before .pre) (omega (arith, c .before .if3 .taken)) in
     omega (arith, h)
 
-returns-3 : tie.Need-returns-3
-unfolding nthOf
-returns-3 c = search ladder depth 9
-
-returns-4 : tie.Need-returns-4
-unfolding nthOf
-returns-4 c = search ladder depth 9
-
 pub nth-spec : {M : Type 1} → statement M
+unfolding nthOf
 nth-spec =
     tie.close
     (tie.spec
     add-one
     one-requires
-    returns
+    (λ c. search ladder depth 9)
     mul-two
     add-two
     two-requires
-    returns-2
+    (λ c. search ladder depth 9)
     mul-two-2
     add-two-2
     two-requires-2
-    returns-3
-    returns-4)
+    (λ c. search ladder depth 9)
+    (λ c. search ladder depth 9))

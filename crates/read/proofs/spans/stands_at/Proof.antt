@@ -17,10 +17,6 @@ single-at-requires c κs =
     let h = one-within (c .before .before .before .before .before .before .pre) (c .before .if1 .taken) in
     omega (arith, h)
 
-returns : tie.Need-returns
-unfolding stands
-returns c = search ladder depth 9
-
 mul-left-at : tie.Need-mul-left-at
 mul-left-at c =
     let h = two-within (c .before .before .before .before .before .before .before .pre) (omega (arith, c .if2 .taken)) in
@@ -35,10 +31,6 @@ left-at-requires : tie.Need-left-at-requires
 left-at-requires c κs =
     let h = two-within (c .before .before .before .before .before .before .before .before .pre) (omega (arith, c .before .if2 .taken)) in
     omega (arith, h)
-
-returns-2 : tie.Need-returns-2
-unfolding stands
-returns-2 c = search ladder depth 9
 
 mul-right-at : tie.Need-mul-right-at
 mul-right-at c =
@@ -55,27 +47,20 @@ right-at-requires c κs =
     let h = two-within (c .before .before .before .before .before .before .before .before .before .before .pre) (omega (arith, c .before .if3 .taken)) in
     omega (arith, h)
 
-returns-3 : tie.Need-returns-3
-unfolding stands
-returns-3 c = search ladder depth 9
-
-returns-4 : tie.Need-returns-4
-unfolding stands
-returns-4 c = search ladder depth 9
-
 pub stands-at-spec : {M : Type 1} → statement M
+unfolding stands
 stands-at-spec =
     tie.close
     (tie.spec
     add-single-at
     single-at-requires
-    returns
+    (λ c. search ladder depth 9)
     mul-left-at
     add-left-at
     left-at-requires
-    returns-2
+    (λ c. search ladder depth 9)
     mul-right-at
     add-right-at
     right-at-requires
-    returns-3
-    returns-4)
+    (λ c. search ladder depth 9)
+    (λ c. search ladder depth 9))

@@ -1,38 +1,23 @@
 -- `stepping::checked_from` meets its contract, by what it calls.
 use borrow.Author.Needs.{needs}
-use Rattle.runs.proofs.Steps.{on-known, on-good, on-bad}
+use Rattle.runs.proofs.Steps.{on-good, on-bad}
 use Rattle.runs.proofs.stepping.checked_from.Statement.{statement}
 use Rattle.runs.proofs.stepping.checked_from.Tie as tie
+
+known-requires : tie.Need-known-requires
+known-requires c κs = search needs
 
 run-from-requires : tie.Need-run-from-requires
 run-from-requires c κs = search needs
 
 returns : tie.Need-returns
-returns c = search on-known
-
-answer-requires : tie.Need-answer-requires
-answer-requires c κs = search needs
-
-run-from-requires-2 : tie.Need-run-from-requires-2
-run-from-requires-2 c κs = search needs
-
-returns-2 : tie.Need-returns-2
-returns-2 c = search on-good
+returns c = search on-good
 
 stays-requires : tie.Need-stays-requires
 stays-requires c κs = search needs
 
-returns-3 : tie.Need-returns-3
-returns-3 c = search on-bad
+returns-2 : tie.Need-returns-2
+returns-2 c = search on-bad
 
 pub checked-from-spec : {M : Type 1} → statement M
-checked-from-spec =
-    tie.close
-    (tie.spec
-    run-from-requires
-    returns
-    answer-requires
-    run-from-requires-2
-    returns-2
-    stays-requires
-    returns-3)
+checked-from-spec = tie.close (tie.spec known-requires run-from-requires returns stays-requires returns-2)

@@ -1,4 +1,5 @@
 -- `stepping::next_run` meets its contract, test by test.
+use mathlib.Core.Path.{sym, _∙_}
 use Rattle.base.proofs.Ladder.{ladder}
 use Rattle.runs.specs.Steps.{nextRunOf}
 use borrow.Author.Needs.{needs}
@@ -19,7 +20,7 @@ may-stand-requires : tie.Need-may-stand-requires
 may-stand-requires c κs = search needs
 
 checked-from-requires : tie.Need-checked-from-requires
-checked-from-requires c κs = search needs
+checked-from-requires c κs = sym (c .before .may-stand .ensures) ∙ c .if2 .taken
 
 returns-2 : tie.Need-returns-2
 unfolding nextRunOf

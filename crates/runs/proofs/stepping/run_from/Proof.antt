@@ -1,71 +1,136 @@
 -- `stepping::run_from` meets its contract: at each turn the first run of what is left is that from the place on.
 use Prim.Native.Nat.{_-_}
 use native.Mathlib.Omega.{arith}
+use mathlib.Core.Path.{sym, _∙_}
 use borrow.Author.Needs.{needs}
+use borrow.Author.Tests.{le-ltb}
 use lib.ListN.{length}
-use Rattle.runs.proofs.Steps.{Head, head-first, turn-shown, turn-stop, turn-next}
+use Rattle.runs.proofs.Steps.{Plain, plain-first, side-low, since-text, run-begun}
+use Rattle.runs.proofs.Steps.{turn-designation, turn-quick, turn-begun, turn-past, turn-none, turn-over}
 use Rattle.runs.proofs.stepping.run_from.Statement.{statement}
 use Rattle.runs.proofs.stepping.run_from.Tie as tie
 
 abbrev Inv-loop : tie.InvT-loop
-Inv-loop s place at₀ st₀ last₀ at st last = Head s place st₀ at st last
+Inv-loop s place at₀ st₀ at st = Plain s place st₀ at st
 
 abbrev μ-loop : tie.MeasureT-loop
-μ-loop s place at₀ st₀ last₀ at st last = length s - at
-
-no-piece-requires : tie.Need-no-piece-requires Inv-loop μ-loop
-no-piece-requires c κs = search needs
+μ-loop s place at₀ st₀ at st = length s - at
 
 loop-holds : tie.Need-loop-holds Inv-loop μ-loop
-loop-holds c = rw (c .no-piece .ensures) (head-first _ _ _)
+loop-holds c = plain-first _ _ _ (c .before .pre)
 
-piece-at-requires : tie.Need-piece-at-requires Inv-loop μ-loop
-piece-at-requires c κs = search needs
+shared-slice-read-b : tie.Need-shared-slice-read-b Inv-loop μ-loop
+shared-slice-read-b c = search needs
 
-ending-requires : tie.Need-ending-requires Inv-loop μ-loop
-ending-requires c κs = search needs
+designation-at-requires : tie.Need-designation-at-requires Inv-loop μ-loop
+designation-at-requires c κs = search needs
+
+add-at : tie.Need-add-at Inv-loop μ-loop
+add-at c =
+    let turn = c .before .before .before .before .before in
+    let next = turn-designation _ _ _ _ _ (turn .before .loop .inv) _ (c .before .before .designation-at .ensures) (c .before .if2 .taken) in
+    omega (arith, next .plain .within)
+
+designated-requires : tie.Need-designated-requires Inv-loop μ-loop
+designated-requires c κs = search needs
+
+loop-less : tie.Need-loop-less Inv-loop μ-loop
+loop-less c =
+    let turn = c .before .before .before .before .before .before in
+    let next = turn-designation _ _ _ _ _ (turn .before .loop .inv) _ (c .before .before .before .designation-at .ensures) (c .before .before .if2 .taken) in
+    omega (arith, next .some, next .plain .within)
+
+loop-again : tie.Need-loop-again Inv-loop μ-loop
+loop-again c =
+    let turn = c .before .before .before .before .before .before in
+    rw (c .designated .ensures)
+    (turn-designation _ _ _ _ _ (turn .before .loop .inv) _ (c .before .before .before .designation-at .ensures) (c .before .before .if2 .taken) .plain)
+
+settled-requires : tie.Need-settled-requires Inv-loop μ-loop
+settled-requires c κs = search needs
+
+side-kind-requires : tie.Need-side-kind-requires Inv-loop μ-loop
+side-kind-requires c κs = search needs
+
+text-end-requires : tie.Need-text-end-requires Inv-loop μ-loop
+text-end-requires c κs = omega (arith, c .before .before .before .before .before .before .loop .inv .within)
+
+run-of-requires : tie.Need-run-of-requires Inv-loop μ-loop
+run-of-requires c κs = search needs
 
 shown-requires : tie.Need-shown-requires Inv-loop μ-loop
-shown-requires c κs = omega arith
+shown-requires c κs = rw (c .run-of .ensures) (omega (arith, c .before .if4 .taken))
 
 step-to-requires : tie.Need-step-to-requires Inv-loop μ-loop
 step-to-requires c κs = search needs
 
 returns : tie.Need-returns Inv-loop μ-loop
 returns c =
-    let inv = c .before .before .before .before .before .loop .inv in
-    let piece = c .before .before .before .before .piece-at .ensures in
-    let ending = c .before .before .before .ending .ensures in
-    turn-shown _ _ _ _ _ _ _ _ inv piece ending _ _ (c .before .before .if1 .taken) (c .before .shown .ensures) (c .step-to .ensures)
+    let turn = c .before .before .before .before .before .before .before .before .before .before in
+    let low = c .before .before .before .before .before .side-kind .ensures in
+    let settled = sym (c .before .before .before .before .before .before .before .settled .ensures)
+    ∙ c .before .before .before .before .before .before .if3 .taken in
+    let text = c .before .before .before .before .text-end .ensures in
+    turn-quick _ _ _ _ _ (turn .before .loop .inv) (λ i. omega (arith, turn .before .before .shared-slice-known .given i))
+    (turn .loop-test .taken) _ _ _ _ _ (rw low (side-low _)) settled text (c .before .before .before .if4 .taken)
+    (c .before .before .run-of .ensures) (c .before .shown .ensures) (c .step-to .ensures)
+
+piece-at-requires : tie.Need-piece-at-requires Inv-loop μ-loop
+piece-at-requires c κs = search needs
+
+text-end-requires-2 : tie.Need-text-end-requires-2 Inv-loop μ-loop
+text-end-requires-2 c κs =
+    let turn = c .before .before .before .before .before .before in
+    run-begun _ _ _ _ _ (turn .before .loop .inv) (λ i. omega (arith, turn .before .before .shared-slice-known .given i)) (turn .loop-test .taken) _
+    (c .before .before .before .piece-at .ensures) (c .if5 .taken) .within
+
+run-of-requires-2 : tie.Need-run-of-requires-2 Inv-loop μ-loop
+run-of-requires-2 c κs = search needs
+
+shown-requires-2 : tie.Need-shown-requires-2 Inv-loop μ-loop
+shown-requires-2 c κs =
+    let turn = c .before .before .before .before .before .before .before .before in
+    let begun = run-begun _ _ _ _ _ (turn .before .loop .inv) (λ i. omega (arith, turn .before .before .shared-slice-known .given i))
+    (turn .loop-test .taken) _ (c .before .before .before .before .before .piece-at .ensures) (c .before .before .if5 .taken) in
+    rw (c .run-of2 .ensures) (omega (arith, begun .starts, begun .more, since-text (c .before .text-end2 .ensures)))
+
+step-to-requires-2 : tie.Need-step-to-requires-2 Inv-loop μ-loop
+step-to-requires-2 c κs = search needs
+
+returns-2 : tie.Need-returns-2 Inv-loop μ-loop
+returns-2 c =
+    let turn = c .before .before .before .before .before .before .before .before .before .before in
+    turn-begun _ _ _ _ _ (turn .before .loop .inv) (λ i. omega (arith, turn .before .before .shared-slice-known .given i)) (turn .loop-test .taken) _
+    (c .before .before .before .before .before .before .before .piece-at .ensures) (c .before .before .before .before .if5 .taken) _ _ _ _
+    (c .before .before .before .text-end2 .ensures) (c .before .before .run-of2 .ensures) (c .before .shown2 .ensures) (c .step-to2 .ensures)
 
 stop-at-requires : tie.Need-stop-at-requires Inv-loop μ-loop
 stop-at-requires c κs = search needs
 
-returns-2 : tie.Need-returns-2 Inv-loop μ-loop
-returns-2 c =
-    let inv = c .before .before .before .before .before .before .loop .inv in
-    let piece = c .before .before .before .before .before .piece-at .ensures in
-    let ending = c .before .before .before .before .ending .ensures in
-    turn-stop _ _ _ _ _ _ _ _ inv piece ending _ (c .before .before .before .if1 .left) (c .before .if2 .taken) (c .stop-at .ensures)
+returns-3 : tie.Need-returns-3 Inv-loop μ-loop
+returns-3 c =
+    let turn = c .before .before .before .before .before .before .before .before .before in
+    turn-none _ _ _ _ _ (turn .before .loop .inv) _ (c .before .before .before .before .before .before .piece-at .ensures) _ (c .before .if6 .taken)
+    (c .stop-at .ensures)
 
-extended-requires : tie.Need-extended-requires Inv-loop μ-loop
-extended-requires c κs = search needs
+loop-less-2 : tie.Need-loop-less-2 Inv-loop μ-loop
+loop-less-2 c =
+    let turn = c .before .before .before .before .before .before .before .before in
+    let past = turn-past _ _ _ _ _ (turn .before .loop .inv) _ (c .before .before .before .before .before .piece-at .ensures) (c .if6 .left)
+    (le-ltb _ _ (c .before .before .if5 .left)) in
+    omega (arith, past .more, past .plain .within)
 
-loop-less : tie.Need-loop-less Inv-loop μ-loop
-loop-less c =
-    let inv = c .before .before .before .before .before .before .before .loop .inv in
-    let piece = c .before .before .before .before .before .before .piece-at .ensures in
-    let ending = c .before .before .before .before .before .ending .ensures in
-    let next = turn-next _ _ _ _ _ _ _ _ inv piece ending _ (c .before .before .before .before .if1 .left) (c .before .before .if2 .left) (c .before .extended .ensures) in
-    omega (arith, next .more, next .within)
+loop-again-2 : tie.Need-loop-again-2 Inv-loop μ-loop
+loop-again-2 c =
+    let turn = c .before .before .before .before .before .before .before .before in
+    turn-past _ _ _ _ _ (turn .before .loop .inv) _ (c .before .before .before .before .before .piece-at .ensures) (c .if6 .left)
+    (le-ltb _ _ (c .before .before .if5 .left)) .plain
 
-loop-again : tie.Need-loop-again Inv-loop μ-loop
-loop-again c =
-    let inv = c .before .before .before .before .before .before .before .loop .inv in
-    let piece = c .before .before .before .before .before .before .piece-at .ensures in
-    let ending = c .before .before .before .before .before .ending .ensures in
-    let next = turn-next _ _ _ _ _ _ _ _ inv piece ending _ (c .before .before .before .before .if1 .left) (c .before .before .if2 .left) (c .before .extended .ensures) in
-    next .head
+stop-at-requires-2 : tie.Need-stop-at-requires-2 Inv-loop μ-loop
+stop-at-requires-2 c κs = search needs
+
+returns-4 : tie.Need-returns-4 Inv-loop μ-loop
+returns-4 c = turn-over _ _ _ _ _ (c .before .before .loop .inv) _ (c .before .loop-test .left) (c .stop-at2 .ensures)
 
 pub run-from-spec : {M : Type 1} → statement M
 run-from-spec =
@@ -73,15 +138,29 @@ run-from-spec =
     (tie.spec
     Inv-loop
     μ-loop
-    no-piece-requires
     loop-holds
-    piece-at-requires
-    ending-requires
+    shared-slice-read-b
+    designation-at-requires
+    add-at
+    designated-requires
+    loop-less
+    loop-again
+    settled-requires
+    side-kind-requires
+    text-end-requires
+    run-of-requires
     shown-requires
     step-to-requires
     returns
-    stop-at-requires
+    piece-at-requires
+    text-end-requires-2
+    run-of-requires-2
+    shown-requires-2
+    step-to-requires-2
     returns-2
-    extended-requires
-    loop-less
-    loop-again)
+    stop-at-requires
+    returns-3
+    loop-less-2
+    loop-again-2
+    stop-at-requires-2
+    returns-4)

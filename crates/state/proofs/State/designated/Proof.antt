@@ -4,12 +4,6 @@ use borrow.Author.Needs.{needs}
 use Rattle.state.proofs.State.designated.Statement.{statement}
 use Rattle.state.proofs.State.designated.Tie as tie
 
-enum-told : tie.Need-enum-told
-enum-told c = search needs
-
-enum-told-2 : tie.Need-enum-told-2
-enum-told-2 c = search needs
-
 returns : tie.Need-returns
 unfolding put
 returns c = rw (c .enum-told .given .1)
@@ -19,4 +13,4 @@ unfolding put
 returns-2 c = rw (c .enum-told2 .given .1)
 
 pub designated-spec : {M : Type 1} → statement M
-designated-spec = tie.close (tie.spec enum-told enum-told-2 returns returns-2)
+designated-spec = tie.close (tie.spec (search needs) (search needs) returns returns-2)

@@ -3,11 +3,8 @@ use borrow.Author.Needs.{needs}
 use Rattle.state.proofs.elements.bare.Statement.{statement}
 use Rattle.state.proofs.elements.bare.Tie as tie
 
-counts-as-text-requires : tie.Need-counts-as-text-requires
-counts-as-text-requires c κs = search needs
-
 returns : tie.Need-returns
 returns c = rw (c .counts-as-text .ensures)
 
 pub bare-spec : {M : Type 1} → statement M
-bare-spec = tie.close (tie.spec counts-as-text-requires returns)
+bare-spec = tie.close (tie.spec (search needs) returns)

@@ -4,24 +4,15 @@ use borrow.Author.Needs.{needs}
 use Rattle.stretch.proofs.characters.by_forms.Statement.{statement}
 use Rattle.stretch.proofs.characters.by_forms.Tie as tie
 
-twos-requires : tie.Need-twos-requires
-twos-requires c κs = search needs
-
 returns : tie.Need-returns
 returns c = chosen-left _ _ _ _ (c .before .before .twos .ensures) (c .if1 .taken)
 
-twos-requires-2 : tie.Need-twos-requires-2
-twos-requires-2 c κs = search needs
-
 returns-2 : tie.Need-returns-2
 returns-2 c = chosen-right _ _ _ _ _ (c .before .before .before .before .before .twos .ensures) (c .before .before .before .if1 .left) (c .before .before .twos2 .ensures) (c .if2 .taken)
-
-singles-requires : tie.Need-singles-requires
-singles-requires c κs = search needs
 
 returns-3 : tie.Need-returns-3
 returns-3 c = chosen-ones _ _ _ _ _ _ (c .before .before .before .before .before .before .twos .ensures) (c .before .before .before .before .if1 .left) (c .before .before .before .twos2 .ensures) (c .before .if2 .left) (c .singles .ensures .0)
 
 pub by-forms-spec : {M : Type 1} → statement M
 by-forms-spec =
-    tie.close (tie.spec twos-requires returns twos-requires-2 returns-2 singles-requires returns-3)
+    tie.close (tie.spec (search needs) returns (search needs) returns-2 (search needs) returns-3)

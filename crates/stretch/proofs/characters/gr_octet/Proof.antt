@@ -13,9 +13,6 @@ returns-2 : tie.Need-returns-2
 unfolding grOctet
 returns-2 c = search testing depth 9
 
-graphic-on-requires : tie.Need-graphic-on-requires
-graphic-on-requires c κs = search needs
-
 returns-3 : tie.Need-returns-3
 unfolding grOctet
 returns-3 c = search testing depth 9
@@ -25,4 +22,4 @@ unfolding grOctet
 returns-4 c = search testing depth 9
 
 pub gr-octet-spec : {M : Type 1} → statement M
-gr-octet-spec = tie.close (tie.spec returns returns-2 graphic-on-requires returns-3 returns-4)
+gr-octet-spec = tie.close (tie.spec returns returns-2 (search needs) returns-3 returns-4)

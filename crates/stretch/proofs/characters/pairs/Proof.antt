@@ -14,35 +14,8 @@ Inv-loop s at side i₀ i = Along (twoAt side) 1 s at i
 abbrev μ-loop : tie.MeasureT-loop
 μ-loop s at side i₀ i = length s - i
 
-pair-fours-requires : tie.Need-pair-fours-requires Inv-loop μ-loop
-pair-fours-requires c κs = search needs
-
 loop-holds : tie.Need-loop-holds Inv-loop μ-loop
 loop-holds c = c .pair-fours .ensures
-
-sub-loop : tie.Need-sub-loop Inv-loop μ-loop
-sub-loop c = search needs
-
-shared-slice-read-b : tie.Need-shared-slice-read-b Inv-loop μ-loop
-shared-slice-read-b c = search needs
-
-add-d : tie.Need-add-d Inv-loop μ-loop
-add-d c = search needs
-
-shared-slice-read-d : tie.Need-shared-slice-read-d Inv-loop μ-loop
-shared-slice-read-d c = search needs
-
-graphic-on-requires : tie.Need-graphic-on-requires Inv-loop μ-loop
-graphic-on-requires c κs = search needs
-
-graphic-on-requires-2 : tie.Need-graphic-on-requires-2 Inv-loop μ-loop
-graphic-on-requires-2 c κs = search needs
-
-add-i : tie.Need-add-i Inv-loop μ-loop
-add-i c = search needs
-
-loop-less : tie.Need-loop-less Inv-loop μ-loop
-loop-less c = search needs
 
 loop-again : tie.Need-loop-again Inv-loop μ-loop
 loop-again c =
@@ -52,9 +25,6 @@ loop-again c =
     let second = sym (c .before .graphic-on2 .ensures) ∙ c .if2 .taken in
     along-pair _ _ _ _ along more first second
 
-sub-result : tie.Need-sub-result Inv-loop μ-loop
-sub-result c = search needs
-
 returns : tie.Need-returns Inv-loop μ-loop
 returns c =
     let along = c .before .before .before .before .before .before .before .loop .inv in
@@ -63,18 +33,12 @@ returns c =
     let second = sym (c .before .graphic-on2 .ensures) ∙ c .if2 .left in
     pairs-last _ _ _ _ along (pair-not _ _ _ more first second)
 
-sub-result-2 : tie.Need-sub-result-2 Inv-loop μ-loop
-sub-result-2 c = search needs
-
 returns-2 : tie.Need-returns-2 Inv-loop μ-loop
 returns-2 c =
     let along = c .before .before .before .before .before .loop .inv in
     let more = c .before .before .before .before .loop-test .taken in
     let first = sym (c .before .graphic-on .ensures) ∙ c .if1 .left in
     pairs-last _ _ _ _ along (pair-no _ _ _ more first)
-
-sub-result-3 : tie.Need-sub-result-3 Inv-loop μ-loop
-sub-result-3 c = search needs
 
 returns-3 : tie.Need-returns-3 Inv-loop μ-loop
 returns-3 c = pairs-last _ _ _ _ (c .before .loop .inv) (pair-end _ _ _ (c .loop-test .left))
@@ -85,20 +49,20 @@ pairs-spec =
     (tie.spec
     Inv-loop
     μ-loop
-    pair-fours-requires
+    (search needs)
     loop-holds
-    sub-loop
-    shared-slice-read-b
-    add-d
-    shared-slice-read-d
-    graphic-on-requires
-    graphic-on-requires-2
-    add-i
-    loop-less
+    (search needs)
+    (search needs)
+    (search needs)
+    (search needs)
+    (search needs)
+    (search needs)
+    (search needs)
+    (search needs)
     loop-again
-    sub-result
+    (search needs)
     returns
-    sub-result-2
+    (search needs)
     returns-2
-    sub-result-3
+    (search needs)
     returns-3)

@@ -4,39 +4,24 @@ use borrow.Author.Needs.{needs}
 use Rattle.stretch.proofs.characters.same_side.Statement.{statement}
 use Rattle.stretch.proofs.characters.same_side.Tie as tie
 
-returns : tie.Need-returns
-returns c = search needs
-
-fours-requires : tie.Need-fours-requires
-fours-requires c κs = search needs
-
 returns-2 : tie.Need-returns-2
 returns-2 c = c .fours .ensures .along _ _ (gl-span _ _ (c .before .if2 .left))
-
-fours-requires-2 : tie.Need-fours-requires-2
-fours-requires-2 c κs = search needs
 
 returns-3 : tie.Need-returns-3
 returns-3 c = c .fours2 .ensures .along _ _ (gr-span-96 _ _ (c .before .if3 .taken))
 
-fours-requires-3 : tie.Need-fours-requires-3
-fours-requires-3 c κs = search needs
-
 returns-4 : tie.Need-returns-4
 returns-4 c = c .fours3 .ensures .along _ _ (gr-span-94 _ _ (c .before .if4 .taken))
-
-returns-5 : tie.Need-returns-5
-returns-5 c = search needs
 
 pub same-side-spec : {M : Type 1} → statement M
 same-side-spec =
     tie.close
     (tie.spec
-    returns
-    fours-requires
+    (λ c. search needs)
+    (search needs)
     returns-2
-    fours-requires-2
+    (search needs)
     returns-3
-    fours-requires-3
+    (search needs)
     returns-4
-    returns-5)
+    (λ c. search needs))

@@ -18,32 +18,14 @@ abbrev μ-loop : tie.MeasureT-loop
 loop-holds : tie.Need-loop-holds Inv-loop μ-loop
 loop-holds c = along-first _ _ _ _ (c .before .pre)
 
-shared-slice-read-b : tie.Need-shared-slice-read-b Inv-loop μ-loop
-shared-slice-read-b c = search needs
-
-single-requires : tie.Need-single-requires Inv-loop μ-loop
-single-requires c κs = search needs
-
-add-same-side : tie.Need-add-same-side Inv-loop μ-loop
-add-same-side c = search needs
-
-same-side-requires : tie.Need-same-side-requires Inv-loop μ-loop
-same-side-requires c κs = search needs
-
 loop-less : tie.Need-loop-less Inv-loop μ-loop
 loop-less c = omega (arith, c .same-side .ensures .since, c .same-side .ensures .within)
 
 loop-again : tie.Need-loop-again Inv-loop μ-loop
 loop-again c = along-one _ _ _ _ _ _ (c .before .before .before .before .before .loop .inv) (c .before .before .before .before .loop-test .taken) (sym (c .before .before .single .ensures) ∙ c .before .if1 .taken) (c .same-side .ensures)
 
-sub-result : tie.Need-sub-result Inv-loop μ-loop
-sub-result c = search needs
-
 returns : tie.Need-returns Inv-loop μ-loop
 returns c = along-last _ _ _ _ _ (c .before .before .before .before .loop .inv) (single-no _ _ _ _ (c .before .before .before .loop-test .taken) (sym (c .before .single .ensures) ∙ c .if1 .left))
-
-sub-result-2 : tie.Need-sub-result-2 Inv-loop μ-loop
-sub-result-2 c = search needs
 
 returns-2 : tie.Need-returns-2 Inv-loop μ-loop
 returns-2 c = along-last _ _ _ _ _ (c .before .loop .inv) (single-end _ _ _ _ (c .loop-test .left))
@@ -55,13 +37,13 @@ singles-spec =
     Inv-loop
     μ-loop
     loop-holds
-    shared-slice-read-b
-    single-requires
-    add-same-side
-    same-side-requires
+    (search needs)
+    (search needs)
+    (search needs)
+    (search needs)
     loop-less
     loop-again
-    sub-result
+    (search needs)
     returns
-    sub-result-2
+    (search needs)
     returns-2)

@@ -7,24 +7,9 @@ use borrow.Author.Needs.{needs}
 use Rattle.stretch.proofs.characters.stretch_at.Statement.{statement}
 use Rattle.stretch.proofs.characters.stretch_at.Tie as tie
 
-settled-requires : tie.Need-settled-requires
-settled-requires c κs = search needs
-
-form-of-requires : tie.Need-form-of-requires
-form-of-requires c κs = search needs
-
-form-of-requires-2 : tie.Need-form-of-requires-2
-form-of-requires-2 c κs = search needs
-
-by-forms-requires : tie.Need-by-forms-requires
-by-forms-requires c κs = search needs
-
 returns : tie.Need-returns
 unfolding stretchAt
 returns c = on-yes _ _ _ _ _ (c .before .before .before .before .settled .ensures) (c .before .before .before .if2 .taken) (rw (c .by-forms .ensures, c .before .form-of2 .ensures, c .before .before .form-of .ensures))
-
-singles-requires : tie.Need-singles-requires
-singles-requires c κs = search needs
 
 returns-2 : tie.Need-returns-2
 unfolding stretchAt
@@ -37,11 +22,11 @@ pub stretch-at-spec : {M : Type 1} → statement M
 stretch-at-spec =
     tie.close
     (tie.spec
-    settled-requires
-    form-of-requires
-    form-of-requires-2
-    by-forms-requires
+    (search needs)
+    (search needs)
+    (search needs)
+    (search needs)
     returns
-    singles-requires
+    (search needs)
     returns-2
     returns-3)

@@ -5,12 +5,6 @@ use borrow.Author.Needs.{needs}
 use Rattle.stretch.proofs.characters.twos.Statement.{statement}
 use Rattle.stretch.proofs.characters.twos.Tie as tie
 
-pairs-requires : tie.Need-pairs-requires
-pairs-requires c κs = search needs
-
-mul-t7 : tie.Need-mul-t7
-mul-t7 c = search needs
-
 returns : tie.Need-returns
 returns c = rw (c .pairs .ensures .0) (on-eq _ _ _ _ _ (c .before .if1 .taken) refl)
 
@@ -18,4 +12,4 @@ returns-2 : tie.Need-returns-2
 returns-2 c = on-ne _ _ _ _ _ (c .if1 .left) refl
 
 pub twos-spec : {M : Type 1} → statement M
-twos-spec = tie.close (tie.spec pairs-requires mul-t7 returns returns-2)
+twos-spec = tie.close (tie.spec (search needs) (search needs) returns returns-2)

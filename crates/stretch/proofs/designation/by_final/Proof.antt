@@ -3,11 +3,8 @@ use borrow.Author.Needs.{needs}
 use Rattle.stretch.proofs.designation.by_final.Statement.{statement}
 use Rattle.stretch.proofs.designation.by_final.Tie as tie
 
-set-of-requires : tie.Need-set-of-requires
-set-of-requires c κs = search needs
-
 returns : tie.Need-returns
 returns c = rw (c .set-of .ensures)
 
 pub by-final-spec : {M : Type 1} → statement M
-by-final-spec = tie.close (tie.spec set-of-requires returns)
+by-final-spec = tie.close (tie.spec (search needs) returns)

@@ -1,0 +1,63 @@
+-- `costs::costs_before` meets its contract, by where the class has a place.
+use native.Mathlib.Omega.{arith}
+use Prim.Native.Nat.{ℕ, _≤_}
+use mathlib.Core.Path.{ap, subst, _∙_}
+use mathlib.Core.List.{List}
+use lib.ListN.{getD}
+use Rattle.numbers.specs.Numbers.{placesInGL}
+use Rattle.costs.proofs.Least.{last-surcharge, served-left, in-right}
+use borrow.Author.Needs.{needs}
+use Rattle.costs.proofs.costs_before.Statement.{statement}
+use Rattle.costs.proofs.costs_before.Tie as tie
+
+gl-costs-requires : tie.Need-gl-costs-requires
+gl-costs-requires c κs =
+    let pre = c .before .before .before .before .before .before .before .pre in
+    let x = c .before .before .before .before .before .before .before .args .x in
+    let right = c .before .before .before .wide2 .ensures .0 ∙ ap (λ (t : List ℕ). getD t x 0) (pre .3 .in-gr) in (
+      (pre .0, subst (λ (r : ℕ). 13 ≤ r) right (c .before .before .if1 .taken)),
+      pre .1 0 (omega arith),
+      pre .1 2 (omega arith),
+      last-surcharge _ 3 (pre .3 .by-three),
+      pre .2,
+    )
+
+both-costs-requires : tie.Need-both-costs-requires
+both-costs-requires c κs =
+    let pre = c .before .before .before .before .before .before .before .before .before .pre in
+    let x = c .before .before .before .before .before .before .before .before .before .args .x in
+    let left = c .before .before .before .before .before .before .before .wide .ensures .0 ∙ ap (λ (t : List ℕ). getD t x 0) (pre .3 .in-gl) in
+    let right = c .before .before .before .before .before .wide2 .ensures .0 ∙ ap (λ (t : List ℕ). getD t x 0) (pre .3 .in-gr) in
+    let some = in-right x _ (pre .0) right (c .before .before .before .before .if1 .left) in (
+      pre .1 x (omega (arith, pre .0)),
+      pre .2,
+      pre .3 .by-four,
+      pre .2,
+      (some .0, served-left x _ (pre .0) left, some .1, c .before .before .if2 .taken, c .before .before .before .before .if1 .left),
+    )
+
+gr-costs-requires : tie.Need-gr-costs-requires
+gr-costs-requires c κs =
+    let pre = c .before .before .before .before .before .before .before .before .before .pre in
+    let x = c .before .before .before .before .before .before .before .before .before .args .x in
+    let left = c .before .before .before .before .before .before .before .wide .ensures .0 ∙ ap (λ (t : List ℕ). getD t x 0) (pre .3 .in-gl) in
+    let right = c .before .before .before .before .before .wide2 .ensures .0 ∙ ap (λ (t : List ℕ). getD t x 0) (pre .3 .in-gr) in
+    let some = in-right x _ (pre .0) right (c .before .before .before .before .if1 .left) in
+    let none : 5 ≤ getD placesInGL x 0 = omega (arith, served-left x _ (pre .0) left, c .before .before .if2 .left) in
+    (pre .1 x (omega (arith, pre .0)), pre .2, pre .3 .by-three, pre .2, (some .0, some .1, c .before .before .before .before .if1 .left, none))
+
+pub costs-before-spec : {M : Type 1} → statement M
+costs-before-spec =
+    tie.close
+    (tie.spec
+    (search needs)
+    (search needs)
+    (search needs)
+    (search needs)
+    (search needs)
+    gl-costs-requires
+    (λ c. search needs)
+    both-costs-requires
+    (λ c. search needs)
+    gr-costs-requires
+    (λ c. search needs))

@@ -1,0 +1,25 @@
+-- `costs::gr_costs` meets its contract: the lesser costs are the least.
+use mathlib.Core.Path.{refl}
+use Rattle.table.proofs.Filled.{columns-as}
+use Rattle.costs.proofs.Least.{fit-column, lesser-gr}
+use borrow.Author.Needs.{needs}
+use Rattle.costs.proofs.gr_costs.Statement.{statement}
+use Rattle.costs.proofs.gr_costs.Tie as tie
+
+lesser-costs-requires : tie.Need-lesser-costs-requires
+lesser-costs-requires c κs =
+    let pre = c .before .before .before .before .pre in
+    let s = fit-column 3 _ _ _ _ refl (pre .2) (pre .0) (pre .4 .2) refl (c .before .before .before .column .ensures) in
+    (s, s, pre .3)
+
+returns : tie.Need-returns
+returns c =
+    let args = c .before .before .before .before .before .args in
+    let pre = c .before .before .before .before .before .pre in
+    let column = c .before .before .before .before .column .ensures in
+    columns-as _
+    (λ g q hg hq. lesser-gr (args .x) (args .next .now) g q hg hq (pre .0) _ _ _ (pre .4) (pre .2) column)
+    (c .lesser-costs .ensures)
+
+pub gr-costs-spec : {M : Type 1} → statement M
+gr-costs-spec = tie.close (tie.spec (search needs) (search needs) lesser-costs-requires returns)

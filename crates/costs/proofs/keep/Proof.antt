@@ -1,0 +1,42 @@
+-- `costs::keep` meets its contract, by the class.
+use Rattle.costs.proofs.Turns.{kept-character, kept-space}
+use borrow.Author.Needs.{needs}
+use Rattle.costs.proofs.keep.Statement.{statement}
+use Rattle.costs.proofs.keep.Tie as tie
+
+returns-2 : tie.Need-returns-2
+returns-2 c =
+    let cur = c .before .before .before .before .before .before .before .before .before .before .before .args .cur .now in
+    let character = c .before .before .before .before .before .before .before .before .before .if1 .left in
+    let no-space = c .before .before .before .before .before .before .before .before .if2 .taken in
+    let row = c .before .before .before .before .before .before .keep-row .ensures in
+    let column = c .before .before .keep-column .ensures in
+    kept-character _ cur _ _ _ _ character no-space row column
+
+returns-3 : tie.Need-returns-3
+returns-3 c =
+    let cur = c .before .before .before .before .before .before .before .before .before .before .before .before .args .cur .now in
+    let space = c .before .before .before .before .before .before .before .before .if3 .taken in
+    let first = c .before .before .before .before .before .before .keep-row2 .ensures in
+    let second = c .before .before .keep-row3 .ensures in
+    kept-space _ cur _ _ _ _ space first second
+
+pub keep-spec : {M : Type 1} → statement M
+keep-spec =
+    tie.close
+    (tie.spec
+    (λ c. search needs)
+    (search needs)
+    (search needs)
+    (search needs)
+    (search needs)
+    (search needs)
+    (search needs)
+    (search needs)
+    returns-2
+    (search needs)
+    (search needs)
+    (search needs)
+    (search needs)
+    returns-3
+    (λ c. search needs))

@@ -1,0 +1,54 @@
+-- `costs::unit_before` meets its contract.
+use mathlib.Core.Path.{sym, _∙_}
+use Rattle.costs.proofs.Turns.{changes-class, turned-moved, turned-near, turned-lowered, turned-still}
+use borrow.Author.Needs.{needs}
+use Rattle.costs.proofs.unit_before.Statement.{statement}
+use Rattle.costs.proofs.unit_before.Tie as tie
+
+costs-before-requires : tie.Need-costs-before-requires
+costs-before-requires c κs =
+    let pre = c .before .before .before .pre in
+    let changed = sym (c .before .before .changed .ensures) ∙ c .before .if1 .taken in
+    (changes-class _ _ changed (pre .0 .class-of), pre .0 .smooth, pre .0 .long, pre .1)
+
+returns : tie.Need-returns
+returns c =
+    let args = c .before .before .before .before .before .before .args in
+    let pre = c .before .before .before .before .before .before .pre in
+    let changed = sym (c .before .before .before .before .before .changed .ensures) ∙ c .before .before .before .before .if1 .taken in
+    turned-moved _ _ (args .cur .now) _ (pre .0 .long) (c .before .before .costs-before .ensures) changed (c .if2 .taken)
+
+lower-requires : tie.Need-lower-requires
+lower-requires c κs =
+    let args = c .before .before .before .before .before .before .before .args in
+    let pre = c .before .before .before .before .before .before .before .pre in
+    let costs = c .before .before .before .costs-before .ensures in
+    (turned-near (args .last) _ (args .cur .now) _ (pre .0 .long) costs (pre .0 .near) (c .before .if2 .left), costs .long)
+
+returns-2 : tie.Need-returns-2
+returns-2 c =
+    let args = c .before .before .before .before .before .before .before .before .args in
+    let pre = c .before .before .before .before .before .before .before .before .pre in
+    let changed = sym (c .before .before .before .before .before .before .before .changed .ensures)
+    ∙ c .before .before .before .before .before .before .if1 .taken in
+    let costs = c .before .before .before .before .costs-before .ensures in
+    turned-lowered _ _ (args .cur .now) _ (pre .0 .long) costs (pre .0 .near) (c .before .before .if2 .left) _ changed
+    (pre .0 .smooth (args .x) (pre .0 .class-of) .small) (c .lower .ensures)
+
+returns-3 : tie.Need-returns-3
+returns-3 c =
+    let pre = c .before .before .pre in
+    let same = sym (c .before .changed .ensures) ∙ c .if1 .left in
+    turned-still _ _ _ (c .before .before .args .cur .now) (pre .0 .long) same (pre .0 .low)
+
+pub unit-before-spec : {M : Type 1} → statement M
+unit-before-spec =
+    tie.close
+    (tie.spec
+    (search needs)
+    costs-before-requires
+    (search needs)
+    returns
+    lower-requires
+    returns-2
+    returns-3)

@@ -1,0 +1,63 @@
+-- The octets of the unit of a row, by its tag: those of text, of a segment, of a mark. Only the octets of text depend on the side.
+use Prim.Native.Nat.{ℕ, _+_, _≤_, _<_}
+use native.Mathlib.Omega.{arith}
+use mathlib.Core.Path.{_≡_, refl, sym, ap, ap₂, _∙_}
+use mathlib.Core.Bool.{Bool, true, false, cond, _&&_}
+use mathlib.Core.List.{List}
+use lib.Dec.{ltb, leb, eqb}
+use lib.ListN.{getD, take, drop}
+use borrow.Author.Tests.{le-ltb}
+use Rattle.base.specs.Choice.{pick}
+use Rattle.charset.specs.declared.Side.{Side}
+use Rattle.charset.specs.declared.Side.the-variants.{GL}
+use Rattle.grammar.specs.Units.{TextUnit, space, control, tab, newline, ltr, rtl, revert, ext, octets}
+use Rattle.rows.specs.Rows.{highOctet, lowOctet, startFrom, countOf, textTagged, markTagged, unitTagged, unitFrom}
+use Rattle.rows.specs.Tag as tag
+use Rattle.rows.proofs.Units.{unit-text, unit-segment, unit-mark}
+
+-- the octets of a unit that is no character are the same on each side
+mark-free : (t : ℕ) (d e : Side) → octets d (markTagged t) ≡ octets e (markTagged t)
+unfolding markTagged octets pick
+mark-free t d e = go (eqb t tag.tab) (eqb t tag.newline) (eqb t tag.left-to-right) (eqb t tag.right-to-left)
+  where
+    mark : Bool → Bool → Bool → Bool → TextUnit
+    mark p q r s = pick p (control tab) (pick q (control newline) (pick r (control ltr) (pick s (control rtl) (control revert))))
+
+    go : (p q r s : Bool) → octets d (mark p q r s) ≡ octets e (mark p q r s)
+    go true q r s = refl
+    go false true r s = refl
+    go false false true s = refl
+    go false false false true = refl
+    go false false false false = refl
+
+tagged-free : (o : List ℕ) (t a b s : ℕ) (d e : Side) → tag.space ≤ t → octets d (unitTagged o t a b s) ≡ octets e (unitTagged o t a b s)
+unfolding unitTagged textTagged octets pick
+tagged-free o t a b s d e h = rw (le-ltb t tag.double (omega arith), le-ltb t tag.space h) (go (ltb t tag.tab) (leb tag.segment t && ltb t tag.spare))
+  where
+    unit : Bool → Bool → TextUnit
+    unit p q = cond p space (cond q (ext (tag.d + t) (take (countOf a b) (drop s o))) (markTagged t))
+
+    go : (p q : Bool) → octets d (unit p q) ≡ octets e (unit p q)
+    go true q = refl
+    go false true = refl
+    go false false = mark-free t d e
+
+module _ (o w : List ℕ) (row : ℕ) (d : Side) where
+  abbrev t : ℕ
+  t = getD w (row + 65) 0
+
+  pub text-octets : t < tag.tab → octets d (unitFrom o w row) ≡ octets d (textTagged t (highOctet w row) (lowOctet w row))
+  text-octets h = ap (octets d) (unit-text o t (highOctet w row) (lowOctet w row) (startFrom w row) h)
+
+  pub segment-octets : (n s : ℕ) → n ≡ countOf (highOctet w row) (lowOctet w row) → s ≡ startFrom w row → tag.segment ≤ t → t < tag.spare
+      → octets d (unitFrom o w row) ≡ octets GL (ext (tag.d + t) (take n (drop s o)))
+  unfolding octets
+  segment-octets n s en es h k =
+      ap (octets d) (unit-segment o t (highOctet w row) (lowOctet w row) (startFrom w row) h k)
+      ∙ ap₂ (λ (x y : ℕ). octets GL (ext (tag.d + t) (take x (drop y o)))) (sym en) (sym es)
+
+  pub mark-octets : tag.tab ≤ t → (tag.segment ≤ t → t < tag.spare → ⊥) → octets d (unitFrom o w row) ≡ octets GL (markTagged t)
+  mark-octets h n = ap (octets d) (unit-mark o t (highOctet w row) (lowOctet w row) (startFrom w row) h n) ∙ mark-free t d GL
+
+pub side-free : (o w : List ℕ) (row : ℕ) (d e : Side) → tag.space ≤ getD w (row + 65) 0 → octets d (unitFrom o w row) ≡ octets e (unitFrom o w row)
+side-free o w row d e h = tagged-free o (getD w (row + 65) 0) (highOctet w row) (lowOctet w row) (startFrom w row) d e h

@@ -1,0 +1,15 @@
+-- `emit::second_slot` meets its contract.
+use native.Mathlib.Omega.{arith}
+use borrow.Author.Tests.{lt-ltb, le-ltb}
+use borrow.Author.Needs.{needs}
+use Rattle.emit.proofs.second_slot.Statement.{statement}
+use Rattle.emit.proofs.second_slot.Tie as tie
+
+returns : tie.Need-returns
+returns c = (rw (lt-ltb _ _ (c .if1 .taken)), omega arith)
+
+returns-2 : tie.Need-returns-2
+returns-2 c = (rw (le-ltb _ _ (c .if1 .left)), omega arith)
+
+pub second-slot-spec : {M : Type 1} → statement M
+second-slot-spec = tie.close (tie.spec (search needs) (search needs) returns returns-2)

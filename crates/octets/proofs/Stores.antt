@@ -1,0 +1,193 @@
+-- Octets stored one after the other, and that they are those of designations and units.
+use mathlib.Core.Path.{_≡_, refl, sym, ap, ap₂, _∙_, subst}
+use mathlib.Core.Bool.{Bool, true, false, cond, _&&_, not, false≢true, true≢false}
+use mathlib.Core.List.{List, [], _∷_, _++_}
+use Prim.Native.Nat.{ℕ, suc, _+_, _-_, _*_, _/_, _%_, _≤_, _<_}
+use native.Mathlib.Omega.{arith}
+use native.Mathlib.Numerals.{add-one}
+use lib.Dec.{ltb, leb, eqb}
+use borrow.Author.Tests.{ltb-true, ltb-false, lt-ltb, le-ltb, le-leb, lt-leb, eqb-true, ne-eqb, not-true}
+use lib.ListN.{length, getD, set, take, drop, length-append, length-take, length-drop}
+use lib.Seq.{sets, length-sets, take-suc, take-all, take-take, getD-drop}
+use Rattle.base.proofs.Bools.{and-left, and-right, up-to}
+use Rattle.base.specs.Choice.{pick}
+use Rattle.charset.specs.declared.Side.{Side}
+use Rattle.charset.specs.declared.Side.the-variants.{GL, GR}
+use Rattle.charset.specs.Charsets.{rowOf, formOf}
+use Rattle.state.specs.State.{on}
+use Rattle.grammar.specs.Units.{TextUnit, ext, wide, top, octets, designation}
+use Rattle.rows.specs.Rows.{partOf, textTagged}
+use Rattle.rows.specs.Tag as tag
+use Rattle.rows.proofs.Units.{part-length}
+use Rattle.octets.specs.Octets.{Written, sideOf, signOf}
+
+-- ---- stores
+
+sets-append : (xs ys l : List ℕ) (i : ℕ) → sets (sets l i xs) (i + length xs) ys ≡ sets l i (xs ++ ys)
+sets-append [] ys l i = ap (λ (k : ℕ). sets l k ys) (let e : i + 0 ≡ i = omega arith in e)
+sets-append (x ∷ xs) ys l i =
+    ap (λ (k : ℕ). sets (sets (set l i x) (suc i) xs) k ys) (let e : i + suc (length xs) ≡ suc i + length xs = omega arith in e)
+    ∙ sets-append xs ys (set l i x) (suc i)
+
+pub written-both : {l m n : List ℕ} {at p r : ℕ} {xs ys : List ℕ} → Written l at xs p m → Written m p ys r n → Written l at (xs ++ ys) r n
+written-both {l} {m} {n} {at} {p} {r} {xs} {ys} a b =
+    record {
+      next = omega (arith, a .next, b .next, length-append xs ys);
+      now = b .now ∙ ap₂ (λ (k : List ℕ) (q : ℕ). sets k q ys) (a .now) (a .next) ∙ sets-append xs ys l at;
+    }
+
+pub written-none : (l : List ℕ) (at : ℕ) → Written l at [] at l
+written-none l at = record { next = omega arith; now = refl }
+
+pub written-1 : (l : List ℕ) (at a : ℕ) → Written l at (a ∷ []) (at + 1) (set l at a)
+written-1 l at a = record { next = refl; now = refl }
+
+pub written-2 : (l : List ℕ) (at a b : ℕ) → Written l at (a ∷ b ∷ []) (at + 2) (set (set l at a) (at + 1) b)
+written-2 l at a b = record { next = refl; now = rw (add-one at) }
+
+pub written-3 : (l : List ℕ) (at a b c : ℕ) → Written l at (a ∷ b ∷ c ∷ []) (at + 3) (set (set (set l at a) (at + 1) b) (at + 2) c)
+written-3 l at a b c =
+    record { next = refl; now = ap₂ (λ (x y : ℕ). set (set (set l at a) x b) y c) (add-one at) (let e : at + 2 ≡ suc (suc at) = omega arith in e) }
+
+pub written-4 : (l : List ℕ) (at a b c d : ℕ) → Written l at (a ∷ b ∷ c ∷ d ∷ []) (at + 4) (set (set (set (set l at a) (at + 1) b) (at + 2) c) (at + 3) d)
+written-4 l at a b c d =
+    record {
+      next = refl;
+      now =
+          ap₂ (λ (x y : ℕ). set (set (set (set l at a) x b) y c) (at + 3) d) (add-one at) (let e : at + 2 ≡ suc (suc at) = omega arith in e)
+          ∙ ap (λ (z : ℕ). set (set (set (set l at a) (suc at) b) (suc (suc at)) c) z d) (let e : at + 3 ≡ suc (suc (suc at)) = omega arith in e);
+    }
+
+pub written-length : {l m : List ℕ} {at r : ℕ} {xs : List ℕ} → Written l at xs r m → length m ≡ length l
+written-length {l} {m} {at} {r} {xs} a = ap length (a .now) ∙ length-sets l at xs
+
+pub written-as : {l m : List ℕ} {at r : ℕ} {xs ys : List ℕ} → ys ≡ xs → Written l at xs r m → Written l at ys r m
+written-as {l} {m} {at} {r} e p = subst (λ (z : List ℕ). Written l at z r m) (sym e) p
+
+-- ---- a copy
+
+part : (o : List ℕ) (s k : ℕ) → k ≤ length o - s → length (take k (drop s o)) ≡ k
+part o s k h = part-length o k s ∙ omega arith
+
+pub copy-more : (l m o : List ℕ) (at s k n : ℕ) → k < n → n ≤ length o - s → m ≡ sets l at (take k (drop s o))
+    → set m (at + k) (getD o (s + k) 0) ≡ sets l at (take (k + 1) (drop s o))
+copy-more l m o at s k n h f e =
+    ap (λ (x : List ℕ). set x (at + k) (getD o (s + k) 0)) e
+    ∙ ap (λ (j : ℕ). set (sets l at (take k (drop s o))) (at + j) (getD o (s + k) 0)) (sym (part o s k (omega arith)))
+    ∙ sets-append (take k (drop s o)) (getD o (s + k) 0 ∷ []) l at
+    ∙ ap (sets l at)
+    (ap (λ (y : ℕ). take k (drop s o) ++ (y ∷ [])) (sym (getD-drop s o k 0))
+    ∙ sym (take-suc (drop s o) k 0 (simp length-drop (omega arith))) ∙ ap (λ (j : ℕ). take j (drop s o)) (sym (add-one k)))
+
+pub copy-done : (l m o : List ℕ) (at s k n : ℕ) → k ≤ n → n ≤ k → n ≤ length o - s → m ≡ sets l at (take k (drop s o))
+    → Written l at (take n (drop s o)) (at + n) m
+copy-done l m o at s k n h h′ f e =
+    let q : k ≡ n = omega arith in
+    record { next = omega (arith, part o s n f); now = e ∙ ap (λ (j : ℕ). sets l at (take j (drop s o))) q }
+
+-- ---- designations
+
+abbrev sameList : List ℕ → List ℕ → Bool
+sameList [] [] = true
+sameList [] (y ∷ ys) = false
+sameList (x ∷ xs) [] = false
+sameList (x ∷ xs) (y ∷ ys) = eqb x y && sameList xs ys
+
+sameList-eq : (xs ys : List ℕ) → sameList xs ys ≡ true → xs ≡ ys
+sameList-eq [] [] e = refl
+sameList-eq [] (y ∷ ys) e = absurd (false≢true e)
+sameList-eq (x ∷ xs) [] e = absurd (false≢true e)
+sameList-eq (x ∷ xs) (y ∷ ys) e = ap₂ _∷_ (eqb-true x y (and-left (eqb x y) (sameList xs ys) e)) (sameList-eq xs ys (and-right (eqb x y) (sameList xs ys) e))
+
+abbrev short : Bool → ℕ → List ℕ
+short l c = cond (leb 12 c) (0x1B ∷ 0x24 ∷ signOf l c ∷ rowOf c .last ∷ []) (0x1B ∷ signOf l c ∷ rowOf c .last ∷ [])
+
+designation-short : (l : Bool) (c : ℕ) → c < 15 → designation (on (sideOf l) c) ≡ short l c
+unfolding designation formOf signOf pick
+designation-short true c h = sameList-eq (designation (on GL c)) (short true c) (up-to 15 (λ m. sameList (designation (on GL m)) (short true m)) refl c h)
+designation-short false c h = sameList-eq (designation (on GR c)) (short false c) (up-to 15 (λ m. sameList (designation (on GR m)) (short false m)) refl c h)
+
+pub designation-one : (l : Bool) (c s f : ℕ) → s ≡ signOf l c → f ≡ rowOf c .last → c < 12 → designation (on (sideOf l) c) ≡ 0x1B ∷ s ∷ f ∷ []
+designation-one l c s f e q h = designation-short l c (omega arith) ∙ rw (lt-leb 12 c h, e, q)
+
+pub designation-two : (l : Bool) (c s f : ℕ) → s ≡ signOf l c → f ≡ rowOf c .last → 12 ≤ c → c < 15 → designation (on (sideOf l) c) ≡ 0x1B ∷ 0x24 ∷ s ∷ f ∷ []
+designation-two l c s f e q h k = designation-short l c k ∙ rw (le-leb 12 c h, e, q)
+
+-- ---- a unit's octets by its tag
+
+narrow : (t : ℕ) → t < 12 → wide t ≡ false
+unfolding wide formOf
+narrow t h = not-true (wide t) (up-to 12 (λ m. not (wide m)) refl t h)
+
+broad : (t : ℕ) → 12 ≤ t → t < 15 → wide t ≡ true
+unfolding wide formOf
+broad t h k =
+    let e : 12 + (t - 12) ≡ t = omega arith in
+    subst (λ (m : ℕ). wide m ≡ true) e (up-to 3 (λ m. wide (12 + m)) refl (t - 12) (omega arith))
+
+-- the tag of a character of two octets, by its test
+paired : (t : ℕ) → pick (ltb t 12) false (ltb t 15) ≡ true → (12 ≤ t) × (t < 15)
+unfolding pick
+paired t e = go (ltb t 12) refl
+  where
+    go : (p : Bool) → ltb t 12 ≡ p → (12 ≤ t) × (t < 15)
+    go true p = absurd (false≢true (rw p at e))
+    go false p = (ltb-false t 12 p, ltb-true t 15 (rw p at e))
+
+-- a character of one octet, or a space; and a character of two
+module _ (d : Side) (t a b : ℕ) where
+  pub single-octet : (y : ℕ) → y ≡ pick (eqb t tag.space) 0x20 (top d + b % 128) → pick (ltb t tag.double) false (ltb t tag.space) ≡ false
+      → t < tag.tab → octets d (textTagged t a b) ≡ y ∷ []
+  unfolding octets textTagged pick
+  single-octet y e n h = go (ltb t tag.double) refl (ltb t tag.space) refl
+    where
+      go : (p : Bool) → ltb t tag.double ≡ p → (q : Bool) → ltb t tag.space ≡ q → octets d (textTagged t a b) ≡ y ∷ []
+      go true p q r =
+          let l = ltb-true t tag.double p in
+          let f : y ≡ top d + b % 128 = rw (ne-eqb t tag.space (λ z. omega arith)) at e in
+          rw (p, narrow t l, f)
+      go false p true r = absurd (true≢false (rw (p, r) at n))
+      go false p false r =
+          let l = ltb-false t tag.space r in
+          let z : t ≡ tag.space = omega arith in
+          let f : y ≡ 0x20 = rw z at e in
+          rw (f, z) refl
+
+  pub two-octets : (x y : ℕ) → x ≡ top d + a % 128 → y ≡ top d + b % 128 → pick (ltb t tag.double) false (ltb t tag.space) ≡ true
+      → octets d (textTagged t a b) ≡ x ∷ y ∷ []
+  unfolding octets textTagged pick
+  two-octets x y ex ey n =
+      let p = paired t n in
+      rw (le-ltb t tag.double (p .0), lt-ltb t tag.space (p .1), broad t (p .0) (p .1), ex, ey)
+      (ap₂ (λ (m n : ℕ). (top d + m) ∷ (top d + n) ∷ [])
+      (let e : (a % 128 * 256 + b % 128) / 256 ≡ a % 128 = omega arith in e)
+      (let e : (a % 128 * 256 + b % 128) % 256 ≡ b % 128 = omega arith in e))
+
+-- a segment's octets: two threes, then the part
+pub segment-parts : (o : List ℕ) (e n m s : ℕ) → m ≡ partOf n s (length o)
+    → octets GL (ext e (take n (drop s o))) ≡ (0x1B ∷ 0x25 ∷ 0x2F ∷ []) ++ ((e ∷ (128 + m / 128) ∷ (128 + m % 128) ∷ []) ++ take m (drop s o))
+unfolding octets
+segment-parts o e n m s h =
+    let l : length (take n (drop s o)) ≡ m = part-length o n s ∙ sym h in
+    rw l (ap (λ (xs : List ℕ). 0x1B ∷ 0x25 ∷ 0x2F ∷ e ∷ (128 + m / 128) ∷ (128 + m % 128) ∷ xs) (take-least n m (drop s o) l))
+  where
+    take-least : (n m : ℕ) (xs : List ℕ) → length (take n xs) ≡ m → take n xs ≡ take m xs
+    take-least n m xs l = sym (take-all m (take n xs) (omega arith)) ∙ take-take m n xs (omega (arith, l, length-take n xs))
+
+pub designation-some : (l : Bool) (c : ℕ) → c < 15 → 3 ≤ length (designation (on (sideOf l) c))
+designation-some l c h = rw (designation-short l c h) (go (leb 12 c))
+  where
+    go : (b : Bool) → 3 ≤ length (cond b (0x1B ∷ 0x24 ∷ signOf l c ∷ rowOf c .last ∷ []) (0x1B ∷ signOf l c ∷ rowOf c .last ∷ []))
+    go true = omega arith
+    go false = omega arith
+
+pub segment-length : (o : List ℕ) (e n s : ℕ) → length (octets GL (ext e (take n (drop s o)))) ≡ 6 + partOf n s (length o)
+unfolding octets
+segment-length o e n s = omega (arith, part-length o n s)
+
+-- octets of a unit that is another
+pub unit-size : {u v : TextUnit} → u ≡ v → length (octets GL u) ≡ length (octets GL v)
+unit-size e = ap (λ (u : TextUnit). length (octets GL u)) e
+
+pub unit-written : {u v : TextUnit} {at r : ℕ} {l m : List ℕ} → u ≡ v → Written l at (octets GL u) r m → Written l at (octets GL v) r m
+unit-written e w = rw e at w

@@ -1,0 +1,50 @@
+-- `octets::copy` meets its contract. The invariant: the first k octets are stored.
+use borrow.Author.Needs.{needs}
+use native.Mathlib.Omega.{arith}
+use mathlib.Core.Path.{_≡_, refl}
+use Prim.Native.Nat.{_-_, _≤_}
+use lib.ListN.{length, take, drop, length-set}
+use lib.Seq.{sets}
+use Rattle.octets.proofs.Stores.{copy-more, copy-done}
+use Rattle.octets.proofs.copy.Statement.{statement}
+use Rattle.octets.proofs.copy.Tie as tie
+
+abbrev Inv-loop : tie.InvT-loop
+Inv-loop src from n out₀ at k₀ out k = (k ≤ n) × (length out ≡ length out₀) × (out ≡ sets out₀ at (take k (drop from src)))
+
+abbrev μ-loop : tie.MeasureT-loop
+μ-loop src from n out₀ at k₀ out k = n - k
+
+loop-holds : tie.Need-loop-holds Inv-loop μ-loop
+loop-holds c = (search needs, refl, refl)
+
+loop-again : tie.Need-loop-again Inv-loop μ-loop
+loop-again c = (
+  omega arith,
+  simp length-set (c .before .before .loop .inv .1),
+  copy-more (c .before .before .before .args .out .now) _ (c .before .before .before .args .src .now) _
+      (c .before .before .before .args .from) _ _ (c .before .loop-test .taken) (c .before .before .before .pre .0) (c .before .before .loop .inv .2),
+)
+
+returns : tie.Need-returns Inv-loop μ-loop
+returns c =
+    copy-done _ _ (c .before .before .args .src .now) _ (c .before .before .args .from) _ _ (c .before .loop .inv .0) (search needs)
+    (c .before .before .pre .0) (c .before .loop .inv .2)
+
+pub copy-spec : {M : Type 1} → statement M
+copy-spec =
+    tie.close
+    (tie.spec
+    Inv-loop
+    μ-loop
+    loop-holds
+    (search needs)
+    (search needs)
+    (search needs)
+    (search needs)
+    (search needs)
+    (search needs)
+    loop-again
+    (search needs)
+    (search needs)
+    returns)

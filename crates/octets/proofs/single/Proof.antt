@@ -1,0 +1,8 @@
+-- `octets::single` meets its contract.
+use Rattle.base.proofs.Ladder.{ladder}
+use borrow.Author.Needs.{needs}
+use Rattle.octets.proofs.single.Statement.{statement}
+use Rattle.octets.proofs.single.Tie as tie
+
+pub single-spec : {M : Type 1} → statement M
+single-spec = tie.close (tie.spec (search needs) (λ c. search ladder depth 9) (λ c. search ladder depth 9))

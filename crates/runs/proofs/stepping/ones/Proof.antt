@@ -1,0 +1,53 @@
+-- `stepping::ones` meets its contract. The invariant: only octets of the span stand from `at` to `i`.
+use Prim.Native.Nat.{_-_}
+use native.Mathlib.Omega.{arith}
+use borrow.Author.Needs.{needs}
+use lib.ListN.{length}
+use Rattle.runs.proofs.Spans.{OnesSoFar, ones-first, ones-more, ones-stop}
+use Rattle.runs.proofs.stepping.ones.Statement.{statement}
+use Rattle.runs.proofs.stepping.ones.Tie as tie
+
+abbrev Inv-loop : tie.InvT-loop
+Inv-loop s at first last i₀ i = OnesSoFar s first last at i
+
+abbrev μ-loop : tie.MeasureT-loop
+μ-loop s at first last i₀ i = length s - i
+
+loop-holds : tie.Need-loop-holds Inv-loop μ-loop
+loop-holds c = ones-first (c .pre)
+
+shared-slice-read-b : tie.Need-shared-slice-read-b Inv-loop μ-loop
+shared-slice-read-b c = search needs
+
+returns : tie.Need-returns Inv-loop μ-loop
+returns c = ones-stop (c .before .before .before .loop .inv) (λ h l m. omega (arith, c .if1 .taken, l))
+
+returns-2 : tie.Need-returns-2 Inv-loop μ-loop
+returns-2 c = ones-stop (c .before .before .before .before .loop .inv) (λ h l m. omega (arith, c .if2 .taken, m))
+
+add-i : tie.Need-add-i Inv-loop μ-loop
+add-i c = search needs
+
+loop-less : tie.Need-loop-less Inv-loop μ-loop
+loop-less c = search needs
+
+loop-again : tie.Need-loop-again Inv-loop μ-loop
+loop-again c = ones-more (c .before .before .before .before .loop .inv) (c .before .before .before .loop-test .taken) (c .before .if1 .left) (c .if2 .left)
+
+returns-3 : tie.Need-returns-3 Inv-loop μ-loop
+returns-3 c = ones-stop (c .before .loop .inv) (λ h l m. omega (arith, c .loop-test .left, h))
+
+pub ones-spec : {M : Type 1} → statement M
+ones-spec =
+    tie.close
+    (tie.spec
+    Inv-loop
+    μ-loop
+    loop-holds
+    shared-slice-read-b
+    returns
+    returns-2
+    add-i
+    loop-less
+    loop-again
+    returns-3)
