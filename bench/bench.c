@@ -99,8 +99,8 @@ static size_t run_next_run(size_t i)
 {
     struct note n = corpus.notes[i];
     size_t runs = 0;
-    ctext_run_step step = ctext_next_run(n.octets, n.length, ctext_first_run());
-    for (; step.run.answer.number == CTEXT_ACCEPTED; runs++) step = ctext_next_run(n.octets, n.length, step.position);
+    ctext_run_step step = ctext_next_run(n.octets, n.length, ctext_open_runs());
+    for (; step.run.answer.number == CTEXT_ACCEPTED; runs++) step = ctext_next_run(n.octets, n.length, step.reader);
     return runs;
 }
 #endif

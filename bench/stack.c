@@ -38,8 +38,8 @@ static void run_next(void)
 static void run_next_run(void)
 {
     static ctext_run_step step;
-    step = ctext_next_run(text, length, ctext_first_run());
-    while (step.run.answer.number == CTEXT_ACCEPTED) step = ctext_next_run(text, length, step.position);
+    step = ctext_next_run(text, length, ctext_open_runs());
+    while (step.run.answer.number == CTEXT_ACCEPTED) step = ctext_next_run(text, length, step.reader);
 }
 #endif
 

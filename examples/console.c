@@ -51,9 +51,9 @@ static void list_units(const uint8_t *s, size_t n)
 /* A run is what a client draws at once: text in one set, for one font. */
 static void list_runs(const uint8_t *s, size_t n)
 {
-    ctext_run_bounds run;
-    size_t k;
-    for (k = 0; (run = ctext_run(s, n, k)).answer.number == CTEXT_ACCEPTED; k++) {
+    ctext_run_step step = ctext_next_run(s, n, ctext_open_runs());
+    for (; step.run.answer.number == CTEXT_ACCEPTED; step = ctext_next_run(s, n, step.reader)) {
+        ctext_run_bounds run = step.run;
         printf("  run at %lu: %s, font %s, %s:", (unsigned long)run.start, ctext_set_text(run.set),
                ctext_set_charset(run.set), ctext_direction_text(run.direction));
         print_octets(ctext_run_octets(s, run), run.end - run.start);

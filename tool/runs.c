@@ -2,12 +2,6 @@
 
 #include "tool.h"
 
-/* The run after those that were shown. */
-static ctext_run_bounds next_run(const note *n, size_t *shown)
-{
-    return ctext_run(n->octets, n->length, (*shown)++);
-}
-
 /* Place, side, set, octets of a character, direction, octets. */
 static void print_run(const note *n, ctext_run_bounds run)
 {
@@ -21,12 +15,14 @@ static void print_run(const note *n, ctext_run_bounds run)
 int runs(const note *n)
 {
     ctext_answer a = ctext_check(n->octets, n->length);
-    size_t shown = 0;
-    ctext_run_bounds run;
+    ctext_run_step step;
     if (a.number != CTEXT_ACCEPTED)
         return complain_refusal(n, a);
     out_name(n, ":\n");
-    for (run = next_run(n, &shown); run.answer.number == CTEXT_ACCEPTED; run = next_run(n, &shown))
-        print_run(n, run);
+    step = ctext_next_run(n->octets, n->length, ctext_open_runs());
+    while (step.run.answer.number == CTEXT_ACCEPTED) {
+        print_run(n, step.run);
+        step = ctext_next_run(n->octets, n->length, step.reader);
+    }
     return STATUS_ACCEPTED;
 }

@@ -13,17 +13,8 @@ Inv-loop s k at₀ left₀ st₀ last₀ at left st last = Head s k at left st l
 abbrev μ-loop : tie.MeasureT-loop
 μ-loop s k at₀ left₀ st₀ last₀ at left st last = length s - at
 
-no-piece-requires : tie.Need-no-piece-requires Inv-loop μ-loop
-no-piece-requires c κs = search needs
-
 loop-holds : tie.Need-loop-holds Inv-loop μ-loop
 loop-holds c = rw (c .no-piece .ensures) (head-first _ _)
-
-piece-at-requires : tie.Need-piece-at-requires Inv-loop μ-loop
-piece-at-requires c κs = search needs
-
-ending-requires : tie.Need-ending-requires Inv-loop μ-loop
-ending-requires c κs = search needs
 
 shown-requires : tie.Need-shown-requires Inv-loop μ-loop
 shown-requires c κs = omega arith
@@ -31,14 +22,8 @@ shown-requires c κs = omega arith
 returns : tie.Need-returns Inv-loop μ-loop
 returns c = turn-shown _ _ _ _ _ _ _ _ (c .before .before .before .before .loop .inv) (c .before .before .before .piece-at .ensures) (c .before .before .ending .ensures) _ (c .before .if1 .taken) (c .shown .ensures)
 
-no-run-requires : tie.Need-no-run-requires Inv-loop μ-loop
-no-run-requires c κs = search needs
-
 returns-2 : tie.Need-returns-2 Inv-loop μ-loop
 returns-2 c = turn-none _ _ _ _ _ _ _ _ (c .before .before .before .before .before .before .loop .inv) (c .before .before .before .before .before .piece-at .ensures) (c .before .before .before .before .ending .ensures) _ (c .before .before .before .if1 .left) (c .before .if2 .taken) (c .no-run .ensures)
-
-extended-requires : tie.Need-extended-requires Inv-loop μ-loop
-extended-requires c κs = search needs
 
 loop-less : tie.Need-loop-less Inv-loop μ-loop
 loop-less c = let h = turn-next _ _ _ _ _ _ _ _ (c .before .before .before .before .before .before .before .loop .inv) (c .before .before .before .before .before .before .piece-at .ensures) (c .before .before .before .before .before .ending .ensures) _ (c .before .before .before .before .if1 .left) (c .before .before .if2 .left) (c .before .extended .ensures) in omega (arith, h .more, h .head .within)
@@ -52,14 +37,14 @@ nth-spec =
     (tie.spec
     Inv-loop
     μ-loop
-    no-piece-requires
+    (search needs)
     loop-holds
-    piece-at-requires
-    ending-requires
+    (search needs)
+    (search needs)
     shown-requires
     returns
-    no-run-requires
+    (search needs)
     returns-2
-    extended-requires
+    (search needs)
     loop-less
     loop-again)

@@ -6,14 +6,8 @@ use borrow.Author.Needs.{needs}
 use Rattle.runs.proofs.octet.Statement.{statement}
 use Rattle.runs.proofs.octet.Tie as tie
 
-shared-slice-read-result : tie.Need-shared-slice-read-result
-shared-slice-read-result c = search needs
-
-returns : tie.Need-returns
-returns c = search needs
-
 returns-2 : tie.Need-returns-2
 returns-2 c = sym (List·getD-eq-default (now (c .before .args .part)) 0 (c .if1 .left))
 
 pub octet-spec : {M : Type 1} → statement M
-octet-spec = tie.close (tie.spec shared-slice-read-result returns returns-2)
+octet-spec = tie.close (tie.spec (search needs) (λ c. search needs) returns-2)

@@ -4,20 +4,11 @@ use Rattle.runs.proofs.Turn.{on-accepted, on-refused}
 use Rattle.runs.proofs.run_at.Statement.{statement}
 use Rattle.runs.proofs.run_at.Tie as tie
 
-answer-requires : tie.Need-answer-requires
-answer-requires c κs = search needs
-
-nth-requires : tie.Need-nth-requires
-nth-requires c κs = search needs
-
 returns : tie.Need-returns
 returns c = search (on-accepted, on-refused)
-
-no-run-requires : tie.Need-no-run-requires
-no-run-requires c κs = search needs
 
 returns-2 : tie.Need-returns-2
 returns-2 c = search (on-accepted, on-refused)
 
 pub run-at-spec : {M : Type 1} → statement M
-run-at-spec = tie.close (tie.spec answer-requires nth-requires returns no-run-requires returns-2)
+run-at-spec = tie.close (tie.spec (search needs) (search needs) returns (search needs) returns-2)

@@ -4,19 +4,10 @@ use borrow.Author.Needs.{needs}
 use Rattle.ctext.proofs.running.ctext_next_run.Statement.{statement}
 use Rattle.ctext.proofs.running.ctext_next_run.Tie as tie
 
-position-in-requires : tie.Need-position-in-requires
-position-in-requires c κs = search needs
-
-next-run-requires : tie.Need-next-run-requires
-next-run-requires c κs = search needs
-
-reader-of-requires : tie.Need-reader-of-requires
-reader-of-requires c κs = search needs
-
 returns : tie.Need-returns
 unfolding nextOf
 returns c =
     rw (← (c .before .before .before .before .position-in .ensures), ← (c .before .before .before .next-run .ensures), ← (c .reader-of .ensures))
 
 pub ctext-next-run-spec : {M : Type 1} → statement M
-ctext-next-run-spec = tie.close (tie.spec position-in-requires next-run-requires reader-of-requires returns)
+ctext-next-run-spec = tie.close (tie.spec (search needs) (search needs) (search needs) returns)

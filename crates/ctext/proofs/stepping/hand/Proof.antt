@@ -4,15 +4,6 @@ use borrow.Author.Needs.{needs}
 use Rattle.ctext.proofs.stepping.hand.Statement.{statement}
 use Rattle.ctext.proofs.stepping.hand.Tie as tie
 
-enum-known-item : tie.Need-enum-known-item
-enum-known-item c = search needs
-
-accepted-requires : tie.Need-accepted-requires
-accepted-requires c κs = search needs
-
-enum-known-item-2 : tie.Need-enum-known-item-2
-enum-known-item-2 c = search needs
-
 returns : tie.Need-returns
 unfolding stepOf
 returns c = rw (c .before .before .item .given .1, c .accepted .ensures)
@@ -23,4 +14,4 @@ returns-2 c = rw (c .before .item2 .given .1)
 
 pub hand-spec : {M : Type 1} → statement M
 hand-spec =
-    tie.close (tie.spec enum-known-item accepted-requires enum-known-item-2 returns returns-2)
+    tie.close (tie.spec (search needs) (search needs) (search needs) returns returns-2)

@@ -16,20 +16,11 @@ abbrev μ-loop : tie.MeasureT-loop
 loop-holds : tie.Need-loop-holds Inv-loop μ-loop
 loop-holds c = ones-first (c .pre)
 
-shared-slice-read-b : tie.Need-shared-slice-read-b Inv-loop μ-loop
-shared-slice-read-b c = search needs
-
 returns : tie.Need-returns Inv-loop μ-loop
 returns c = ones-stop (c .before .before .before .loop .inv) (λ h l m. omega (arith, c .if1 .taken, l))
 
 returns-2 : tie.Need-returns-2 Inv-loop μ-loop
 returns-2 c = ones-stop (c .before .before .before .before .loop .inv) (λ h l m. omega (arith, c .if2 .taken, m))
-
-add-i : tie.Need-add-i Inv-loop μ-loop
-add-i c = search needs
-
-loop-less : tie.Need-loop-less Inv-loop μ-loop
-loop-less c = search needs
 
 loop-again : tie.Need-loop-again Inv-loop μ-loop
 loop-again c = ones-more (c .before .before .before .before .loop .inv) (c .before .before .before .loop-test .taken) (c .before .if1 .left) (c .if2 .left)
@@ -44,10 +35,10 @@ ones-spec =
     Inv-loop
     μ-loop
     loop-holds
-    shared-slice-read-b
+    (search needs)
     returns
     returns-2
-    add-i
-    loop-less
+    (search needs)
+    (search needs)
     loop-again
     returns-3)

@@ -19,20 +19,11 @@ abbrev μ-loop : tie.MeasureT-loop
 loop-holds : tie.Need-loop-holds Inv-loop μ-loop
 loop-holds c = plain-first _ _ _ (c .before .pre)
 
-shared-slice-read-b : tie.Need-shared-slice-read-b Inv-loop μ-loop
-shared-slice-read-b c = search needs
-
-designation-at-requires : tie.Need-designation-at-requires Inv-loop μ-loop
-designation-at-requires c κs = search needs
-
 add-at : tie.Need-add-at Inv-loop μ-loop
 add-at c =
     let turn = c .before .before .before .before .before in
     let next = turn-designation _ _ _ _ _ (turn .before .loop .inv) _ (c .before .before .designation-at .ensures) (c .before .if2 .taken) in
     omega (arith, next .plain .within)
-
-designated-requires : tie.Need-designated-requires Inv-loop μ-loop
-designated-requires c κs = search needs
 
 loop-less : tie.Need-loop-less Inv-loop μ-loop
 loop-less c =
@@ -46,23 +37,11 @@ loop-again c =
     rw (c .designated .ensures)
     (turn-designation _ _ _ _ _ (turn .before .loop .inv) _ (c .before .before .before .designation-at .ensures) (c .before .before .if2 .taken) .plain)
 
-settled-requires : tie.Need-settled-requires Inv-loop μ-loop
-settled-requires c κs = search needs
-
-side-kind-requires : tie.Need-side-kind-requires Inv-loop μ-loop
-side-kind-requires c κs = search needs
-
 text-end-requires : tie.Need-text-end-requires Inv-loop μ-loop
 text-end-requires c κs = omega (arith, c .before .before .before .before .before .before .loop .inv .within)
 
-run-of-requires : tie.Need-run-of-requires Inv-loop μ-loop
-run-of-requires c κs = search needs
-
 shown-requires : tie.Need-shown-requires Inv-loop μ-loop
 shown-requires c κs = rw (c .run-of .ensures) (omega (arith, c .before .if4 .taken))
-
-step-to-requires : tie.Need-step-to-requires Inv-loop μ-loop
-step-to-requires c κs = search needs
 
 returns : tie.Need-returns Inv-loop μ-loop
 returns c =
@@ -75,17 +54,11 @@ returns c =
     (turn .loop-test .taken) _ _ _ _ _ (rw low (side-low _)) settled text (c .before .before .before .if4 .taken)
     (c .before .before .run-of .ensures) (c .before .shown .ensures) (c .step-to .ensures)
 
-piece-at-requires : tie.Need-piece-at-requires Inv-loop μ-loop
-piece-at-requires c κs = search needs
-
 text-end-requires-2 : tie.Need-text-end-requires-2 Inv-loop μ-loop
 text-end-requires-2 c κs =
     let turn = c .before .before .before .before .before .before in
     run-begun _ _ _ _ _ (turn .before .loop .inv) (λ i. omega (arith, turn .before .before .shared-slice-known .given i)) (turn .loop-test .taken) _
     (c .before .before .before .piece-at .ensures) (c .if5 .taken) .within
-
-run-of-requires-2 : tie.Need-run-of-requires-2 Inv-loop μ-loop
-run-of-requires-2 c κs = search needs
 
 shown-requires-2 : tie.Need-shown-requires-2 Inv-loop μ-loop
 shown-requires-2 c κs =
@@ -94,18 +67,12 @@ shown-requires-2 c κs =
     (turn .loop-test .taken) _ (c .before .before .before .before .before .piece-at .ensures) (c .before .before .if5 .taken) in
     rw (c .run-of2 .ensures) (omega (arith, begun .starts, begun .more, since-text (c .before .text-end2 .ensures)))
 
-step-to-requires-2 : tie.Need-step-to-requires-2 Inv-loop μ-loop
-step-to-requires-2 c κs = search needs
-
 returns-2 : tie.Need-returns-2 Inv-loop μ-loop
 returns-2 c =
     let turn = c .before .before .before .before .before .before .before .before .before .before in
     turn-begun _ _ _ _ _ (turn .before .loop .inv) (λ i. omega (arith, turn .before .before .shared-slice-known .given i)) (turn .loop-test .taken) _
     (c .before .before .before .before .before .before .before .piece-at .ensures) (c .before .before .before .before .if5 .taken) _ _ _ _
     (c .before .before .before .text-end2 .ensures) (c .before .before .run-of2 .ensures) (c .before .shown2 .ensures) (c .step-to2 .ensures)
-
-stop-at-requires : tie.Need-stop-at-requires Inv-loop μ-loop
-stop-at-requires c κs = search needs
 
 returns-3 : tie.Need-returns-3 Inv-loop μ-loop
 returns-3 c =
@@ -126,9 +93,6 @@ loop-again-2 c =
     turn-past _ _ _ _ _ (turn .before .loop .inv) _ (c .before .before .before .before .before .piece-at .ensures) (c .if6 .left)
     (le-ltb _ _ (c .before .before .if5 .left)) .plain
 
-stop-at-requires-2 : tie.Need-stop-at-requires-2 Inv-loop μ-loop
-stop-at-requires-2 c κs = search needs
-
 returns-4 : tie.Need-returns-4 Inv-loop μ-loop
 returns-4 c = turn-over _ _ _ _ _ (c .before .before .loop .inv) _ (c .before .loop-test .left) (c .stop-at2 .ensures)
 
@@ -139,28 +103,28 @@ run-from-spec =
     Inv-loop
     μ-loop
     loop-holds
-    shared-slice-read-b
-    designation-at-requires
+    (search needs)
+    (search needs)
     add-at
-    designated-requires
+    (search needs)
     loop-less
     loop-again
-    settled-requires
-    side-kind-requires
+    (search needs)
+    (search needs)
     text-end-requires
-    run-of-requires
+    (search needs)
     shown-requires
-    step-to-requires
+    (search needs)
     returns
-    piece-at-requires
+    (search needs)
     text-end-requires-2
-    run-of-requires-2
+    (search needs)
     shown-requires-2
-    step-to-requires-2
+    (search needs)
     returns-2
-    stop-at-requires
+    (search needs)
     returns-3
     loop-less-2
     loop-again-2
-    stop-at-requires-2
+    (search needs)
     returns-4)

@@ -5,11 +5,8 @@ use borrow.Author.Needs.{needs}
 use Rattle.runs.proofs.stepping.stays.Statement.{statement}
 use Rattle.runs.proofs.stepping.stays.Tie as tie
 
-no-run-requires : tie.Need-no-run-requires
-no-run-requires c κs = search needs
-
 returns : tie.Need-returns
 returns c = ap (runStep _) (c .no-run .ensures)
 
 pub stays-spec : {M : Type 1} → statement M
-stays-spec = tie.close (tie.spec no-run-requires returns)
+stays-spec = tie.close (tie.spec (search needs) returns)

@@ -7,55 +7,10 @@ use borrow.Author.Needs.{needs}
 use Rattle.runs.proofs.stepping.stop_at.Statement.{statement}
 use Rattle.runs.proofs.stepping.stop_at.Tie as tie
 
-refused-requires : tie.Need-refused-requires
-refused-requires c κs = search needs
-
-element-requires : tie.Need-element-requires
-element-requires c κs = search needs
-
-enum-told : tie.Need-enum-told
-enum-told c = search needs
-
-no-run-requires : tie.Need-no-run-requires
-no-run-requires c κs = search needs
-
-step-to-requires : tie.Need-step-to-requires
-step-to-requires c κs = search needs
-
-enum-known-e : tie.Need-enum-known-e
-enum-known-e c = search needs
-
 add-place : tie.Need-add-place
 add-place c =
     let h = refused-within _ _ _ _ (c .before .before .before .element .ensures) (c .before .e .given .1) in
     omega arith
-
-refused-requires-2 : tie.Need-refused-requires-2
-refused-requires-2 c κs = search needs
-
-no-run-requires-2 : tie.Need-no-run-requires-2
-no-run-requires-2 c κs = search needs
-
-step-to-requires-2 : tie.Need-step-to-requires-2
-step-to-requires-2 c κs = search needs
-
-enum-known-e-2 : tie.Need-enum-known-e-2
-enum-known-e-2 c = search needs
-
-no-run-requires-3 : tie.Need-no-run-requires-3
-no-run-requires-3 c κs = search needs
-
-step-to-requires-3 : tie.Need-step-to-requires-3
-step-to-requires-3 c κs = search needs
-
-enum-known-e-3 : tie.Need-enum-known-e-3
-enum-known-e-3 c = search needs
-
-no-run-requires-4 : tie.Need-no-run-requires-4
-no-run-requires-4 c κs = search needs
-
-step-to-requires-4 : tie.Need-step-to-requires-4
-step-to-requires-4 c κs = search needs
 
 returns : tie.Need-returns
 unfolding stopAt
@@ -85,22 +40,22 @@ pub stop-at-spec : {M : Type 1} → statement M
 stop-at-spec =
     tie.close
     (tie.spec
-    refused-requires
-    element-requires
-    enum-told
-    no-run-requires
-    step-to-requires
-    enum-known-e
+    (search needs)
+    (search needs)
+    (search needs)
+    (search needs)
+    (search needs)
+    (search needs)
     add-place
-    refused-requires-2
-    no-run-requires-2
-    step-to-requires-2
-    enum-known-e-2
-    no-run-requires-3
-    step-to-requires-3
-    enum-known-e-3
-    no-run-requires-4
-    step-to-requires-4
+    (search needs)
+    (search needs)
+    (search needs)
+    (search needs)
+    (search needs)
+    (search needs)
+    (search needs)
+    (search needs)
+    (search needs)
     returns
     returns-2
     returns-3

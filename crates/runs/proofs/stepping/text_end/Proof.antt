@@ -6,42 +6,21 @@ use Rattle.runs.specs.Spans as spans
 use Rattle.runs.proofs.stepping.text_end.Statement.{statement}
 use Rattle.runs.proofs.stepping.text_end.Tie as tie
 
-form-of-requires : tie.Need-form-of-requires
-form-of-requires c κs = search needs
-
-twos-requires : tie.Need-twos-requires
-twos-requires c κs = search needs
-
 returns : tie.Need-returns
 returns c = doubly (spans.left (c .before .before .before .if1 .taken) (sym (c .before .before .form-of .ensures) ∙ c .before .if2 .taken))
     (c .twos .ensures)
-
-ones-requires : tie.Need-ones-requires
-ones-requires c κs = search needs
 
 returns-2 : tie.Need-returns-2
 returns-2 c = singly (spans.left (c .before .before .before .if1 .taken) (λ e. c .before .if2 .left (c .before .before .form-of .ensures ∙ e)))
     (c .ones .ensures)
 
-form-of-requires-2 : tie.Need-form-of-requires-2
-form-of-requires-2 c κs = search needs
-
-ones-requires-2 : tie.Need-ones-requires-2
-ones-requires-2 c κs = search needs
-
 returns-3 : tie.Need-returns-3
 returns-3 c = singly (spans.right-96 (c .before .before .before .if1 .left) (sym (c .before .before .form-of2 .ensures) ∙ c .before .if3 .taken))
     (c .ones2 .ensures)
 
-twos-requires-2 : tie.Need-twos-requires-2
-twos-requires-2 c κs = search needs
-
 returns-4 : tie.Need-returns-4
 returns-4 c = doubly (spans.right (c .before .before .before .before .if1 .left)
     (sym (c .before .before .before .form-of2 .ensures) ∙ c .before .if4 .taken)) (c .twos2 .ensures)
-
-ones-requires-3 : tie.Need-ones-requires-3
-ones-requires-3 c κs = search needs
 
 returns-5 : tie.Need-returns-5
 returns-5 c =
@@ -53,15 +32,15 @@ pub text-end-spec : {M : Type 1} → statement M
 text-end-spec =
     tie.close
     (tie.spec
-    form-of-requires
-    twos-requires
+    (search needs)
+    (search needs)
     returns
-    ones-requires
+    (search needs)
     returns-2
-    form-of-requires-2
-    ones-requires-2
+    (search needs)
+    (search needs)
     returns-3
-    twos-requires-2
+    (search needs)
     returns-4
-    ones-requires-3
+    (search needs)
     returns-5)

@@ -19,15 +19,6 @@ loop-holds c = twos-first (c .pre)
 sub-loop : tie.Need-sub-loop Inv-loop μ-loop
 sub-loop c = omega (arith, c .loop .inv .within)
 
-shared-slice-read-b : tie.Need-shared-slice-read-b Inv-loop μ-loop
-shared-slice-read-b c = search needs
-
-add-d : tie.Need-add-d Inv-loop μ-loop
-add-d c = search needs
-
-shared-slice-read-d : tie.Need-shared-slice-read-d Inv-loop μ-loop
-shared-slice-read-d c = search needs
-
 returns : tie.Need-returns Inv-loop μ-loop
 returns c = twos-stop (c .before .before .before .before .loop .inv) (λ h. omega (arith, c .if1 .taken, h .low))
 
@@ -39,12 +30,6 @@ returns-3 c = twos-stop (c .before .before .before .before .before .before .loop
 
 returns-4 : tie.Need-returns-4 Inv-loop μ-loop
 returns-4 c = twos-stop (c .before .before .before .before .before .before .before .loop .inv) (λ h. omega (arith, c .if4 .taken, h .high-2))
-
-add-i : tie.Need-add-i Inv-loop μ-loop
-add-i c = search needs
-
-loop-less : tie.Need-loop-less Inv-loop μ-loop
-loop-less c = search needs
 
 loop-again : tie.Need-loop-again Inv-loop μ-loop
 loop-again c =
@@ -68,14 +53,14 @@ twos-spec =
     μ-loop
     loop-holds
     sub-loop
-    shared-slice-read-b
-    add-d
-    shared-slice-read-d
+    (search needs)
+    (search needs)
+    (search needs)
     returns
     returns-2
     returns-3
     returns-4
-    add-i
-    loop-less
+    (search needs)
+    (search needs)
     loop-again
     returns-5)
