@@ -64,7 +64,7 @@ unfoldable pub Lawful : List TextUnit → ℕ → ℕ → ℕ → Type 0
 Lawful [] b r t = Unit {0}
 Lawful (u ∷ us) b r t = May u b r t × Lawful us (addIf (begins u) b) (addIf (reverts u) r) (addIf (counts u) t)
 
--- the string is accepted and reads as the units
+-- the string is accepted and reads as the units; at its end directions may be open (rule E10)
 pub record Accepted (s : List ℕ) (us : List TextUnit) : Type 0 where
   pub reads : Reads (fresh .sets) s us
   pub rule : Lawful us 0 0 0

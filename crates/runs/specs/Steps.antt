@@ -1,4 +1,4 @@
--- The runs of a string one after the other: from a position the next run is shown, and where it ends the next position stands. A position is
+-- The runs of a string one after the other (rule R7): from a position the next run is shown, and where it ends the next position stands. A position is
 -- a place of the string, the state there, and whether the whole string is known to be accepted.
 use Prim.Native.Nat.{ℕ, zero, suc, _+_}
 use mathlib.Core.Bool.{Bool, true, false}

@@ -71,7 +71,7 @@ pub data Bad (o : List ℕ) (r : UnitRecord) : ℕ → Type 0 where
   bad-length : Placed o r → mostOfSegment < r .length → Bad o r refusal.bad-segment
   bad-content : Placed o r → segment (r .code) 0 (take (r .length) (drop (r .start) o)) ≡ false → Bad o r refusal.bad-segment
 
--- a string of octets that is of the grammar and reads as the units, its length aside
+-- a string of octets that is of the grammar and reads as the units, its length aside (rule N8)
 pub record Grammatical (t : List ℕ) (us : List TextUnit) : Type 0 where
   pub octets : Octets t
   pub reads : Reads (fresh .sets) t us
