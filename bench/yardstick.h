@@ -1,5 +1,5 @@
 // A validator of compound text in C, by tables: the base of the ratios that bench/run prints, and what tests/exhaustive compares the library
-// with. It is made from the words of document 01 and not from the library's code, and follows each later request by its words too.
+// with. It is made from the words of the rules (docs/RULES.md) and not from the library's code, and follows each later request by its words too.
 #ifndef YARDSTICK_H
 #define YARDSTICK_H
 

@@ -181,8 +181,9 @@ typedef struct ctext_run_bounds {
     uint8_t direction;
 } ctext_run_bounds;
 
-/* The run of number k, from 0, of the n octets at s. A run is a longest stretch
-   of GL or of GR octets of characters and spaces, unbroken by any other octet.
+/* The run of number k, from 0, of the n octets at s. A run is as many
+   characters and spaces as follow each other on one side, GL or GR, with no
+   other octet between them.
    Shown: 0, n and the run's octets. A refused string: its refusal. Past the
    last run: CTEXT_BAD_UNIT at 0. Beside a refusal all else is 0. Reads s,
    touches nothing. Each call checks all n octets and reads on to run k, so all

@@ -1,4 +1,4 @@
--- The direction in force: document 01 leaves its numbers open, and this is how we number it (docs/DECISIONS.md).
+-- The numbers of the direction in force (rule R3).
 use Prim.Native.Nat.{ℕ}
 
 abbrev pub none : ℕ

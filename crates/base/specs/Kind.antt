@@ -1,4 +1,4 @@
--- Document 01: "A unit has kind (0 to 7: character, space, tab, newline, left-to-right, right-to-left, revert, extended segment)".
+-- The numbers of a unit's kind (rule U1). `kind.tab` and the like, where this module is used as `kind`.
 use Prim.Native.Nat.{ℕ}
 
 abbrev pub character : ℕ

@@ -1,4 +1,4 @@
--- Document 01: "A string has at most 65,535 octets; a list at most 65,535 units; at most 16 directions are open at once."
+-- The limits: octets of a string, units of a list, directions open at once (rules J1, J2, J3).
 use Prim.Native.Nat.{ℕ}
 
 abbrev pub octets : ℕ

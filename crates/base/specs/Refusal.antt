@@ -1,54 +1,54 @@
--- Document 01, "Numbers of refusal". `refusal.cut` and the like, where this module is used as `refusal`.
+-- The numbers of refusal (rule N10). `refusal.cut` and the like, where this module is used as `refusal`.
 use Prim.Native.Nat.{ℕ}
 
 -- no refusal
 abbrev pub accepted : ℕ
 accepted = 0
 
--- string or list over 65,535, or shortest writing over it
+-- a string, a list or a shortest writing over its limit
 abbrev pub too-long : ℕ
 too-long = 1
 
--- end inside an element
+-- the string ends inside an element
 abbrev pub cut : ℕ
 cut = 2
 
--- octet not used there
+-- an octet that is not used there
 abbrev pub unused : ℕ
 unused = 3
 
--- unknown sequence
+-- an unknown sequence
 abbrev pub unknown : ℕ
 unknown = 4
 
--- set not approved for that form
+-- a designation of none of the fifteen sets
 abbrev pub not-approved : ℕ
 not-approved = 5
 
--- version sequence
+-- a version sequence
 abbrev pub version : ℕ
 version = 6
 
--- bad extended segment; in a unit also n over 16,383
+-- a bad extended segment
 abbrev pub bad-segment : ℕ
 bad-segment = 7
 
--- direction rule
+-- the direction rule
 abbrev pub direction : ℕ
 direction = 8
 
--- too deep
+-- too many directions open
 abbrev pub too-deep : ℕ
 too-deep = 9
 
--- output too short
+-- a list or an output that is too short
 abbrev pub no-room : ℕ
 no-room = 10
 
--- bad unit; no such run; no such reader
+-- a bad unit; a run or a reader that is none
 abbrev pub bad-unit : ℕ
 bad-unit = 11
 
--- work room under 72 × (units + 1) octets
+-- too little work room
 abbrev pub no-work-room : ℕ
 no-work-room = 12

@@ -1,4 +1,4 @@
-// The numbers that document 01 gives a meaning, each under a name; the answer that every entry point gives; the record of a unit.
+// The numbers of the rules, each under a name; the answer that every entry point gives; the record of a unit.
 ghost use mathlib.Core.Path.{_≡_};
 ghost use Rattle.base.specs.Answers.{answer, refusedAt};
 ghost use Rattle.base.specs.Refusal.{accepted};

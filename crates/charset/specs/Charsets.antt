@@ -1,4 +1,4 @@
--- The fifteen sets of document 01, "The fifteen sets", and the set that a designation names.
+-- The fifteen sets, and the set that a designation names (rule S1).
 use Prim.Native.Nat.{ℕ, suc}
 use mathlib.Core.Bool.{Bool, true, false}
 use mathlib.Core.List.{List, [], _∷_}
@@ -8,7 +8,7 @@ use Rattle.base.specs.Choice.{pick}
 use Rattle.charset.specs.declared.Side.{Side}
 use Rattle.charset.specs.declared.Side.the-variants.{GL, GR}
 
--- the column "Octets": 94, 96, 94 by 94
+-- the forms: a set of 94, of 96, of 94 by 94
 abbrev pub form-94 : ℕ
 form-94 = 1
 

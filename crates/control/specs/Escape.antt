@@ -12,7 +12,7 @@ use Rattle.state.specs.Elements.{refused, next}
 use Rattle.state.specs.declared.elements.Shape.{Shape}
 use Rattle.state.specs.declared.elements.Shape.the-variants.{Designates}
 
--- after the first intermediate: further ones 20-2F, "then a final 40-7E; any other octet: 4. A final .. that follows intermediates: 5."
+-- after the first intermediate: further ones 20 to 2F, and then a final, for which no set is approved (rule E1e)
 unfoldable pub intermediatesOf : List ℕ → Shape
 intermediatesOf [] = refused refusal.cut
 intermediatesOf (b ∷ t) =
@@ -20,7 +20,7 @@ intermediatesOf (b ∷ t) =
     (pick (ltb b 0x30) (intermediatesOf t)
     (pick (ltb b 0x40) (refused refusal.unknown) (pick (ltb b 0x7F) (refused refusal.not-approved) (refused refusal.unknown))))
 
--- a designation of a set, whose octets are four for 94 by 94 and else three: "A final that is no row of the table for that form .. : 5."
+-- a designation of a set, whose octets are four for 94 by 94 and else three; no-set is refused (rule E1e)
 unfoldable pub designatesOf : ℕ → Side → ℕ → Shape
 designatesOf form side set =
     pick (ltb set no-set)
@@ -31,7 +31,7 @@ designatesOf form side set =
 abbrev pub finalOf : ℕ → Side → ℕ → Shape
 finalOf form side last = designatesOf form side (setOf form side last)
 
--- after 1B 28, 1B 29, 1B 2D, 1B 24 28, 1B 24 29: "zero or more intermediates 20-2F, the first of them 21-23 (else 4), then a final 40-7E"
+-- after 1B 28, 1B 29, 1B 2D, 1B 24 28, 1B 24 29: a first intermediate, 21 to 23, or a final, 40 to 7E (rule E1e)
 unfoldable pub designationOf : ℕ → Side → List ℕ → Shape
 designationOf form side t =
     next t
@@ -49,7 +49,7 @@ multiOctetOf t =
     pick (eqb b 0x28) (designationOf form-94x94 GL u)
     (pick (eqb b 0x29) (designationOf form-94x94 GR u) (refused refusal.unknown)))
 
--- after 1B: "`1B 23`, whatever follows: 6"; "Any other octet in an escape or CSI sequence: 4."
+-- after 1B: a designation, an extended segment, a version sequence (rule E3), or unknown (rule E1h)
 unfoldable pub escapeOf : List ℕ → Shape
 escapeOf t =
     next t

@@ -1,4 +1,4 @@
--- Direction marks: "`9B 31 5D` begins left-to-right, `9B 32 5D` right-to-left, `9B 5D` reverts."
+-- Direction marks (rule E1i).
 use Prim.Native.Nat.{ℕ}
 use mathlib.Core.List.{List}
 use lib.Dec.{eqb}
@@ -12,7 +12,7 @@ use Rattle.state.specs.declared.elements.Shape.{Shape}
 unfoldable pub beginOf : ℕ → List ℕ → Shape
 beginOf k t = next t (λ b _. pick (eqb b 0x5D) (unit k 0 0 3) (refused refusal.unknown))
 
--- after 9B: "Any other octet in an escape or CSI sequence: 4."
+-- after 9B
 unfoldable pub csiOf : List ℕ → Shape
 csiOf t =
     next t

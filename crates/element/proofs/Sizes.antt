@@ -40,8 +40,7 @@ use Rattle.segment.specs.declared.Name.the-variants.{Ends as NameEnds, Bad}
 
 -- ---- a shape
 
--- a kind, set and code that a unit may have: "Only a character has a set; only a character and an extended segment have a code."; "Set
--- and code are 0 where they mean nothing."
+-- a kind, set and code that a unit may have, with 0 for what the kind does not use (rule U1)
 pub data Meant : ℕ → ℕ → ℕ → Type 0 where
   with-set : {set code : ℕ} → Meant kind.character set code
   with-none : {k : ℕ} → k < kind.segment → Meant k 0 0

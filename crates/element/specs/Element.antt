@@ -1,5 +1,5 @@
--- One element, as document 01's "Elements, read from left to right" has it: its shape is a function of the octets that are left and of
--- the sets in force, and the element of its shape and of the state.
+-- One element (rule E1): its shape is a function of the octets that are left and of the sets in force, and the element of its shape and of
+-- the state.
 use Prim.Native.Nat.{ℕ}
 use mathlib.Core.List.{List, [], _∷_}
 use lib.Dec.{eqb, ltb}
@@ -22,7 +22,7 @@ use Rattle.state.specs.declared.elements.Element.{Element}
 use Rattle.state.specs.declared.elements.Element.the-variants.{End, Refused, Silent, Found}
 use Rattle.text.specs.Text.{textOf}
 
--- its shape: "`09` tab, `0A` newline. Every other octet 00-1F or 80-9F except 1B and 9B: refusal 3."; "7F: refusal 3."
+-- its shape, by its first octet (rules E1a, E1b, E1c)
 unfoldable pub shapeOf : List ℕ → Sets → Shape
 shapeOf [] s = Ends
 shapeOf (b ∷ t) s =
@@ -39,8 +39,8 @@ unfoldable pub steppedOf : Part → State → Step → Element
 steppedOf p st (Goes d) = Found p (directedTo d st)
 steppedOf p st (Stops n) = Refused n 0
 
--- a shape under a state: a designation changes the sets, and a unit the directions, by the direction rule, which comes after the shape:
--- "the first offending element (its own shape before 8 and 9)"; "Designations and directions don't affect each other."
+-- a shape under a state: a designation changes the sets alone, and a unit the directions alone, by the direction rule, which is asked after
+-- the shape (rules E11, N5)
 unfoldable pub directedOf : Shape → State → Element
 directedOf Ends st = End
 directedOf (Refuses n o) st = Refused n o

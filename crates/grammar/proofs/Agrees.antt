@@ -284,7 +284,7 @@ refused-count s = go (ltb limit.octets (length s))
     go true n = refl
     go false n = other (none-counted 0 (elementsOf s)) n
 
--- "A string is accepted where it has at most 65,535 octets and no element of it is refused."
+-- which strings are accepted (rule U5)
 pub accepted-where : (s : List ℕ) → Octets s → (checkOf s .number ≡ refusal.accepted) ↔ ((length s ≤ limit.octets) × (noneRefused (elementsOf s) ≡ true))
 unfolding checkOf pick
 accepted-where s o = (

@@ -1,4 +1,4 @@
--- The direction rule by steps is that of document 01's words: the directions after a list of units keep what the counts of marks and
+-- The direction rule by steps is that over counts of marks and text (`Lawful`): the directions after a list of units keep what the counts of marks and
 -- of text say (`Like`), and a unit may follow exactly where its step goes on (`After`).
 use Prim.Native.Nat.{ℕ, _+_, _-_, _≤_, _<_}
 use native.Mathlib.Omega.{arith}

@@ -31,15 +31,15 @@ pub data Reads : Sets → List ℕ → List TextUnit → Type 0 where
 
 -- ---- the direction rule, by what came before a unit: b marks that begin, r that revert, and t units of text
 
--- text: "a character or space with none open is then 8": no mark came before, or a direction is open
+-- text: no mark came before, or a direction is open (rule E7)
 abbrev pub TextMay : ℕ → ℕ → Type 0
 TextMay b r = (b + r ≡ 0) ⊎ (r < b)
 
--- a mark that begins: "the first must come before the first character or space", and "A seventeenth open direction is 9."
+-- a mark that begins: no text came before, or a mark did (rule E6), and fewer than the limit are open (rule E8)
 abbrev pub BeginMay : ℕ → ℕ → ℕ → Type 0
 BeginMay b r t = ((t ≡ 0) ⊎ (1 ≤ b + r)) × (b < r + limit.depth)
 
--- a revert: "a revert with none open is 8"
+-- a revert: a direction is open (rule E5)
 abbrev pub RevertMay : ℕ → ℕ → Type 0
 RevertMay b r = r < b
 
@@ -64,7 +64,7 @@ unfoldable pub Lawful : List TextUnit → ℕ → ℕ → ℕ → Type 0
 Lawful [] b r t = Unit {0}
 Lawful (u ∷ us) b r t = May u b r t × Lawful us (addIf (begins u) b) (addIf (reverts u) r) (addIf (counts u) t)
 
--- the string is accepted and reads as the units
+-- the string is accepted and reads as the units; at its end directions may be open (rule E10)
 pub record Accepted (s : List ℕ) (us : List TextUnit) : Type 0 where
   pub reads : Reads (fresh .sets) s us
   pub rule : Lawful us 0 0 0

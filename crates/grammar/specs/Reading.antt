@@ -47,19 +47,18 @@ elements [] k at st = end-at at
 elements (b ∷ t) zero at st = onward at (elementOf (b ∷ t) st) (λ k next. elements t k (at + 1) next)
 elements (b ∷ t) (suc k) at st = elements t k (at + 1) st
 
--- those of a string: "Every string starts from" the fresh state
+-- those of a string, from the fresh state (rule S2)
 abbrev pub elementsOf : List ℕ → Elements
 elementsOf s = elements s 0 0 fresh
 
--- what elements answer after so many units: "Accepted is 0, the input's length, and the units"; "A refusal has count 0"; "Place: where the
--- offending element starts"
+-- what elements answer after so many units: of the end 0, the length and the units, of a refusal its number and place (rules N1, N2)
 unfoldable pub answerOf : ℕ → Elements → Answer
 answerOf count (end-at at) = answer refusal.accepted at count
 answerOf count (refused-at at n o) = refusedAt n (at + o)
 answerOf count (silent-at at k st es) = answerOf count es
 answerOf count (found-at at p st es) = answerOf (count + 1) es
 
--- "Reader order: 1, then the first offending element"
+-- the answer of a string: the limit is asked first, and then its elements (rules J1, N5)
 unfoldable pub checkOf : List ℕ → Answer
 checkOf s = pick (ltb limit.octets (length s)) (refusedAt refusal.too-long 0) (answerOf 0 (elementsOf s))
 
@@ -81,7 +80,7 @@ unitsOf t (refused-at at n o) = []
 unitsOf t (silent-at at k st es) = unitsOf (drop k t) es
 unitsOf t (found-at at p st es) = unitAt p t ∷ unitsOf (drop (size p) t) es
 
--- "Designations aren't in it."
+-- the reading of a string, in which there are no designations (rule U3)
 unfoldable pub readingOf : List ℕ → List TextUnit
 readingOf s = unitsOf s (elementsOf s)
 

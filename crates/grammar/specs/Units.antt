@@ -13,12 +13,11 @@ use Rattle.state.specs.Directions.{countsAsText}
 use Rattle.state.specs.State.{Standing}
 use Rattle.text.specs.Text.{graphicOf}
 
--- "tab, newline, left-to-right, right-to-left, revert": the units that have neither set nor code and need no set
+-- the units that have neither set nor code and need no set
 pub data Control : Type 0 where
   tab newline ltr rtl revert : Control
 
--- "The reading of a string is its units, extended segments by their d and n octets, without start, length or side."
--- "Only a character has a set; only a character and an extended segment have a code."
+-- a unit of a reading: a character by its set and code, an extended segment by d and its n octets (rule U3)
 pub data TextUnit : Type 0 where
   char : ℕ → ℕ → TextUnit
   space : TextUnit
@@ -96,7 +95,7 @@ octets d space = 0x20 ∷ []
 octets d (control x) = controlOctets x
 octets d (ext e xs) = 0x1B ∷ 0x25 ∷ 0x2F ∷ e ∷ (128 + length xs / 128) ∷ (128 + length xs % 128) ∷ xs
 
--- "Designations: `1B 28 F` (94, GL), `1B 29 F` (94, GR), `1B 2D F` (96, GR), `1B 24 28 F` and `1B 24 29 F` (94 by 94, GL and GR)."
+-- the octets of a designation before its final, by form and side (rule S1)
 abbrev pub lead : ℕ → Side → List ℕ → List ℕ
 lead form GL t = cond (eqb form form-94x94) (0x1B ∷ 0x24 ∷ 0x28 ∷ t) (0x1B ∷ 0x28 ∷ t)
 lead form GR t =
@@ -107,13 +106,13 @@ designation p = lead (formOf (p .set)) (p .side) (rowOf (p .set) .last ∷ [])
 
 -- ---- which units there are
 
--- the codes that a set of a form uses: "a 94 set uses A1-FE, a 96 set A0-FF, a two-octet set two octets A1-FE", less the top bit
+-- the codes that a set of a form uses (rule N9)
 unfoldable pub codeUsed : ℕ → ℕ → Bool
 codeUsed form k =
     cond (eqb form form-94x94) (graphicOf (k / 256) && graphicOf (k % 256))
     (cond (eqb form form-96) (leb 0x20 k && leb k 0x7F) (graphicOf k))
 
--- "They hold a name, 02, and a text": a name that has n octets before these and ends at the first 02, and a text
+-- octets of a segment: a name that has n octets before these and ends at the first 02, and a text (rule E1g)
 unfoldable pub segment : ℕ → ℕ → List ℕ → Bool
 segment e n [] = false
 segment e n (x ∷ xs) =

@@ -1,1 +1,1 @@
-// No code: the definitions of document 01's rules are in specs/, and the proof that they agree in proofs/.
+// No code: the definitions of the rules are in specs/, and the proof that they agree in proofs/.

@@ -88,6 +88,6 @@ end-to-end s o h =
     let z : t .last ≡ length s = t .whole (accepted-where s o .0 h .1) in
     rw z at (t .tiles)
 
--- "Each octet of an accepted string lies in exactly one run, tab, newline, control sequence or extended segment."
+-- no octet of an accepted string is left out of its pieces, and none is in two (rule R6)
 pub exactly-one : (s : List ℕ) → Octets s → checkOf s .number ≡ refusal.accepted → (i : ℕ) → i < length s → holding (piecesOf s) i ≡ 1
 exactly-one s o h i k = among i (end-to-end s o h) zero-le k

@@ -1,5 +1,4 @@
--- The pieces of a string. Document 01: "Each octet of an accepted string lies in exactly one run, tab, newline, control sequence or
--- extended segment."
+-- The pieces of a string: runs, tabs, newlines, control sequences and extended segments, end to end (rules R1, R6).
 use Prim.Native.Nat.{ℕ, _+_}
 use mathlib.Core.Bool.{Bool, false}
 use mathlib.Core.List.{List, [], _∷_}
@@ -22,7 +21,7 @@ piece start end k st = record { start = start; end = end; kind = k; state = st }
 abbrev pub noPiece : ℕ → Piece
 noPiece at = piece at at pieceKind.none fresh
 
--- "GL or .. GR octets": a GR octet has its top bit set
+-- the side of an octet: a GR octet has its top bit set
 unfoldable pub sideKindOf : ℕ → ℕ
 sideKindOf b = pick (ltb b 128) pieceKind.gl-run pieceKind.gr-run
 
@@ -55,8 +54,7 @@ sameRunOf j k = pick (isRun j) (eqb j k) false
 abbrev pub longer : Piece → Piece → Piece
 longer p q = piece (p .start) (q .end) (p .kind) (p .state)
 
--- a piece before others; it is joined to the first of them where they are of one run: "A run is a longest stretch of GL or of GR
--- octets of characters and spaces, unbroken by any other octet."
+-- a piece before others; it is joined to the first of them where they are of one run, so that each run is as long as can be (rule R1)
 unfoldable pub joined : Piece → List Piece → List Piece
 joined p [] = p ∷ []
 joined p (q ∷ qs) = pick (sameRunOf (p .kind) (q .kind)) (longer p q ∷ qs) (p ∷ q ∷ qs)

@@ -1,4 +1,4 @@
--- What is printed, in document 01's words: of an accepted string of up to 909 units an accepted string of the same reading, and none is
+-- What is printed (rules P2, P3): of an accepted string of up to 909 units an accepted string of the same reading, and none is
 -- shorter (`printed-shortest`); of one of more units 12 at 0 (`printed-more`); of a refused string its refusal (`printed-refused`), which
 -- for more than 65,535 octets is 1 at 0 (`printed-too-long`).
 use Prim.Native.Nat.{ℕ, _≤_, _<_}

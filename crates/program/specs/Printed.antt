@@ -1,5 +1,4 @@
--- What the program prints for an input: "The program reads a string and writes its shortest form, nothing added; or `refused N at P` and a
--- newline."
+-- What the program prints for an input: its shortest form, or a line with the refusal (rules P2 to P4).
 use Prim.Native.Nat.{ℕ, zero, suc, _+_, _/_, _%_}
 use mathlib.Core.List.{List, [], _∷_, _++_}
 use lib.ListN.{length, drop}
@@ -13,7 +12,7 @@ use Rattle.shortest.specs.Records.{workRoom}
 use Rattle.shortest.specs.Writing.{writing}
 use Rattle.state.specs.State.{fresh}
 
--- "It serves up to 909 units (65,520 octets of work room); an accepted string of more is refused 12 at 0."
+-- the work room of the program: that of 909 units (rule P3)
 abbrev pub room : ℕ
 room = workRoom 909
 
@@ -42,6 +41,6 @@ printedOf s =
     let a = shortestAnswer s room limit.octets in
     pick (eqb (a .number) refusal.accepted) (writing (readingOf s) (fresh .sets)) (refusalLine (a .number) (a .place))
 
--- an output after a text was stored from its first place on: "the rest of the output stays"; where the text has more octets, all of it
+-- an output after a text was stored from its first place on; the rest stays, and all of it where the text has more octets
 unfoldable pub storedIn : List ℕ → List ℕ → List ℕ
 storedIn text out = pick (leb (length text) (length out)) (text ++ drop (length text) out) out

@@ -38,7 +38,7 @@ module _ (s : List ℕ) (old : List UnitRecord) where
       rw e (accepts z (records-count s z) (rw (records-count s z) at (ltb-false (length old) (checkOf s .count) k)))
   by false y e k = rw e (refuses (λ z. false≢true (sym e ∙ eq-eqb (checkOf s .number) refusal.accepted z)))
 
-  -- "Reader order: 1, then the first offending element .., then 10."; "Refusals leave answer lists and output untouched"
+  -- the reader's order, and what each answer leaves in the list (rules N5, N7)
   pub read-cases : Case s old (readAnswer s (length old)) (listAfter s old)
   unfolding readAnswer listAfter
   read-cases = by (eqb (checkOf s .number) refusal.accepted) (ltb (length old) (checkOf s .count)) refl refl

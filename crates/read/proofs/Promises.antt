@@ -46,7 +46,7 @@ module _ (s : List ℕ) (old : List UnitRecord) where
   abbrev pub storedRecords : List UnitRecord
   storedRecords = take (a .count) (listAfter s old)
 
-  -- "The caller lends a list of unit records, filled from its first place"
+  -- the list starts with the string's records (rule U6)
   pub list-stored : a .number ≡ refusal.accepted → storedRecords ≡ recordsOf s
   list-stored z = stored (read-cases s old) z
 
@@ -54,18 +54,18 @@ module _ (s : List ℕ) (old : List UnitRecord) where
   pub checked : a .number ≡ refusal.accepted → checkOf s .number ≡ refusal.accepted
   checked z = string-accepted (read-cases s old) z
 
-  -- "A string reads as a list where their two readings are equal."
+  -- they read as the string (rule U4)
   pub list-reads : a .number ≡ refusal.accepted → listReading s storedRecords ≡ some (readingOf s)
   list-reads z = ap (listReading s) (list-stored z) ∙ records-read s
 
-  -- "Set and code are 0 where they mean nothing."
+  -- each has 0 for what its kind does not use (rule U1)
   pub list-meant : a .number ≡ refusal.accepted → AllMeant storedRecords
   list-meant z = rw (list-stored z) (records-meant s)
 
-  -- "the rest stays"
+  -- what follows them stays (rule U6)
   pub list-rest : a .number ≡ refusal.accepted → drop (a .count) (listAfter s old) ≡ drop (a .count) old
   list-rest z = rest (read-cases s old) z
 
-  -- "Refusals leave answer lists and output untouched"
+  -- a refusal leaves the list (rule N7)
   pub list-stays : (a .number ≡ refusal.accepted → ⊥) → listAfter s old ≡ old
   list-stays n = untouched (read-cases s old) n

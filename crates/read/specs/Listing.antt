@@ -11,8 +11,7 @@ use Rattle.base.specs.declared.Unit.{Unit as UnitRecord}
 use Rattle.grammar.specs.Reading.{checkOf}
 use Rattle.units.specs.Records.{recordsOf}
 
--- for a list of so many records: "Reader order: 1, then the first offending element .., then 10."; "A refusal has count 0, but 10 has the
--- count needed. Place: .. 0 for 1, 10, 12."
+-- for a list of so many records: the string's own refusal comes before 10, which has the count needed (rules N1, N5)
 unfoldable pub readAnswer : List ℕ → ℕ → Answer
 readAnswer s room =
     let a = checkOf s in
@@ -20,8 +19,7 @@ readAnswer s room =
     (pick (ltb room (a .count)) (answer refusal.no-room 0 (a .count)) a)
     a
 
--- "The caller lends a list of unit records, filled from its first place; the rest stays."; "Refusals leave answer lists and output
--- untouched"
+-- the list after: the records stand at its start and the rest stays (rule U6); after a refusal all of it (rule N7)
 unfoldable pub listAfter : List ℕ → List UnitRecord → List UnitRecord
 listAfter s old =
     pick (eqb (readAnswer s (length old) .number) refusal.accepted)

@@ -138,7 +138,7 @@ unfolding itemOf stepAt pick
 by-length s true e k = repeats k (opened s) _ (rw e)
 by-length s false e k = short-items s (ltb-false limit.octets (length (now s)) e) k
 
--- "it hands out exactly the units before the end or the offending element, and from then on repeats that answer"
+-- item k of a reader opened on a string: the units in their order, and then the string's answer for good (rules U7, U8)
 pub opened-items : (s : RefT (List ℕ)) (k : ℕ) → itemAt (readerAfter k (opened s)) ≡ itemOf k (unitsBefore (now s)) (checkOf (now s))
 unfolding unitsBefore checkOf
 opened-items s k = by-length s (ltb limit.octets (length (now s))) refl k

@@ -16,7 +16,7 @@ use Rattle.reader.specs.declared.Item.the-variants.{Given, Ended}
 use Rattle.reader.specs.declared.Reader.{Reader}
 use Rattle.reader.specs.declared.Stepped.{Stepped}
 
--- the start of a string: "Every string starts from" the fresh state
+-- a reader at the start of a string, in the fresh state (rule S2)
 abbrev pub opened : RefT (List ℕ) → Reader
 opened s = record { octets = s; place = 0; count = 0; state = fresh }
 
@@ -42,6 +42,6 @@ itemOf k [] a = Ended a
 itemOf zero (u ∷ us) a = Given u
 itemOf (suc k) (u ∷ us) a = itemOf k us a
 
--- "exactly the units before the end or the offending element"; "Refusal 1 comes before any unit."
+-- the units that a reader opened on a string hands out: none where the string is too long (rules U7, U8)
 unfoldable pub unitsBefore : List ℕ → List UnitRecord
 unitsBefore s = pick (ltb limit.octets (length s)) [] (recordsOf s)

@@ -34,7 +34,7 @@ answerIn (Ended a) = some a
 abbrev pub stepped : Item → ℕ → ℕ → State → Stepped
 stepped i place count st = record { place = place; count = count; state = st; item = i }
 
--- a reader: "where its place lies past the string, a set stands on a side it may not use, or its depth is over the limit, it answers 11"
+-- whether a reader may stand so: its place lies in the string, its sets on their sides, its depth within the limit (rule U9)
 unfoldable pub mayStand : ℕ → ℕ → State → Bool
 mayStand octets place st =
     pick (ltb octets place) false
@@ -44,23 +44,22 @@ mayStand octets place st =
 abbrev pub largest : ℕ
 largest = 18446744073709551615
 
--- the units handed out, with one more; "it stays at the machine's largest number" (docs/DECISIONS.md)
+-- the units handed out, with one more; the count stays at the machine's largest number (rule U9)
 unfoldable pub countedOf : ℕ → ℕ
 countedOf count = pick (ltb count largest) (count + 1) count
 
--- "Accepted is 0, the input's length, and the units"; "A refusal has count 0"
+-- the answer at the end or at a refusal (rule N1)
 unfoldable pub endedOf : ℕ → ℕ → ℕ → Answer
 endedOf number place count =
     pick (eqb number refusal.accepted) (answer refusal.accepted place count) (refusedAt number place)
 
--- "it hands out exactly the units before the end or the offending element, and from then on repeats that answer": then it stays where it
--- stood after its last unit, so designations before the end are not passed
+-- a unit, and the reader stands after it; or the answer, and it stays where it stood after its last unit, so designations before the end are
+-- not passed and the answer repeats (rule U7)
 unfoldable pub afterOf : ℕ → ℕ → State → Outcome → Stepped
 afterOf place count st (Gives u next to) = stepped (Given u) next (countedOf count) to
 afterOf place count st (Stops number at) = stepped (Ended (endedOf number at count)) place count st
 
--- "Refusal 1 comes before any unit."; "One made by hand is read on by the rules from the place and state it holds; where .. it answers 11 at 0
--- and stays."
+-- a step from any place, count and state: 1 for the string comes first (rule U8), then 11 for a reader that may not stand so (rule U9)
 unfoldable pub stepAt : List ℕ → ℕ → ℕ → State → Stepped
 stepAt s place count st =
     pick (ltb limit.octets (length s)) (stepped (Ended (refusedAt refusal.too-long 0)) place count st)

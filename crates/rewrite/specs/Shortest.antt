@@ -9,8 +9,7 @@ use Rattle.grammar.specs.Reading.{checkOf}
 use Rattle.units.specs.Records.{recordsOf}
 use Rattle.shortest.specs.Records.{writerAnswer, writerOutput}
 
--- for a work room of so many octets and an output of m: "The program reads a string and writes its shortest form, nothing added; or" the
--- string's refusal; "an accepted string of more is refused 12 at 0"
+-- for a work room of so many octets and an output of m: the string's own refusal, or the writer's answer for its records (rules P2, P3)
 unfoldable pub shortestAnswer : List ℕ → ℕ → ℕ → Answer
 shortestAnswer s work m =
     pick (eqb (checkOf s .number) refusal.accepted) (writerAnswer (recordsOf s) s work m) (checkOf s)

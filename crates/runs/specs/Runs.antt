@@ -1,5 +1,4 @@
--- The runs of a string, and what is answered of each. Document 01: "A run is a longest stretch of GL or of GR octets of characters and
--- spaces, unbroken by any other octet."
+-- The runs of a string, and what is answered of each (rules R1 to R5).
 use Prim.Native.Nat.{ℕ, zero, suc, _+_, _-_}
 use mathlib.Core.Path.{_≡_}
 use mathlib.Core.List.{List, [], _∷_}
@@ -36,26 +35,24 @@ abbrev pub bounds : ℕ → ℕ → ℕ → ℕ → ℕ → Answer → Bounds
 bounds start end set width direction a =
     record { start = start; end = end; set = set; width = width; direction = direction; answer = a }
 
--- a run of a string of n octets, "with the set, octet width and direction in force": "A run shown answers 0, the string's length and
--- the run's octets". Text changes neither the sets nor the open directions, so the state after the run's first element has what is in
+-- a run of a string of n octets, with what is in force for it (rule R3) and its answer (rule R5). Text changes neither the sets nor the open directions, so the state after the run's first element has what is in
 -- force for all of it.
 unfoldable pub shownOf : ℕ → Piece → Bounds
 shownOf n p =
     bounds (p .start) (p .end) (setIn p) (widthOf (setIn p)) (inForceOf (p .state .directions))
     (answer refusal.accepted n (p .end - p .start))
 
--- "beside a refusal set and width are 0 and the direction is none"; where the empty part stands is free: at place 0
+-- no run: an empty part at place 0, set and width 0, no direction, and a refusal (rule R5)
 abbrev pub noRun : Answer → Bounds
 noRun a = bounds 0 0 0 0 direction.none a
 
--- the k-th of runs, counted from 0: "past the last run the empty part with 11 at 0"
+-- the k-th of runs, counted from 0; past the last 11 (rule R4)
 unfoldable pub nthOf : ℕ → ℕ → List Piece → Bounds
 nthOf n k [] = noRun (refusedAt refusal.bad-unit 0)
 nthOf n zero (p ∷ ps) = shownOf n p
 nthOf n (suc k) (p ∷ ps) = nthOf n k ps
 
--- "Runs are asked for by number from 0 and shown only for accepted strings; for others the answer is the empty part with the string's
--- refusal"
+-- the k-th run of a string, where it is accepted, and else its refusal (rule R4)
 unfoldable pub runAt : List ℕ → ℕ → Bounds
 runAt s k = pick (eqb (checkOf s .number) refusal.accepted) (nthOf (length s) k (runsOf s)) (noRun (checkOf s))
 
@@ -67,8 +64,7 @@ runOctets s k = take (runAt s k .end - runAt s k .start) (drop (runAt s k .start
 abbrev pub startsAt : RefT (List ℕ) → RefT (List ℕ) → ℕ → Type 0
 startsAt r s start = (ptr r .0 ≡ ptr s .0) × (ptr r .1 ≡ start + ptr s .1)
 
--- a value is the k-th run of what s refers to: "It is handed back as that very part of the string, with the set, octet width and
--- direction in force." What it holds, and where it starts.
+-- a value is the k-th run of what s refers to, as that part of it: what it holds, and where it starts (rule R2).
 pub record Shown (s : RefT (List ℕ)) (k : ℕ) (r : Run) : Type 0 where
   pub part : now (r .part) ≡ runOctets (now s) k
   pub place : startsAt (r .part) s (runAt (now s) k .start)

@@ -1,4 +1,4 @@
--- The runs of a string one after the other: from a position the next run is shown, and where it ends the next position stands. A position is
+-- The runs of a string one after the other (rule R7): from a position the next run is shown, and where it ends the next position stands. A position is
 -- a place of the string, the state there, and whether the whole string is known to be accepted.
 use Prim.Native.Nat.{ℕ, zero, suc, _+_}
 use mathlib.Core.Bool.{Bool, true, false}
@@ -26,7 +26,7 @@ use Rattle.runs.specs.declared.stepping.RunStep.{RunStep}
 abbrev pub position : ℕ → State → Bool → RunPosition
 position place st checked = record { place = place; state = st; checked = checked }
 
--- the first position: "Every string starts from" the fresh state, and it is not yet known whether it is accepted
+-- the first position: the fresh state (rule S2), and it is not yet known whether it is accepted
 abbrev pub firstPosition : RunPosition
 firstPosition = position 0 fresh false
 
@@ -41,7 +41,7 @@ stays p a = runStep p (noRun a)
 abbrev pub stepTo : ℕ → State → Bounds → RunStep
 stepTo place st run = runStep (position place st true) run
 
--- no run is left where an element is reached: "past the last run the empty part with 11 at 0"; a refused element, which only a position made
+-- no run is left where an element is reached: 11 (rule R4); a refused element, which only a position made
 -- by hand can reach, is answered by its refusal
 unfoldable pub stopAt : ℕ → State → Element → RunStep
 stopAt at st End = stepTo at st (noRun (refusedAt refusal.bad-unit 0))
@@ -73,7 +73,7 @@ runFrom s at st =
 unfoldable pub knownOf : List ℕ → Bool → Answer
 knownOf s checked = pick checked (answer refusal.accepted 0 0) (checkOf s)
 
--- runs are "shown only for accepted strings": a position that is not known to be of an accepted string has the string checked first
+-- runs are shown of accepted strings alone (rule R4): a position that is not known to be of an accepted string has the string checked first
 unfoldable pub checkedFrom : List ℕ → RunPosition → RunStep
 checkedFrom s p =
     pick (eqb (knownOf s (p .checked) .number) refusal.accepted) (runFrom s (p .place) (p .state)) (stays p (knownOf s (p .checked)))

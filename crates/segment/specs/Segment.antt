@@ -1,4 +1,4 @@
--- Extended segments: "`1B 25 2F d M L`, d from 30 to 34", functions of the octets that are left.
+-- Extended segments (rules E1f, E1g, E2, E4): functions of the octets that are left.
 use Prim.Native.Nat.{ℕ, _+_, _*_, _%_, _-_}
 use mathlib.Core.Bool.{Bool, true, false}
 use mathlib.Core.List.{List, [], _∷_}
@@ -15,18 +15,18 @@ use Rattle.state.specs.declared.elements.Shape.the-variants.{Gives}
 use Rattle.segment.specs.declared.Name.{Name}
 use Rattle.segment.specs.declared.Name.the-variants.{Ends, Bad}
 
--- "a name octet outside 21-7E and A1-FF, or equal to 2A or 3F: 7"
+-- an octet that a name may have (rule E1g)
 unfoldable pub nameOctetOf : ℕ → Bool
 nameOctetOf b =
     pick (ltb b 0x21) false (pick (eqb b 0x2A) false (pick (eqb b 0x3F) false (pick (leb b 0x7E) true (leb 0xA1 b))))
 
--- the name at the start of a segment's octets, k of which are passed: "the name ends at the first 02. No 02, an empty name .. : 7"
+-- the name at the start of a segment's octets, k of which are passed: it ends before the first 02, and has an octet at least (rule E1g)
 unfoldable pub nameOf : List ℕ → ℕ → Name
 nameOf [] k = Bad k
 nameOf (b ∷ t) k =
     pick (eqb b 2) (pick (eqb k 0) (Bad k) (Ends k)) (pick (nameOctetOf b) (nameOf t (k + 1)) (Bad k))
 
--- "For d of 32, 33, 34 the text length must be a multiple of 2, 3, 4, else 7."
+-- how many octets a character of the text has, by d, where that is fixed: the text is as many or a multiple (rule E1g)
 unfoldable pub textWidthOf : ℕ → ℕ
 textWidthOf d = pick (eqb d 0x32) 2 (pick (eqb d 0x33) 3 (pick (eqb d 0x34) 4 1))
 
@@ -34,7 +34,7 @@ textWidthOf d = pick (eqb d 0x32) 2 (pick (eqb d 0x33) 3 (pick (eqb d 0x34) 4 1)
 abbrev pub segmentPart : ℕ → ℕ → ℕ → Part
 segmentPart d n text = part kind.segment 0 d 6 n (countsAsText kind.segment text)
 
--- a segment of n octets, by its name: "They hold a name, 02, and a text"; "The text is arbitrary."
+-- a segment of n octets, by its name: what follows the name and its 02 is the text, of which the length alone is looked at (rules E1g, E4)
 unfoldable pub contentOf : ℕ → ℕ → Name → Shape
 contentOf d n (Ends k) =
     pick (ltb k n)
@@ -42,11 +42,11 @@ contentOf d n (Ends k) =
     (refused refusal.bad-segment)
 contentOf d n (Bad k) = refused refusal.bad-segment
 
--- "n .. octets follow; fewer: 2"
+-- the n octets have to be there before they are looked at (rule E1f)
 unfoldable pub bodyOf : ℕ → ℕ → List ℕ → Shape
 bodyOf d n t = pick (leb n (length t)) (contentOf d n (nameOf (take n t) 0)) (refused refusal.cut)
 
--- after 1B 25 2F d: "M or L under 80: 7, a low M even if the string ends after it. n = (M - 128) × 128 + (L - 128)"
+-- after 1B 25 2F d: M and L, from which n is computed; a low M is refused before the L is looked for (rules E1f, E2)
 unfoldable pub lengthsOf : ℕ → List ℕ → Shape
 lengthsOf d t =
     next t

@@ -1,4 +1,4 @@
--- A record that offends by itself has the number that document 01 says, whatever directions are open (`bad-stops`); one that does not
+-- A record that offends by itself has the number of rule N9, whatever directions are open (`bad-stops`); one that does not
 -- stands for a good unit, whose step is that of the direction rule (`not-bad`). By its kind, its unit and the tests of it are computed.
 use Prim.Native.Nat.{ℕ, _+_, _≤_, _<_}
 use native.Mathlib.Omega.{arith}
@@ -60,7 +60,7 @@ module _ (o : List ℕ) (r : UnitRecord) where
   stops-none : (d : Directions) → unitRead o r ≡ none → fault (unitRead o r) d ≡ Stops refusal.bad-unit
   stops-none d e = rw e
 
-  -- "d outside 30-34" is asked first
+  -- d is asked for first
   d-right : Placed o r → (leb 0x30 (r .code) && leb (r .code) 0x34) ≡ true
   d-right p = rw (le-leb 0x30 (r .code) (p .low), le-leb (r .code) 0x34 (p .high))
 

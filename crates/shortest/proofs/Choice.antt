@@ -1,4 +1,4 @@
--- The string that `writing` computes is the one that document 01 names: it is one of the lazy strings (`writing-lazy`), every lazy
+-- The string that `writing` computes is the one of rule W4: it is one of the lazy strings (`writing-lazy`), every lazy
 -- string reads as the units and so is no shorter (`lazy-reads`, `lazy-lower`), and a lazy string as short is the same or comes after it
 -- (`first`); such a string is one (`the-choice`, `one-choice`). What a unit's need says is what the paper's words say (`split`).
 use Prim.Native.Nat.{ℕ, _+_, _≤_, min}

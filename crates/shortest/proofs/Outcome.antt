@@ -1,4 +1,4 @@
--- The writer's answer is that of document 01's order, exactly (`outcome`): each test of `writerAnswer` is one case. From it: what each
+-- The writer's answer is that of rule N6, exactly (`outcome`): each test of `writerAnswer` is one case. From it: what each
 -- number means (`accepted-where`, `work-room-where`, `too-long-where`, `no-room-where`), the counts and places (`accepted-answer`,
 -- `refused-count`, `refused-place`), and what the output holds (`refused-output`, `accepted-output`).
 use Prim.Native.Nat.{ℕ, _≤_, _<_}
@@ -121,7 +121,7 @@ module _ (rs : List UnitRecord) (o : List ℕ) (work m : ℕ) where
       go (offending h f) = absurd (omega (arith, off f))
       go (written us v h k) = (us, v, h, k)
 
-  -- 12: "work room under 72 × (units + 1) octets", and no earlier refusal
+  -- 12: too little work room, and no earlier refusal (rule N4)
   abbrev pub LacksWorkRoom : Type 0
   LacksWorkRoom = (length rs ≤ limit.units) × NoneOffends o rs × (work < workRoom (length rs))
 
@@ -132,7 +132,7 @@ module _ (rs : List UnitRecord) (o : List ℕ) (work m : ℕ) where
       go (offending h f) = absurd (omega (arith, off f))
       go (short-work h f w) = (h, f, w)
 
-  -- 1: "string or list over 65,535, or shortest writing over it"
+  -- 1: the list or its shortest writing is over the limit (rules J2, N3)
   abbrev pub TooLong : Type 0
   TooLong = (limit.units < length rs) ⊎ ((us : List TextUnit) × Served rs o work us × (limit.octets < shortestCount us))
 
@@ -169,7 +169,7 @@ module _ (rs : List UnitRecord) (o : List ℕ) (work m : ℕ) where
 
   -- ---- counts and places
 
-  -- "A refusal has count 0, but 10 has the count needed."
+  -- a refusal other than 10 has count 0 (rule N1)
   pub refused-count : (number ≡ refusal.accepted → ⊥) → (number ≡ refusal.no-room → ⊥) → writerAnswer rs o work m .count ≡ 0
   refused-count a b = go (is-outcome rs o work m) a b
     where
@@ -181,7 +181,7 @@ module _ (rs : List UnitRecord) (o : List ℕ) (work m : ℕ) where
       go (short-output us v h k) a b = absurd (b refl)
       go (written us v h k) a b = absurd (a refl)
 
-  -- "Place: .. the unit's index; 0 for 1, 10, 12."
+  -- a refusal other than of a unit has place 0 (rule N2)
   pub refused-place : (number ≡ refusal.accepted → ⊥) → (Number number → ⊥) → writerAnswer rs o work m .place ≡ 0
   refused-place a b = go (is-outcome rs o work m) a b
     where
@@ -193,7 +193,7 @@ module _ (rs : List UnitRecord) (o : List ℕ) (work m : ℕ) where
       go (short-output us v h k) a b = refl
       go (written us v h k) a b = absurd (a refl)
 
-  -- "Accepted is 0, the input's length, and the .. octets written."
+  -- accepted: 0, the units, and the octets written (rule N1)
   pub accepted-answer : number ≡ refusal.accepted
       → (us : List TextUnit) × (listReading o rs ≡ some us) × (writerAnswer rs o work m ≡ answer refusal.accepted (length rs) (shortestCount us))
   accepted-answer e =

@@ -1,5 +1,5 @@
 -- What the output holds after the call, by the cases of the answer: a refusal leaves it (`refused-output`); else the writing stands from
--- its first place and the rest stays (`accepted-output`), which is the string that document 01 names (`output-chosen`, `output-one`) and
+-- its first place and the rest stays (`accepted-output`), which is the string of rule W4 (`output-chosen`, `output-one`) and
 -- is accepted and reads as the list (`output-read`). Its length stays (`output-length`). And 1 for the writing comes exactly where every
 -- string of the reading is over the limit (`over-limit`).
 use Prim.Native.Nat.{ℕ, _+_, _-_, _≤_, _<_}
@@ -43,7 +43,7 @@ served-good rs o work us v =
     let f = fine-units o rs 0 undirected (no-offence o rs .1 (v .none)) in
     subst Good (Option·some-injective (f .units) us (sym (f .reading) ∙ v .reading)) (f .good-ones)
 
--- "shortest writing over it": every string of the reading, its length aside, is over the limit
+-- 1 for the writing: every string of the reading, its length aside, is over the limit (rule N3)
 pub over-limit : (rs : List UnitRecord) (o : List ℕ) (work : ℕ) (us : List TextUnit) → Octets o → Served rs o work us
     → (limit.octets < shortestCount us) ↔ ((t : List ℕ) → Grammatical t us → limit.octets < length t)
 over-limit rs o work us h v = (
@@ -59,7 +59,7 @@ module _ (rs : List UnitRecord) (o : List ℕ) (work : ℕ) (out : List ℕ) whe
   abbrev string : List ℕ
   string = take (answered .count) (writerOutput rs o work out)
 
-  -- "Refusals leave answer lists and output untouched"
+  -- a refusal leaves the output (rule N7)
   pub refused-output : (answered .number ≡ refusal.accepted → ⊥) → writerOutput rs o work out ≡ out
   unfolding writerOutput
   refused-output n = rw (ne-eqb (answered .number) refusal.accepted n)
@@ -74,7 +74,7 @@ module _ (rs : List UnitRecord) (o : List ℕ) (work : ℕ) (out : List ℕ) whe
     pub fits : shortestCount units ≤ length out
     pub holds : writerOutput rs o work out ≡ shortestOf units ++ drop (shortestCount units) out
 
-  -- "it gives that one string, from the output's first place; the rest of the output stays"
+  -- else the string stands at its start, and the rest stays (rule W5)
   pub accepted-output : answered .number ≡ refusal.accepted → Given
   unfolding writerOutput outputAfter
   accepted-output e =
@@ -100,7 +100,7 @@ module _ (rs : List UnitRecord) (o : List ℕ) (work : ℕ) (out : List ℕ) whe
       let n : answered .count ≡ length w = ap (λ (a : Answer). a .count) (g .answers) ∙ sym (writing-length (g .units) (fresh .sets)) in
       ap₂ (λ (k : ℕ) (xs : List ℕ). take k xs) n (g .holds) ∙ take-append-seam w rest
 
-  -- they are the string that document 01 names, and there is no other such string
+  -- they are the string of rule W4, and there is no other such string
   pub output-chosen : answered .number ≡ refusal.accepted
       → (us : List TextUnit) × (os : List (Option Standing)) × (listReading o rs ≡ some us)
       × Chosen us (fresh .sets) os string
@@ -120,7 +120,7 @@ module _ (rs : List UnitRecord) (o : List ℕ) (work : ℕ) (out : List ℕ) whe
       let s : us ≡ g .units = Option·some-injective us (g .units) (sym q ∙ g .reading) in
       one-choice us (fresh .sets) os t fresh-legal (subst Good (sym s) (g .good-ones)) c ∙ ap (λ (v : List TextUnit). shortestOf v) s ∙ sym (output-string g)
 
-  -- they are accepted and read as the list: "the writer's string, read again, gives back every unit it was made from"
+  -- they are accepted and read as the list (M2)
   pub output-read : Octets o → answered .number ≡ refusal.accepted
       → (us : List TextUnit) × (listReading o rs ≡ some us) × ReadAs string us
   output-read h e =

@@ -1,5 +1,5 @@
--- Document 01, "Checked strings": those marked *, as one table of the definitions. An accepted string stands with its answer, the units
--- that it reads as and what these are written as; a refused one with its answer.
+-- The checked strings marked * in rule P1, as one table of the definitions. An accepted string stands with its answer, the units that it
+-- reads as and what these are written as; a refused one with its answer.
 use Prim.Native.Nat.{ℕ}
 use mathlib.Core.List.{List, [], _∷_}
 use lib.ListN.{length}
@@ -16,7 +16,7 @@ pub record Example : Type 0 where
   pub units : List TextUnit
   pub written : List ℕ
 
--- "X is `30 21` of set 13."
+-- the units of rule P1
 abbrev X : TextUnit
 X = char 13 0x3021
 
@@ -82,7 +82,7 @@ abbrev pub defined : List Example → List Said
 defined [] = []
 defined (r ∷ rs) = saying (checkOf (r .string)) (readingOf (r .string)) (shortestOf (r .units)) ∷ defined rs
 
--- what document 01 says of it
+-- what rule P1 says of it
 abbrev pub expected : List Example → List Said
 expected [] = []
 expected (r ∷ rs) =

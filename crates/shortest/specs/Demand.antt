@@ -14,14 +14,14 @@ use Rattle.grammar.specs.Units.{TextUnit}
 use Rattle.grammar.specs.Reading.{ReadAs}
 use Rattle.shortest.specs.Writing.{shortestOf, shortestCount}
 
--- the writer's answer for an output of m octets: "1 for the writing, 10"; "A refusal has count 0, but 10 has the count needed."
+-- the writer's answer for an output of m octets: 1 for the writing comes before 10, which has the count needed (rules N1, N3, N6, W6)
 unfoldable pub writeAnswer : List TextUnit → ℕ → Answer
 writeAnswer us m =
     let n = shortestCount us in
     cond (ltb limit.octets n) (refusedAt refusal.too-long 0)
     (cond (ltb m n) (answer refusal.no-room 0 n) (answer refusal.accepted (length us) n))
 
--- what the output holds after: "it gives that one string, from the output's first place; the rest of the output stays"
+-- what the output holds after: the string at its start, and the rest as it was (rule W5)
 unfoldable pub outputAfter : List TextUnit → List ℕ → List ℕ
 outputAfter us out =
     cond (eqb (writeAnswer us (length out) .number) refusal.accepted)
@@ -38,7 +38,7 @@ pub record Least (us : List TextUnit) (n : ℕ) (t : List ℕ) : Type 0 where
 pub record Demand3 (us : List TextUnit) (out : List ℕ) (a : Answer) (after : List ℕ) : Type 0 where
   -- it refuses for room exactly when no accepted string of that reading fits
   pub room : (a .number ≡ refusal.no-room) ↔ ((t : List ℕ) → ReadAs t us → length out < length t)
-  -- "There is no third answer."
+  -- there are these two answers alone
   pub two : (a .number ≡ refusal.no-room → ⊥) → a .number ≡ refusal.accepted
   -- else it gives an accepted string of that reading, and none is shorter
   pub gives : a .number ≡ refusal.accepted → Least us (a .count) (take (a .count) after)

@@ -12,7 +12,7 @@ use Rattle.grammar.specs.Records.{listReading}
 use Rattle.shortest.specs.Records.{workRoom}
 use Rattle.shortest.specs.Demand.{Demand3}
 
--- of every list whose reading some accepted string has (so it has at most 65,535 units), with the work room that document 01 names,
+-- of every list whose reading some accepted string has (so it has at most 65,535 units), with the work room of rule N4,
 -- and of any output
 unfoldable pub Demand3For : List UnitRecord → List ℕ → ℕ → List ℕ → Answer → List ℕ → Type 0
 Demand3For rs o work out a after =

@@ -1,4 +1,4 @@
--- The place of an offending unit, said of each record by itself: "the first offending unit (11, 7, 8, 9)", "Place: .. the unit's index".
+-- The place of the first offending unit, said of each record by itself (rules N2, N6).
 use Prim.Native.Nat.{ℕ, _+_, _≤_, _<_}
 use mathlib.Core.Path.{_≡_}
 use mathlib.Core.Bool.{false}
@@ -61,8 +61,7 @@ pub record Placed (o : List ℕ) (r : UnitRecord) : Type 0 where
   pub low : 0x30 ≤ r .code
   pub high : r .code ≤ 0x34
 
--- a record that offends by itself: 11 for "kind, set, code not used in its set, d outside 30-34, or a part outside its octets", and else 7
--- for a "bad extended segment; in a unit also n over 16,383"
+-- a record that offends by itself, case by case, and the number that refuses it (rule N9)
 pub data Bad (o : List ℕ) (r : UnitRecord) : ℕ → Type 0 where
   bad-kind : kind.segment < r .kind → Bad o r refusal.bad-unit
   bad-set : r .kind ≡ kind.character → no-set ≤ r .set → Bad o r refusal.bad-unit
@@ -72,7 +71,7 @@ pub data Bad (o : List ℕ) (r : UnitRecord) : ℕ → Type 0 where
   bad-length : Placed o r → mostOfSegment < r .length → Bad o r refusal.bad-segment
   bad-content : Placed o r → segment (r .code) 0 (take (r .length) (drop (r .start) o)) ≡ false → Bad o r refusal.bad-segment
 
--- a string of octets that is of the grammar and reads as the units, its length aside
+-- a string of octets that is of the grammar and reads as the units, its length aside (rule N8)
 pub record Grammatical (t : List ℕ) (us : List TextUnit) : Type 0 where
   pub octets : Octets t
   pub reads : Reads (fresh .sets) t us

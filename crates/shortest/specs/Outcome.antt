@@ -1,5 +1,5 @@
--- What the writer answers, case by case: "Writer order: 1 for the list, the first offending unit (11, 7, 8, 9), 12, 1 for the writing,
--- 10." That `writerAnswer` gives exactly this is proved in proofs/Outcome.antt.
+-- What the writer answers, case by case, each with what must not have applied before it (rule N6). That `writerAnswer` gives exactly this
+-- is proved in proofs/Outcome.antt.
 use Prim.Native.Nat.{ℕ, _≤_, _<_}
 use mathlib.Core.Path.{_≡_}
 use mathlib.Core.List.{List}

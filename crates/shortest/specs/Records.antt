@@ -19,15 +19,14 @@ use Rattle.grammar.specs.Reading.{direct}
 use Rattle.grammar.specs.Records.{unitRead, listReading}
 use Rattle.shortest.specs.Demand.{writeAnswer, outputAfter}
 
--- the refusal of a unit by itself: 11 for "kind, set, code not used in its set, d outside 30-34, or a part outside its octets", 7 for a
--- "bad extended segment; in a unit also n over 16,383"
+-- the refusal of a unit that is not good: 7 for a segment whose d is one of 30 to 34, and 11 for any other (rule N9)
 abbrev pub own : TextUnit → ℕ
 own (char c k) = refusal.bad-unit
 own space = refusal.bad-unit
 own (control x) = refusal.bad-unit
 own (ext e xs) = cond (leb 0x30 e && leb e 0x34) refusal.bad-segment refusal.bad-unit
 
--- "the first offending unit (11, 7, 8, 9)": its own refusal before the direction rule's
+-- what a record does: 11 where it stands for no unit, its own refusal, or its step by the direction rule (rule N6)
 abbrev pub fault : Option TextUnit → Directions → Step
 fault none d = Stops refusal.bad-unit
 fault (some u) d = cond (good u) (direct d u) (Stops (own u))
@@ -54,12 +53,11 @@ abbrev pub ofReading : Option (List TextUnit) → ℕ → Answer
 ofReading none m = refusedAt refusal.bad-unit 0
 ofReading (some us) m = writeAnswer us m
 
--- "work room under 72 × (units + 1) octets"
+-- the octets of work room that a list of n units needs (rule N4)
 abbrev pub workRoom : ℕ → ℕ
 workRoom n = 72 * (n + 1)
 
--- "Writer order: 1 for the list, the first offending unit (11, 7, 8, 9), 12, 1 for the writing, 10."; work and out are the octets of the
--- work room and of the output
+-- the writer's answer, in its order (rule N6); work and out are the octets of the work room and of the output
 unfoldable pub writerAnswer : List UnitRecord → List ℕ → ℕ → ℕ → Answer
 writerAnswer rs o work out =
     cond (ltb limit.units (length rs)) (refusedAt refusal.too-long 0)
@@ -70,7 +68,7 @@ abbrev pub outputOf : Option (List TextUnit) → List ℕ → List ℕ
 outputOf none out = out
 outputOf (some us) out = outputAfter us out
 
--- the output after the call: "Refusals leave answer lists and output untouched"
+-- the output after the call; a refusal leaves it (rule N7)
 unfoldable pub writerOutput : List UnitRecord → List ℕ → ℕ → List ℕ → List ℕ
 writerOutput rs o work out =
     cond (eqb (writerAnswer rs o work (length out) .number) refusal.accepted) (outputOf (listReading o rs) out) out

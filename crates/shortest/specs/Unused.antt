@@ -1,12 +1,12 @@
--- "Unused fields are ignored, also where readings are compared": which fields a kind uses.
+-- Which fields a kind uses; all others are ignored (rule W1).
 use mathlib.Core.Path.{_≡_}
 use mathlib.Core.List.{List, [], _∷_}
 use mathlib.Core.Logic.{_⊎_}
 use Rattle.base.specs.Kind as kind
 use Rattle.base.specs.declared.Unit.{Unit as UnitRecord}
 
--- two records are alike in what their kind uses: "Only a character has a set; only a character and an extended segment have a code", and
--- only an extended segment is found by its start and length
+-- two records are alike in what their kind uses: the set of a character, the code of a character or a segment, start and length of a
+-- segment
 pub record Alike (r q : UnitRecord) : Type 0 where
   pub kinds : r .kind ≡ q .kind
   pub sets : r .kind ≡ kind.character → r .set ≡ q .set

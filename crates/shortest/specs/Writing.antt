@@ -25,18 +25,18 @@ pub data Need : Type 0 where
   free : Need
   either : Standing → Standing → Need
 
--- "A designation stands only directly before a character or space whose set stands on no side it may use"
+-- a need that is met asks for no designation (rule W2)
 unfoldable pub met : Need → Sets → Bool
 met free s = true
 met (either a b) s = stands a s || stands b s
 
--- where a set may stand: "at the first difference GL goes before GR"
+-- where a set may stand, GL first (rule W4)
 abbrev pub placesOf : Bool → Bool → ℕ → Need
 placesOf true true c = either (on GL c) (on GR c)
 placesOf true false c = either (on GL c) (on GL c)
 placesOf false r c = either (on GR c) (on GR c)
 
--- "(a space needs set 0 or 2 in GL)"; "for a space set 0 before set 2"
+-- what a unit needs (rule W2); a space is served by either set of one octet that may stand in GL, set 0 first (rule W4)
 unfoldable pub need : TextUnit → Need
 need (char c k) = placesOf (allowed GL c) (allowed GR c) c
 need space = either (on GL 0) (on GL 2)
@@ -76,7 +76,7 @@ abbrev pub designated : Option Standing → List ℕ
 designated none = []
 designated (some p) = designation p
 
--- the side on which a unit is written: "A set on both sides is used in GL."
+-- the side on which a unit is written: the first of the two that stands, so GL where the set stands on both (rule W3)
 unfoldable pub used : Need → Sets → Side
 used free s = GL
 used (either a b) s = cond (stands a s) (a .side) (b .side)

@@ -1,4 +1,4 @@
-// Shows the units of document 01's checked strings: what `read` answers for a list of eight records, the records of that list, and what a reader
+// Shows the units of the checked strings (rule P1): what `read` answers for a list of eight records, the records of that list, and what a reader
 // hands out, step by step.
 use base::Answer;
 use base::Unit;

@@ -1,4 +1,4 @@
--- The direction rule of document 01, unit by unit.
+-- The direction rule, unit by unit (rules E5 to E9, E12).
 use Prim.Native.Nat.{ℕ, _+_, _*_, _%_, _/_, _-_, _^_}
 use mathlib.Core.Bool.{Bool, true, false}
 use lib.Dec.{eqb, ltb}
@@ -15,33 +15,32 @@ use Rattle.state.specs.declared.directions.Step.the-variants.{Goes, Stop
 abbrev pub directions : ℕ → ℕ → Bool → Bool → Directions
 directions depth levels marked texted = record { depth = depth; levels = levels; marked = marked; texted = texted }
 
--- "no direction open"
+-- the directions of the fresh state (rule S2)
 abbrev pub undirected : Directions
 undirected = directions 0 0 false false
 
--- what counts as text, by a unit's kind and the octets of an extended segment's text: "Tabs and newlines are free of this, and so is
--- an extended segment, which does not count as a character."
+-- what counts as text, by a unit's kind and the octets of an extended segment's text: characters and spaces alone (rule E9)
 abbrev pub countsAsText : ℕ → ℕ → Bool
 countsAsText k text = ltb k 2
 
--- text: "If any direction mark occurs, .. a character or space with none open is then 8."
+-- text: where a mark was read a direction has to be open (rule E7)
 unfoldable pub writtenOf : Directions → Step
 writtenOf d =
     let next = directions (d .depth) (d .levels) (d .marked) true in
     pick (d .marked) (pick (eqb (d .depth) 0) (Stops refusal.direction) (Goes next)) (Goes next)
 
--- one more direction, 0 left-to-right and 1 right-to-left: "A seventeenth open direction is 9."
+-- one more direction, 0 left-to-right and 1 right-to-left, up to the limit (rule E8)
 unfoldable pub deeperOf : ℕ → Directions → Step
 deeperOf way d =
     pick (ltb (d .depth) limit.depth)
     (Goes (directions (d .depth + 1) (d .levels % 2 ^ 63 * 2 + way % 2) true (d .texted)))
     (Stops refusal.too-deep)
 
--- a mark that begins a direction: "If any direction mark occurs, the first must come before the first character or space"
+-- a mark that begins a direction: no text may stand before the first of all marks (rule E6)
 unfoldable pub begunOf : ℕ → Directions → Step
 begunOf way d = pick (d .marked) (deeperOf way d) (pick (d .texted) (Stops refusal.direction) (deeperOf way d))
 
--- a mark that reverts: "a revert with none open is 8"
+-- a mark that reverts: a direction has to be open (rule E5)
 unfoldable pub revertedOf : Directions → Step
 revertedOf d =
     pick (eqb (d .depth) 0) (Stops refusal.direction) (Goes (directions (d .depth - 1) (d .levels / 2) true (d .texted)))

@@ -17,11 +17,11 @@ part kind set code skip octets text =
 abbrev pub unit : ℕ → ℕ → ℕ → ℕ → Shape
 unit kind set code octets = Gives (part kind set code 0 octets (countsAsText kind 0))
 
--- a refusal; "Place: where the offending element starts"
+-- a refusal, whose place is the start of the element (rule N2)
 abbrev pub refused : ℕ → Shape
 refused n = Refuses n 0
 
--- the next octet of an element, and those after it: "An end inside an element: 2."
+-- the next octet of an element, and those after it; where there is none the element is cut (rule E1j)
 unfoldable pub next : List ℕ → (ℕ → List ℕ → Shape) → Shape
 next [] f = refused refusal.cut
 next (b ∷ t) f = f b t

@@ -14,7 +14,7 @@ sets gl gr = record { gl = gl; gr = gr }
 abbrev pub state : Sets → Directions → State
 state s d = record { sets = s; directions = d }
 
--- "The fresh state is .. set 0 in GL, set 3 in GR, no direction open."
+-- the fresh state: ASCII in GL, the right half of ISO 8859-1 in GR, no direction open (rule S2)
 abbrev pub fresh : State
 fresh = state (sets 0 3) undirected
 
@@ -38,7 +38,7 @@ put′ GR c s = sets (s .gl) c
 unfoldable pub put : Standing → Sets → Sets
 put p s = put′ (p .side) (p .set) s
 
--- after a designation: "Designations and directions don't affect each other."
+-- after a designation, which leaves the directions as they were (rule E11)
 abbrev pub designatedOf : Side → ℕ → State → State
 designatedOf d c st = state (put (on d c) (st .sets)) (st .directions)
 

@@ -11,30 +11,30 @@ use Rattle.state.specs.Elements.{unit, refused, next}
 use Rattle.state.specs.declared.Sets.{Sets}
 use Rattle.state.specs.declared.elements.Shape.{Shape}
 
--- an octet less its top bit that a set of 94 uses, and either octet of a set of 94 by 94: "21-7E", "A1-FE"
+-- an octet less its top bit that a set of 94 uses, and either octet of a set of 94 by 94: 21 to 7E (rules E1b, E1c)
 unfoldable pub graphicOf : ℕ → Bool
 graphicOf c = pick (ltb c 0x21) false (leb c 0x7E)
 
--- "Code: of a character the octet less its top bit; for two octets first × 256 + second, each less its top bit"
+-- characters of one and of two octets; their codes are made of the octets without the top bits (rule U1)
 abbrev pub oneOctetOf : ℕ → ℕ → Shape
 oneOctetOf set b = unit kind.character set (b % 128) 1
 
 abbrev pub twoOctetsOf : ℕ → ℕ → ℕ → Shape
 twoOctetsOf set b d = unit kind.character set (b % 128 * 256 + d % 128) 2
 
--- "SPACE, a unit without a set"
+-- a space, which has neither set nor code (rule U1)
 abbrev pub spaceOf : Shape
 spaceOf = unit kind.space 0 0 1
 
--- the second octet, on the side of the first: "A missing second octet: 2. A second octet out of range: 3."
+-- the second octet, on the side of the first (rule E1d)
 unfoldable pub secondOctetOf : ℕ → ℕ → List ℕ → Shape
 secondOctetOf set b t =
     next t
     (λ d _.
     pick (eqb (d / 128) (b / 128)) (pick (graphicOf (d % 128)) (twoOctetsOf set b d) (refused refusal.unused)) (refused refusal.unused))
 
--- a character that begins with b, of the set on the side of b: "a 94 set uses A1-FE, a 96 set A0-FF, a two-octet set two octets A1-FE.
--- Others: refusal 3."
+-- a character that begins with b, of the set on the side of b: a set of 96 uses all 96 octets of the side, any other all but the first and
+-- the last (rules E1b, E1c)
 unfoldable pub characterOf : ℕ → ℕ → List ℕ → Shape
 characterOf set b t =
     pick (eqb (formOf set) form-96) (oneOctetOf set b)
@@ -42,7 +42,7 @@ characterOf set b t =
     (pick (eqb (formOf set) form-94x94) (secondOctetOf set b t) (oneOctetOf set b))
     (refused refusal.unused))
 
--- a GL or GR octet b: "GL octet 20 is SPACE .. when a one-octet set stands in GL; under a two-octet set it is refusal 3"
+-- a GL or GR octet b: 20 is a space under a set of one octet, and not used under one of two (rule E1b)
 unfoldable pub textOf : ℕ → List ℕ → Sets → Shape
 textOf b t s =
     pick (eqb b 0x20) (pick (eqb (formOf (s .gl)) form-94x94) (refused refusal.unused) (spaceOf))

@@ -52,7 +52,7 @@ reads-from s (stops f e) = refl
 reads-from s {at} (passes {k = k} t e a) = rw (drop-drop k at s) (reads-from s a)
 reads-from s {at} (reads {p = p} t m e a) = rw (unit-read s at p (t .fits) m, drop-drop (size p) at s, reads-from s a)
 
--- "A string reads as a list where their two readings are equal."
+-- a string reads as its own records (rule U4)
 pub records-read : (s : List ℕ) → listReading s (recordsOf s) ≡ some (readingOf s)
 unfolding recordsOf readingOf
 records-read s = reads-from s (from-start s)
@@ -70,7 +70,7 @@ meant-from s (stops f e) = none-left
 meant-from s (passes t e a) = meant-from s a
 meant-from s {at} (reads {p = p} t m e a) = one-more {r = recordOf p at} m (meant-from s a)
 
--- "Set and code are 0 where they mean nothing."
+-- each has 0 for what its kind does not use (rule U1)
 pub records-meant : (s : List ℕ) → AllMeant (recordsOf s)
 unfolding recordsOf
 records-meant s = meant-from s (from-start s)
@@ -93,7 +93,7 @@ unfolding pick
 counts-by s true z = absurd (let y : _≡_ {A = ℕ} refusal.too-long refusal.accepted = z in omega arith)
 counts-by s false z = omega (arith, counts-from s 0 (from-start s) z)
 
--- "Accepted is 0, the input's length, and the units"
+-- the count of an accepted string is that of its records (rule N1)
 pub records-count : (s : List ℕ) → checkOf s .number ≡ refusal.accepted → checkOf s .count ≡ length (recordsOf s)
 unfolding checkOf recordsOf
 records-count s z = counts-by s (ltb limit.octets (length s)) z

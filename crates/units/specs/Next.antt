@@ -20,6 +20,6 @@ outcomeOf (refused-at at n o) = Stops n (at + o)
 outcomeOf (silent-at at k st es) = outcomeOf es
 outcomeOf (found-at at p st es) = Gives (recordOf p at) (at + size p) st
 
--- "Refusal 1 comes before any unit."
+-- the same from a place of a string on; of a string over the limit 1 comes first (rule U8)
 unfoldable pub nextOf : List ℕ → ℕ → State → Outcome
 nextOf s at st = pick (ltb limit.octets (length s)) (Stops refusal.too-long 0) (outcomeOf (elements (from at s) 0 at st))

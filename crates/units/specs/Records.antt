@@ -9,8 +9,7 @@ use Rattle.grammar.specs.Reading.{Elements, end-at, refused-at, silent-at, foun
 abbrev pub blank : UnitRecord
 blank = record { kind = 0; set = 0; code = 0; start = 0; length = 0 }
 
--- the record of a unit whose element starts at a place: "Start and length name the unit's octets in the string; for an extended segment,
--- its n octets."
+-- the record of a unit whose element starts at a place; its start and length are those of the unit's own octets (rule U2)
 abbrev pub recordOf : Part → ℕ → UnitRecord
 recordOf p at =
     record { kind = p .kind; set = p .set; code = p .code; start = at + p .skip; length = p .octets }
@@ -22,6 +21,6 @@ recordsFrom (refused-at at n o) = []
 recordsFrom (silent-at at k st es) = recordsFrom es
 recordsFrom (found-at at p st es) = recordOf p at ∷ recordsFrom es
 
--- the units of a string "before the end or the offending element"
+-- the units of a string up to its end or to the element that is refused
 unfoldable pub recordsOf : List ℕ → List UnitRecord
 recordsOf s = recordsFrom (elementsOf s)

@@ -538,8 +538,8 @@ fn a30_runs_by_number() {
     assert_eq!((bad.set, bad.width, bad.direction), (0, 0, 0));
 }
 
-/// Each octet lies in exactly one run, tab, newline, control sequence or
-/// extended segment.
+/// No octet is left out of the runs, tabs, newlines, control sequences and
+/// extended segments, and none is in two of them.
 #[test]
 fn a31_every_octet_lies_in_one_part() {
     let s = hex("9B 31 5D 41 09 1B 25 2F 31 80 84 61 62 02 FF 1B 24 29 42 B0 A1 20 0A 9B 5D");
@@ -773,9 +773,9 @@ fn with_own_octets(string: &[u8], sets: Sets, unit: &Unit) -> Vec<(Vec<u8>, Sets
     all
 }
 
-/// Whether a designation stands only directly before a character or space whose
-/// set stands on no side that it may use, and a set on both sides is used in
-/// GL. This looks at the string alone.
+/// Whether nothing is designated but right before a character or space that
+/// needs it, and a set that is on both sides is used in GL. This looks at the
+/// string alone.
 fn is_lazy(s: &[u8]) -> bool {
     use crate::shape::Piece;
     let mut lazy = true;
