@@ -15,18 +15,13 @@ use Rattle.charset.specs.declared.Side.{Side}
 use Rattle.charset.specs.declared.Side.the-variants.{GL, GR}
 use Rattle.base.specs.Choice.{pick}
 use Rattle.base.proofs.Bools.{implies, implies-elim, pick-both, up-to, upTo}
-use Rattle.charset.specs.Charsets.{form-96, form-94x94, row, rows, rowOf, mayUse, allowed, fitsOf, find, setOf, formOf}
+use Rattle.charset.specs.Charsets.{form-96, form-94x94, Named, row, rows, rowOf, mayUse, allowed, fitsOf, find, setOf, formOf}
 
 -- past the table there is no set
 pub row-past : (n : ℕ) → 15 ≤ n → rowOf n ≡ row 0 0 false false
 row-past n h = List·getD-eq-default rows (row 0 0 false false) h
 
 -- a row that fits has the designation's form, side and final octet
-pub record Named (w : Row) (f : ℕ) (s : Side) (x : ℕ) : Type 0 where
-  pub form : w .form ≡ f
-  pub last : w .last ≡ x
-  pub side : mayUse s w ≡ true
-
 fits-all : (w : Row) (f : ℕ) (s : Side) (x : ℕ) → fitsOf w f s x ≡ true → Named w f s x
 unfolding fitsOf
 fits-all w f s x e =

@@ -1,5 +1,6 @@
 -- The fifteen sets, and the set that a designation names (rule S1).
 use Prim.Native.Nat.{ℕ, suc}
+use mathlib.Core.Path.{_≡_}
 use mathlib.Core.Bool.{Bool, true, false}
 use mathlib.Core.List.{List, [], _∷_}
 use lib.ListN.{getD}
@@ -80,3 +81,9 @@ find (w ∷ ws) f d x i = pick (fitsOf w f d x) i (find ws f d x (suc i))
 -- the set of a designation, `no-set` where there is none
 unfoldable pub setOf : ℕ → Side → ℕ → ℕ
 setOf f d x = find rows f d x 0
+
+-- a row has this form and final octet and may stand on this side
+pub record Named (w : Row) (f : ℕ) (s : Side) (x : ℕ) : Type 0 where
+  pub form : w .form ≡ f
+  pub last : w .last ≡ x
+  pub side : mayUse s w ≡ true

@@ -27,6 +27,7 @@ use Rattle.text.specs.Text.{oneOctetOf, secondOctetOf, characterOf, textOf}
 use Rattle.control.specs.Escape.{intermediatesOf, designatesOf, finalOf, designationOf, multiOctetOf, escapeOf}
 use Rattle.segment.specs.Segment.{segmentPart, nameOf, contentOf, bodyOf, lengthsOf, extendedOf}
 use Rattle.control.specs.Mark.{beginOf, csiOf}
+use Rattle.element.specs.Meant.{Meant, with-set, with-none, with-code, MeantPart}
 use Rattle.element.specs.Element.{shapeOf, steppedOf, directedOf, elementOf}
 use Rattle.state.specs.declared.Sets.{Sets}
 use Rattle.state.specs.declared.State.{State}
@@ -39,15 +40,6 @@ use Rattle.segment.specs.declared.Name.{Name}
 use Rattle.segment.specs.declared.Name.the-variants.{Ends as NameEnds, Bad}
 
 -- ---- a shape
-
--- a kind, set and code that a unit may have, with 0 for what the kind does not use (rule U1)
-pub data Meant : ℕ → ℕ → ℕ → Type 0 where
-  with-set : {set code : ℕ} → Meant kind.character set code
-  with-none : {k : ℕ} → k < kind.segment → Meant k 0 0
-  with-code : {code : ℕ} → Meant kind.segment 0 code
-
-abbrev pub MeantPart : Part → Type 0
-MeantPart p = Meant (p .kind) (p .set) (p .code)
 
 -- a shape of at least one and at most n octets, and the end only where n is 0
 data Shaped (n : ℕ) : Shape → Type 0 where

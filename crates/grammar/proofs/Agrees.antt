@@ -29,7 +29,7 @@ use Rattle.state.specs.declared.elements.Shape.{Shape}
 use Rattle.state.specs.declared.elements.Element.{Element}
 use Rattle.state.specs.declared.elements.Element.the-variants.{End, Refused, Silent, Found}
 use Rattle.grammar.specs.Units.{TextUnit, octets, lead, designation}
-use Rattle.grammar.specs.Grammar.{Reads, done, designate, show, Accepted}
+use Rattle.grammar.specs.Grammar.{Reads, done, designate, show, Accepted, Legal}
 use Rattle.base.specs.Limit as limit
 use Rattle.base.specs.Refusal as refusal
 use Rattle.grammar.proofs.Rule.{directed, passes as goes-on, direction-rule}
@@ -38,7 +38,7 @@ use Rattle.grammar.specs.Reading.{Elements, end-at, refused-at, silent-a
 use Rattle.base.specs.Answers.{answer, refusedAt}
 use Rattle.grammar.proofs.Elements.{elements-passed}
 use Rattle.grammar.proofs.Places.{Ahead, ends, stops, passes, reads, from-start}
-use Rattle.grammar.proofs.Sound.{Legal, Shown, Changed, Sound, refuses, designates, finds, sound, lead-size}
+use Rattle.grammar.proofs.Sound.{Shown, Changed, Sound, refuses, designates, finds, sound, lead-size}
 use Rattle.grammar.proofs.Complete.{starts-designation, starts-unit, partOf, part-size, part-some, part-unit}
 
 -- ---- the sets in force stay legal

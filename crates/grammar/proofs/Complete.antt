@@ -26,11 +26,11 @@ use Rattle.state.specs.declared.Sets.{Sets}
 use Rattle.state.specs.declared.elements.Part.{Part}
 use Rattle.state.specs.declared.elements.Shape.the-variants.{Designates, Gives}
 use Rattle.grammar.specs.Units.{TextUnit, char, space, control, tab, newline, ltr, rtl, revert, ext, kindOf, controlOctets, textOctets, counts, unitOf, wide, top, shown, octets, designation, codeUsed, segment, good}
-use Rattle.grammar.specs.Grammar.{Shows}
+use Rattle.grammar.specs.Grammar.{Shows, Legal}
 use Rattle.grammar.specs.Reading.{unitAt}
 use Rattle.grammar.proofs.Segment.{content}
 use Rattle.grammar.proofs.Good.{GoodSegment, good-segment}
-use Rattle.grammar.proofs.Sound.{Legal, graphic-low}
+use Rattle.grammar.proofs.Sound.{graphic-low}
 
 -- a rule of the first n numbers, one by one
 abbrev Each : ℕ → (ℕ → Type 0) → Type 0
@@ -59,7 +59,8 @@ module _ (s : Sets) where
       off & (λ _. refl) & off & (λ _. refl) & (λ _. refl) & (λ _. refl) & (λ _. refl) & (λ _. refl) & (λ _. refl) & (λ _. refl) & (λ _. refl) & (λ _. refl)
       & (λ _. refl) & (λ _. refl) & (λ _. refl) & tt
 
-  pub starts-designation : (d : Side) (c : ℕ) (t : List ℕ) → Starts t d c
+  pub starts-designation : (d : Side) (c : ℕ) (t : List ℕ) → allowed d c ≡ true
+      → shapeOf (designation (on d c) ++ t) s ≡ Designates (length (designation (on d c))) d c
   starts-designation d c t a = each 15 (Starts t d) (starts-at t d) c (allowed-below d c a) a
 
   -- ---- characters

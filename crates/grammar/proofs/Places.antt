@@ -12,7 +12,8 @@ use borrow.Author.Tests.{ltb-true, ltb-false}
 use Rattle.base.specs.Choice.{from}
 use Rattle.base.proofs.Ladder.{from-end, from-from, from-length}
 use Rattle.element.specs.Element.{elementOf}
-use Rattle.element.proofs.Sizes.{Sized, Fit, MeantPart, Passed, silent, found, element-size, of-refused, of-passed, of-meant}
+use Rattle.element.specs.Meant.{MeantPart}
+use Rattle.element.proofs.Sizes.{Sized, Fit, Passed, silent, found, element-size, of-refused, of-passed, of-meant}
 use Rattle.state.specs.State.{fresh}
 use Rattle.state.specs.declared.State.{State}
 use Rattle.state.specs.declared.elements.Part.{Part}

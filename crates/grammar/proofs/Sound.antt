@@ -13,8 +13,8 @@ use Rattle.base.specs.Choice.{pick}
 use Rattle.base.proofs.Bools.{pick-last}
 use Rattle.charset.specs.declared.Side.{Side}
 use Rattle.charset.specs.declared.Side.the-variants.{GL, GR}
-use Rattle.charset.specs.Charsets.{rowOf, formOf, allowed, setOf}
-use Rattle.charset.proofs.Laws.{Named, set-named, allowed-below}
+use Rattle.charset.specs.Charsets.{Named, rowOf, formOf, allowed, setOf}
+use Rattle.charset.proofs.Laws.{set-named, allowed-below}
 use Rattle.state.specs.State.{Standing, on, get}
 use Rattle.state.specs.Directions.{countsAsText}
 use Rattle.state.specs.Elements.{part, next}
@@ -28,14 +28,9 @@ use Rattle.state.specs.declared.elements.Part.{Part}
 use Rattle.state.specs.declared.elements.Shape.{Shape}
 use Rattle.state.specs.declared.elements.Shape.the-variants.{Refuses, Designates, Gives}
 use Rattle.grammar.specs.Units.{TextUnit, char, space, control, tab, newline, ltr, rtl, revert, ext, kindOf, textOctets, counts, unitOf, wide, top, octets, lead, designation, codeUsed, segment, good}
-use Rattle.grammar.specs.Grammar.{Shows}
+use Rattle.grammar.specs.Grammar.{Shows, Legal}
 use Rattle.grammar.specs.Reading.{Octets, unitAt}
 use Rattle.grammar.proofs.Segment.{content}
-
--- each set stands on a side it may use
-pub record Legal (s : Sets) : Type 0 where
-  pub left : allowed GL (s .gl) ≡ true
-  pub right : allowed GR (s .gr) ≡ true
 
 -- octets w that start with a unit on a side, which is that of a part, and go on with t
 pub record Shown (s : Sets) (w : List ℕ) (p : Part) (u : TextUnit) (d : Side) (t : List ℕ) : Type 0 where

@@ -9,10 +9,16 @@ use lib.ListN.{length}
 use Rattle.base.specs.Kind as kind
 use Rattle.base.specs.Limit as limit
 use Rattle.charset.specs.declared.Side.{Side}
+use Rattle.charset.specs.declared.Side.the-variants.{GL, GR}
 use Rattle.charset.specs.Charsets.{allowed}
 use Rattle.state.specs.State.{Standing, get, put, fresh}
 use Rattle.state.specs.declared.Sets.{Sets}
 use Rattle.grammar.specs.Units.{TextUnit, char, space, control, ext, kindOf, counts, wide, octets, designation, good}
+
+-- each set stands on a side it may use
+pub record Legal (s : Sets) : Type 0 where
+  pub left : allowed GL (s .gl) ≡ true
+  pub right : allowed GR (s .gr) ≡ true
 
 -- a unit may be shown on a side: a character where its set stands, a space where a one-octet set stands in GL
 abbrev pub Shows : TextUnit → Side → Sets → Type 0

@@ -16,10 +16,11 @@ use Rattle.base.specs.Kind as kind
 use Rattle.charset.specs.declared.Side.{Side}
 use Rattle.element.specs.Element.{elementOf, shapeOf, directedOf}
 use Rattle.element.proofs.Sizes.{silent, found}
+use Rattle.grammar.specs.Grammar.{Legal}
 use Rattle.grammar.specs.Reading.{Elements, size, Octets}
 use Rattle.grammar.specs.Units.{TextUnit, kindOf, octets}
 use Rattle.grammar.proofs.Places.{ahead, at-end, at-refused, at-passed}
-use Rattle.grammar.proofs.Sound.{Legal, Shown, sound}
+use Rattle.grammar.proofs.Sound.{Shown, sound}
 use Rattle.grammar.proofs.Agrees.{Right, refused, passed, read, right, fresh-legal, put-legal}
 use Rattle.state.specs.Directions.{inForceOf}
 use Rattle.state.specs.State.{on, fresh}
@@ -31,16 +32,12 @@ use Rattle.pieces.specs.PieceKind as pieceKind
 use Rattle.pieces.specs.Pieces.{noPiece, sideKindOf, pieceKindOf, pieceOf, isRun, sameRunOf, longer, joined, piecesOf, stateAt}
 use Rattle.pieces.specs.declared.Piece.{Piece}
 use Rattle.pieces.proofs.Joined.{Followed, same, over, other, followed, joined-by}
-use Rattle.pieces.proofs.Partition.{EndToEnd, none, more, tiled}
+use Rattle.pieces.specs.Partition.{EndToEnd, none, more, Apart, nothing, alone, before, OneSided, Same, stateFrom, InForce, Each, empty, with-first}
+use Rattle.pieces.proofs.Partition.{tiled}
 use Rattle.pieces.proofs.Step.{Step, stops, goes, step, elementAt, rest, fits}
 use Rattle.pieces.proofs.Text.{text-side, text-keeps}
 
 -- ---- longest
-
-pub data Apart : List Piece → Type 0 where
-  nothing : Apart []
-  alone : {p : Piece} → Apart (p ∷ [])
-  before : {p q : Piece} {qs : List Piece} → sameRunOf (p .kind) (q .kind) ≡ false → Apart (q ∷ qs) → Apart (p ∷ q ∷ qs)
 
 like : (p q : Piece) (qs : List Piece) → p .kind ≡ q .kind → Apart (q ∷ qs) → Apart (p ∷ qs)
 like p q [] e h = alone
@@ -56,30 +53,6 @@ joined-keeps-apart : (p : Piece) (ps : List Piece) → Apart ps → Apart (joine
 unfolding joined
 joined-keeps-apart p [] h = alone
 joined-keeps-apart p (q ∷ qs) h = joined-apart-by p q qs (followed (p .kind) (q .kind)) h
-
--- ---- one side
-
--- the octets of a piece that is a run
-abbrev pub OneSided : List ℕ → Piece → Type 0
-OneSided s p = isRun (p .kind) ≡ true → (i : ℕ) → p .start ≤ i → i < p .end → sideKindOf (getD s i 0) ≡ p .kind
-
--- ---- what is in force
-
--- two states have the same sets and the same direction in force
-pub record Same (a b : State) : Type 0 where
-  pub sets : a .sets ≡ b .sets
-  pub way : inForceOf (a .directions) ≡ inForceOf (b .directions)
-
-abbrev pub stateFrom : List ℕ → ℕ → State → ℕ → State
-stateFrom s at st i = stateAt st (ahead s at st) i
-
--- at each octet of a run, and after it, its sets and its direction are in force
-abbrev pub InForce : List ℕ → ℕ → State → Piece → Type 0
-InForce s at st p = isRun (p .kind) ≡ true → (i : ℕ) → p .start ≤ i → i ≤ p .end → Same (stateFrom s at st i) (p .state)
-
-pub data Each (P : Piece → Type 0) : List Piece → Type 0 where
-  empty : Each P []
-  with-first : {p : Piece} {ps : List Piece} → P p → Each P ps → Each P (p ∷ ps)
 
 -- what two neighbours of one run have, the run has too
 module _ (P : Piece → Type 0) (join : (p q : Piece) → p .start < p .end → q .start ≡ p .end → q .start < q .end → p .kind ≡ q .kind → P p → P q → P (longer p q)) where

@@ -17,12 +17,8 @@ use Rattle.state.specs.State.{fresh}
 use Rattle.state.specs.declared.State.{State}
 use Rattle.pieces.specs.Pieces.{sameRunOf, longer, joined, piecesOf, contains, holding}
 use Rattle.pieces.specs.declared.Piece.{Piece}
+use Rattle.pieces.specs.Partition.{EndToEnd, none, more}
 use Rattle.pieces.proofs.Step.{Step, stops, goes, step, rest, noRefusal}
-
--- pieces that lie end to end from a place to another
-pub data EndToEnd : ℕ → ℕ → List Piece → Type 0 where
-  none : {a : ℕ} → EndToEnd a a []
-  more : {a e : ℕ} {p : Piece} {ps : List Piece} → p .start ≡ a → a < p .end → EndToEnd (p .end) e ps → EndToEnd a e (p ∷ ps)
 
 joined-by : (t : Bool) {a e : ℕ} (p q : Piece) (qs : List Piece) → p .start ≡ a → a < p .end → EndToEnd (p .end) e (q ∷ qs) → EndToEnd a e (pick t (longer p q ∷ qs) (p ∷ q ∷ qs))
 unfolding pick

@@ -1,2 +1,3 @@
 pub mod PieceKind
 pub mod Pieces
+pub mod Partition

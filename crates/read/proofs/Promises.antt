@@ -12,8 +12,8 @@ use Rattle.base.specs.declared.Answer.{Answer}
 use Rattle.base.specs.declared.Unit.{Unit as UnitRecord}
 use Rattle.grammar.specs.Reading.{checkOf, readingOf}
 use Rattle.grammar.specs.Records.{listReading}
-use Rattle.units.specs.Records.{recordsOf}
-use Rattle.units.proofs.Records.{AllMeant, records-read, records-meant}
+use Rattle.units.specs.Records.{recordsOf, AllMeant}
+use Rattle.units.proofs.Records.{records-read, records-meant}
 use Rattle.read.specs.Listing.{readAnswer, listAfter}
 use Rattle.read.proofs.Cases.{Case, refuses, lacks, accepts, read-cases}
 

@@ -28,7 +28,8 @@ use Rattle.state.specs.declared.elements.Element.{Element}
 use Rattle.state.specs.declared.elements.Element.the-variants.{End, Refused, Silent, Found}
 use Rattle.pieces.specs.Pieces.{pieceOf, isRun, sameRunOf, longer, joined, piecesFrom, piecesOf}
 use Rattle.pieces.specs.declared.Piece.{Piece}
-use Rattle.pieces.proofs.Laws.{StateAfter, stateFrom, state-after, first-state}
+use Rattle.pieces.specs.Partition.{stateFrom}
+use Rattle.pieces.proofs.Laws.{StateAfter, state-after, first-state}
 use Rattle.pieces.proofs.Step.{Step, stops, goes, step, elementAt, pieceAt, rest, noRefusal}
 use Rattle.runs.specs.Runs.{runsIn, runsOf, shownOf, noRun, nthOf, runAt}
 use Rattle.runs.specs.Steps.{firstPosition, stays, stepTo, stopAt, lastOf, firstOf, runFrom, knownOf, checkedFrom, nextRunOf, positionAfter}

@@ -7,7 +7,8 @@ use lib.ListN.{length}
 use Rattle.base.specs.Choice.{pick, from}
 use Rattle.pieces.specs.Pieces.{isRun, piecesOf}
 use Rattle.pieces.specs.declared.Piece.{Piece}
-use Rattle.pieces.proofs.Partition.{EndToEnd, none, more, pieces-tiled}
+use Rattle.pieces.specs.Partition.{EndToEnd, none, more}
+use Rattle.pieces.proofs.Partition.{pieces-tiled}
 use Rattle.runs.specs.Runs.{runsIn, runsOf, shownOf, nthOf, runAt}
 use Rattle.runs.specs.declared.Bounds.{Bounds}
 

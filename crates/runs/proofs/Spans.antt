@@ -18,11 +18,12 @@ use Rattle.charset.specs.declared.Side.{Side}
 use Rattle.charset.specs.declared.Side.the-variants.{GL, GR}
 use Rattle.charset.proofs.Laws.{formRule, form-rule, allowed-below, left-form}
 use Rattle.element.specs.Element.{elementOf, shapeOf, directedOf}
+use Rattle.grammar.specs.Grammar.{Legal}
 use Rattle.grammar.specs.Reading.{size, direct, Octets}
 use Rattle.grammar.specs.Units.{TextUnit, char, space, control, tab, newline, ltr, rtl, revert, ext, kindOf, counts, wide, top, shown, octets, codeUsed, good}
 use Rattle.grammar.proofs.Agrees.{Right, refused, passed, read, right}
 use Rattle.base.proofs.Bools.{and-left, and-right}
-use Rattle.grammar.proofs.Sound.{Legal, Shown, sound, graphic-low}
+use Rattle.grammar.proofs.Sound.{Shown, sound, graphic-low}
 use Rattle.state.specs.Directions.{directions, writtenOf, stepOf}
 use Rattle.state.specs.State.{get, state}
 use Rattle.state.specs.declared.State.{State}

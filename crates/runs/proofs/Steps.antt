@@ -16,9 +16,9 @@ use Rattle.base.proofs.Ladder.{on-eq, on-ne}
 use Rattle.charset.specs.Charsets.{no-set, allowed}
 use Rattle.charset.specs.declared.Side.the-variants.{GL, GR}
 use Rattle.element.proofs.Sizes.{Fit, silent, found}
+use Rattle.grammar.specs.Grammar.{Legal}
 use Rattle.grammar.specs.Reading.{Octets}
 use Rattle.grammar.proofs.Places.{ahead, at-end, at-refused, at-passed, step-passed}
-use Rattle.grammar.proofs.Sound.{Legal}
 use Rattle.reader.specs.Step.{mayStand}
 use Rattle.reader.proofs.Whole.{fresh-fit}
 use Rattle.state.specs.State.{designatedOf}
@@ -34,7 +34,8 @@ use Rattle.pieces.specs.PieceKind as pieceKind
 use Rattle.pieces.specs.Pieces.{piece, noPiece, sideKindOf, pieceOf, isRun, sameRunOf, extendedTo, joined, endingOf, stateAt}
 use Rattle.pieces.specs.declared.Piece.{Piece}
 use Rattle.pieces.proofs.Joined.{Followed, same, over, other, followed, joined-apart, joined-same, extended-same, extended-apart}
-use Rattle.pieces.proofs.Laws.{stateFrom, state-after, first-state}
+use Rattle.pieces.specs.Partition.{stateFrom}
+use Rattle.pieces.proofs.Laws.{state-after, first-state}
 use Rattle.pieces.proofs.Step.{Step, stops, goes, step, elementAt, pieceAt, rest, fits, on-past}
 use Rattle.runs.specs.Runs.{shownOf}
 use Rattle.runs.specs.Spans.{Ones, Twos, Single, Double, TextTo, singly, doubly}

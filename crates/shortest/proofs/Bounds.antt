@@ -10,8 +10,7 @@ use native.Mathlib.Omega.{arith}
 use lib.ListN.{length, length-append}
 use Rattle.base.proofs.Bools.{and-left, or-cases}
 use Rattle.charset.specs.Charsets.{no-set, formOf, allowed}
-use Rattle.grammar.specs.Grammar.{Shows, Reads, done, designate, show}
-use Rattle.grammar.proofs.Sound.{Legal}
+use Rattle.grammar.specs.Grammar.{Shows, Reads, done, designate, show, Legal}
 use Rattle.grammar.proofs.Agrees.{put-legal}
 use lib.Dec.{eqb, ltb}
 use borrow.Author.Tests.{eqb-true, eq-eqb, ltb-true}
@@ -71,10 +70,3 @@ met-shows (char c k) s e = go (allowed GL c) (allowed GR c) e
 met-shows space s e = ⊎-elim (λ q. ap wide (eqb-true (s .gl) 0 q)) (λ q. ap wide (eqb-true (s .gl) 2 q)) (or-cases (eqb (s .gl) 0) (eqb (s .gl) 2) e)
 met-shows (control x) s e = tt
 met-shows (ext d xs) s e = tt
-
-abbrev pub Every : (TextUnit → Type 0) → List TextUnit → Type 0
-Every P [] = Unit {0}
-Every P (u ∷ us) = P u × Every P us
-
-abbrev pub Good : List TextUnit → Type 0
-Good us = Every (λ u. good u ≡ true) us

@@ -17,14 +17,13 @@ use Rattle.charset.specs.Charsets.{allowed, mayUse}
 use Rattle.state.specs.State.{Standing, on}
 use Rattle.state.specs.declared.Sets.{Sets}
 use Rattle.grammar.specs.Units.{TextUnit, char, space, control, ext, octets, good}
-use Rattle.grammar.specs.Grammar.{Shows, Reads, done, designate, show}
-use Rattle.grammar.proofs.Sound.{Legal}
+use Rattle.grammar.specs.Grammar.{Shows, Reads, done, designate, show, Legal}
 use Rattle.grammar.proofs.Agrees.{put-legal}
-use Rattle.shortest.specs.Writing.{Need, free, either, stands, met, via, least, choose, after, designated, size, need, placesOf, used, cost, writing}
+use Rattle.shortest.specs.Writing.{Need, free, either, stands, met, via, least, choose, after, designated, size, need, placesOf, used, cost, writing, Good}
 use Rattle.shortest.specs.Choice.{Serves, MayPrecede, LeftFirst, Lazy, nil, next, Preferred, Before, here, later, Chosen}
 use Rattle.shortest.proofs.Needs.{spent, Chose, nothing, the-first, the-second, chose, chosen-met}
 use Rattle.shortest.proofs.Costs.{spent-length, size-side, writing-length}
-use Rattle.shortest.proofs.Bounds.{Good, good-side, shows-met, met-shows, lower}
+use Rattle.shortest.proofs.Bounds.{good-side, shows-met, met-shows, lower}
 
 -- ---- a unit's need
 

@@ -23,7 +23,7 @@ use Rattle.grammar.specs.Units.{TextUnit, char, space, control, ext, good}
 use Rattle.grammar.specs.Reading.{direct}
 use Rattle.grammar.specs.Records.{unitRead}
 use Rattle.shortest.specs.Records.{own, fault, Finding, fine, faulty, onStep, checkRecords}
-use Rattle.shortest.specs.Offence.{stepTo, directionsAfter, noRecord, faultAt, FirstFrom, FirstOffends, NoneFrom, NoneOffends}
+use Rattle.shortest.specs.Offence.{stepTo, directionsAfter, noRecord, faultAt, FirstFrom, FirstOffends, NoneFrom, NoneOffends, Number}
 
 never : {d : Directions} {n : ℕ} (x : Step) → x ≡ Goes d → x ≡ Stops n → ⊥
 never x p q =
@@ -122,9 +122,6 @@ ruled x kind d =
     let deeper : (way : ℕ) → Ruled (deeperOf way d) = λ way. ruled-pick _ goes (stops (inr refl)) in
     let begun : (way : ℕ) → Ruled (begunOf way d) = λ way. ruled-pick _ (deeper way) (ruled-pick _ eight (deeper way)) in
     ruled-pick _ (ruled-pick _ (ruled-pick _ eight goes) goes) (ruled-pick _ (begun 0) (ruled-pick _ (begun 1) (ruled-pick _ (ruled-pick _ eight goes) goes)))
-
-abbrev pub Number : ℕ → Type 0
-Number n = (n ≡ refusal.bad-unit) ⊎ (n ≡ refusal.bad-segment) ⊎ (n ≡ refusal.direction) ⊎ (n ≡ refusal.too-deep)
 
 own-number : (u : TextUnit) → Number (own u)
 own-number (char c k) = inl refl

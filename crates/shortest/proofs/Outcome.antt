@@ -23,9 +23,10 @@ use Rattle.shortest.specs.Writing.{shortestCount}
 use Rattle.shortest.specs.Demand.{writeAnswer}
 use Rattle.grammar.specs.Records.{unitRead, listReading}
 use Rattle.shortest.specs.Records.{Finding, fine, faulty, checkRecords, afterCheck, ofReading, workRoom, writerAnswer}
-use Rattle.shortest.specs.Offence.{directionsAfter, noRecord, faultAt, FirstOffends, NoneOffends}
-use Rattle.shortest.specs.Outcome.{Served, Outcome, long-list, offending, short-work, long-writing, short-output, written}
-use Rattle.shortest.proofs.Offence.{offence, no-offence, Number, numbers}
+use Rattle.shortest.specs.Offence.{directionsAfter, noRecord, faultAt, FirstOffends, NoneOffends, Number}
+use Rattle.shortest.specs.Outcome.{Served, Accepts, LacksWorkRoom, TooLong, LacksRoom}
+use Rattle.shortest.specs.Outcome.{Outcome, long-list, offending, short-work, long-writing, short-output, written}
+use Rattle.shortest.proofs.Offence.{offence, no-offence, numbers}
 use Rattle.shortest.proofs.Records.{fine-units, reading-length}
 
 -- number, place and count of an answer
@@ -110,48 +111,36 @@ module _ (rs : List UnitRecord) (o : List ℕ) (work m : ℕ) where
   numbered : {n p c : ℕ} → Outcome rs o work m n p c → number ≡ n
   numbered x = ap (λ (a : Answer). a .number) (outcome-is rs o work m x)
 
-  -- 0: some reading, every condition met, and the count fits
-  abbrev pub Accepts : Type 0
-  Accepts = (us : List TextUnit) × Served rs o work us × (shortestCount us ≤ limit.octets) × (shortestCount us ≤ m)
-
-  pub accepted-where : (number ≡ refusal.accepted) ↔ Accepts
+  -- 0 (rule N6)
+  pub accepted-where : (number ≡ refusal.accepted) ↔ Accepts rs o work m
   accepted-where = (λ e. go (known e), λ w. numbered (written (w .0) (w .1) (w .2) (w .3)))
     where
-      go : {p c : ℕ} → Outcome rs o work m refusal.accepted p c → Accepts
+      go : {p c : ℕ} → Outcome rs o work m refusal.accepted p c → Accepts rs o work m
       go (offending h f) = absurd (omega (arith, off f))
       go (written us v h k) = (us, v, h, k)
 
-  -- 12: too little work room, and no earlier refusal (rule N4)
-  abbrev pub LacksWorkRoom : Type 0
-  LacksWorkRoom = (length rs ≤ limit.units) × NoneOffends o rs × (work < workRoom (length rs))
-
-  pub work-room-where : (number ≡ refusal.no-work-room) ↔ LacksWorkRoom
+  -- 12 (rule N4)
+  pub work-room-where : (number ≡ refusal.no-work-room) ↔ LacksWorkRoom rs o work
   work-room-where = (λ e. go (known e), λ w. numbered (short-work (w .0) (w .1) (w .2)))
     where
-      go : {p c : ℕ} → Outcome rs o work m refusal.no-work-room p c → LacksWorkRoom
+      go : {p c : ℕ} → Outcome rs o work m refusal.no-work-room p c → LacksWorkRoom rs o work
       go (offending h f) = absurd (omega (arith, off f))
       go (short-work h f w) = (h, f, w)
 
-  -- 1: the list or its shortest writing is over the limit (rules J2, N3)
-  abbrev pub TooLong : Type 0
-  TooLong = (limit.units < length rs) ⊎ ((us : List TextUnit) × Served rs o work us × (limit.octets < shortestCount us))
-
-  pub too-long-where : (number ≡ refusal.too-long) ↔ TooLong
+  -- 1 (rules J2, N3)
+  pub too-long-where : (number ≡ refusal.too-long) ↔ TooLong rs o work
   too-long-where = (λ e. go (known e), ⊎-elim (λ h. numbered (long-list h)) (λ w. numbered (long-writing (w .0) (w .1) (w .2))))
     where
-      go : {p c : ℕ} → Outcome rs o work m refusal.too-long p c → TooLong
+      go : {p c : ℕ} → Outcome rs o work m refusal.too-long p c → TooLong rs o work
       go (long-list h) = inl h
       go (offending h f) = absurd (omega (arith, off f))
       go (long-writing us v h) = inr (us, v, h)
 
-  -- 10: the output has fewer octets
-  abbrev pub LacksRoom : Type 0
-  LacksRoom = (us : List TextUnit) × Served rs o work us × (shortestCount us ≤ limit.octets) × (m < shortestCount us)
-
-  pub no-room-where : (number ≡ refusal.no-room) ↔ LacksRoom
+  -- 10 (rule N6)
+  pub no-room-where : (number ≡ refusal.no-room) ↔ LacksRoom rs o work m
   no-room-where = (λ e. go (known e), λ w. numbered (short-output (w .0) (w .1) (w .2) (w .3)))
     where
-      go : {p c : ℕ} → Outcome rs o work m refusal.no-room p c → LacksRoom
+      go : {p c : ℕ} → Outcome rs o work m refusal.no-room p c → LacksRoom rs o work m
       go (offending h f) = absurd (off f .2 refl)
       go (short-output us v h k) = (us, v, h, k)
 

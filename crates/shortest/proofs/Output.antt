@@ -23,15 +23,15 @@ use Rattle.state.specs.Directions.{undirected}
 use Rattle.grammar.specs.Units.{TextUnit}
 use Rattle.grammar.specs.Reading.{Octets, ReadAs}
 use Rattle.grammar.proofs.Agrees.{fresh-legal}
-use Rattle.shortest.specs.Writing.{shortestOf, shortestCount}
+use Rattle.shortest.specs.Writing.{shortestOf, shortestCount, Good}
 use Rattle.shortest.specs.Demand.{writeAnswer, outputAfter}
 use Rattle.grammar.specs.Records.{listReading}
 use Rattle.shortest.specs.Records.{writerAnswer, writerOutput}
 use Rattle.shortest.specs.Choice.{Chosen}
 use Rattle.shortest.specs.Offence.{Grammatical}
-use Rattle.shortest.specs.Outcome.{Served, written}
+use Rattle.shortest.specs.Outcome.{Served, Given, written}
 use Rattle.shortest.proofs.Costs.{writing-length}
-use Rattle.shortest.proofs.Bounds.{lower, Good}
+use Rattle.shortest.proofs.Bounds.{lower}
 use Rattle.shortest.proofs.Choice.{choices, the-choice, one-choice}
 use Rattle.shortest.proofs.Offence.{no-offence}
 use Rattle.shortest.proofs.Records.{fine-units, list-grammatical, list-written}
@@ -64,18 +64,8 @@ module _ (rs : List UnitRecord) (o : List ℕ) (work : ℕ) (out : List ℕ) whe
   unfolding writerOutput
   refused-output n = rw (ne-eqb (answered .number) refusal.accepted n)
 
-  -- what is known where the answer is 0
-  pub record Given : Type 0 where
-    pub units : List TextUnit
-    pub reading : listReading o rs ≡ some units
-    pub good-ones : Good units
-    pub answers : answered ≡ answer refusal.accepted (length rs) (shortestCount units)
-    pub short : shortestCount units ≤ limit.octets
-    pub fits : shortestCount units ≤ length out
-    pub holds : writerOutput rs o work out ≡ shortestOf units ++ drop (shortestCount units) out
-
   -- else the string stands at its start, and the rest stays (rule W5)
-  pub accepted-output : answered .number ≡ refusal.accepted → Given
+  pub accepted-output : answered .number ≡ refusal.accepted → Given rs o work out
   unfolding writerOutput outputAfter
   accepted-output e =
       let w = accepted-where rs o work (length out) .0 e in
@@ -93,7 +83,7 @@ module _ (rs : List UnitRecord) (o : List ℕ) (work : ℕ) (out : List ℕ) whe
       }
 
   -- the octets that the answer counts are the writing
-  output-string : (g : Given) → string ≡ shortestOf (g .units)
+  output-string : (g : Given rs o work out) → string ≡ shortestOf (g .units)
   output-string g =
       let w = shortestOf (g .units) in
       let rest = drop (shortestCount (g .units)) out in

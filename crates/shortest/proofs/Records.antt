@@ -22,13 +22,11 @@ use Rattle.state.specs.declared.directions.Step.the-variants.{Goes, Stops}
 use Rattle.grammar.specs.Units.{TextUnit, space, unitOf, good}
 use Rattle.grammar.specs.Reading.{direct, Octets, ReadAs}
 use Rattle.grammar.proofs.Rule.{directed, passes, direction-rule}
-use Rattle.shortest.specs.Writing.{shortestOf, shortestCount}
+use Rattle.shortest.specs.Writing.{shortestOf, shortestCount, Every, Good, Contents}
 use Rattle.grammar.specs.Records.{readable, unitRead, prepend, listReading}
 use Rattle.shortest.specs.Records.{fault, own, fine, faulty, onStep, checkRecords}
-use Rattle.shortest.specs.Offence.{NoneOffends, Grammatical}
+use Rattle.shortest.specs.Offence.{NoneOffends, Grammatical, SomeString}
 use Rattle.shortest.proofs.Costs.{writing-length}
-use Rattle.shortest.proofs.Bounds.{Every, Good}
-use Rattle.shortest.proofs.Written.{Contents}
 use Rattle.shortest.proofs.Shortest.{good-all, accepted, writing-grammatical, within-limit, no-shorter, units-within}
 use Rattle.shortest.proofs.Offence.{no-offence}
 
@@ -163,9 +161,6 @@ list-grammatical o rs us h c e =
 pub list-written : (o : List ℕ) (rs : List UnitRecord) (us : List TextUnit) → Octets o → checkRecords o rs 0 undirected ≡ fine → listReading o rs ≡ some us
     → shortestCount us ≤ limit.octets → ReadAs (shortestOf us) us
 list-written o rs us h c e l = within-limit (list-grammatical o rs us h c e) (omega (arith, writing-length us (fresh .sets)))
-
-abbrev pub SomeString : List ℕ → List UnitRecord → Type 0
-SomeString o rs = (us : List TextUnit) × (t : List ℕ) × (listReading o rs ≡ some us) × Grammatical t us
 
 fine-read : (o : List ℕ) (rs : List UnitRecord) → Octets o → (checkRecords o rs 0 undirected ≡ fine) ↔ SomeString o rs
 fine-read o rs h = (

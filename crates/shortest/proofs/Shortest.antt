@@ -20,13 +20,13 @@ use Rattle.grammar.specs.Grammar.{Reads, done, designate, show, Lawful, Accepte
 use Rattle.grammar.specs.Reading.{ReadAs}
 use Rattle.grammar.proofs.Complete.{part-size, part-some}
 use Rattle.grammar.proofs.Agrees.{agrees, fresh-legal}
-use Rattle.shortest.specs.Writing.{shortestOf, shortestCount}
+use Rattle.shortest.specs.Writing.{shortestOf, shortestCount, Every, Good, Contents}
 use Rattle.shortest.specs.Demand.{writeAnswer, outputAfter, Least, Demand3}
 use Rattle.shortest.specs.Offence.{Grammatical}
 use Rattle.shortest.proofs.Costs.{writing-length}
-use Rattle.shortest.proofs.Bounds.{lower, Every, Good}
+use Rattle.shortest.proofs.Bounds.{lower}
 use Rattle.shortest.proofs.Choice.{lazy-reads, writing-lazy}
-use Rattle.shortest.proofs.Written.{Contents, reads-contents, writing-octets}
+use Rattle.shortest.proofs.Written.{reads-contents, writing-octets}
 
 pub good-all : {s : Sets} {t : List ℕ} {us : List TextUnit} → Reads s t us → Good us
 good-all done = tt

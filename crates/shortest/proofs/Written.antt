@@ -21,8 +21,7 @@ use Rattle.grammar.specs.Units.{wide, top, shown, octets, designation, codeUsed
 use Rattle.grammar.specs.Grammar.{Reads, done, designate, show}
 use Rattle.grammar.specs.Reading.{Octets}
 use Rattle.grammar.proofs.Good.{one-code, two-code, good-segment}
-use Rattle.shortest.specs.Writing.{need, cost, choose, after, designated, used, writing}
-use Rattle.shortest.proofs.Bounds.{Every, Good}
+use Rattle.shortest.specs.Writing.{need, cost, choose, after, designated, used, writing, Every, Good, Contents}
 
 -- each number of a list is below 256
 abbrev Small : List ℕ → Type 0
@@ -80,12 +79,6 @@ char-octets d c k u = go (eqb (formOf c) form-94x94) refl
     go false e = small ((top d + k) ∷ []) (topped d k (one-code (formOf c) k e u), tt)
 
 -- the octets of an extended segment are octets
-abbrev pub Contents : TextUnit → Type 0
-Contents (char c k) = Unit {0}
-Contents space = Unit {0}
-Contents (control x) = Unit {0}
-Contents (ext e xs) = Octets xs
-
 unit-octets : (u : TextUnit) (d : Side) → good u ≡ true → Contents u → Octets (octets d u)
 unfolding octets good
 unit-octets (char c k) d g o = char-octets d c k (and-right (ltb c no-set) (codeUsed (formOf c) k) g)

@@ -4,6 +4,7 @@ use mathlib.Core.Path.{_≡_}
 use mathlib.Core.Bool.{false}
 use mathlib.Core.List.{List, [], _∷_}
 use mathlib.Core.Logic.{_⊎_}
+use mathlib.Core.Option.{some}
 use lib.ListN.{length, getD, take, drop}
 use Rattle.base.specs.Kind as kind
 use Rattle.base.specs.Refusal as refusal
@@ -17,7 +18,7 @@ use Rattle.charset.specs.Charsets.{no-set, formOf}
 use Rattle.grammar.specs.Units.{TextUnit, codeUsed, segment, mostOfSegment}
 use Rattle.grammar.specs.Grammar.{Reads, Lawful}
 use Rattle.grammar.specs.Reading.{Octets}
-use Rattle.grammar.specs.Records.{unitRead}
+use Rattle.grammar.specs.Records.{unitRead, listReading}
 use Rattle.shortest.specs.Records.{fault}
 
 -- the directions after a step; where it stops they stay
@@ -76,3 +77,11 @@ pub record Grammatical (t : List ℕ) (us : List TextUnit) : Type 0 where
   pub octets : Octets t
   pub reads : Reads (fresh .sets) t us
   pub rule : Lawful us 0 0 0
+
+-- the numbers that refuse a unit (rule N2)
+abbrev pub Number : ℕ → Type 0
+Number n = (n ≡ refusal.bad-unit) ⊎ (n ≡ refusal.bad-segment) ⊎ (n ≡ refusal.direction) ⊎ (n ≡ refusal.too-deep)
+
+-- the records are of a reading that some string of the grammar has (rule N8)
+abbrev pub SomeString : List ℕ → List UnitRecord → Type 0
+SomeString o rs = (us : List TextUnit) × (t : List ℕ) × (listReading o rs ≡ some us) × Grammatical t us

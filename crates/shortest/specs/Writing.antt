@@ -1,5 +1,6 @@
 -- The writer's choice: what a unit needs, what the shortest writing costs, and that writing.
 use Prim.Native.Nat.{ℕ, _+_, min}
+use mathlib.Core.Path.{_≡_}
 use mathlib.Core.Bool.{Bool, true, false, cond, _||_}
 use mathlib.Core.List.{List, [], _∷_, _++_}
 use mathlib.Core.Option.{Option, none, some}
@@ -10,7 +11,8 @@ use Rattle.charset.specs.declared.Side.the-variants.{GL, GR}
 use Rattle.charset.specs.Charsets.{allowed}
 use Rattle.state.specs.State.{Standing, on, get, put, fresh}
 use Rattle.state.specs.declared.Sets.{Sets}
-use Rattle.grammar.specs.Units.{TextUnit, char, space, control, ext, octets, designation}
+use Rattle.grammar.specs.Reading.{Octets}
+use Rattle.grammar.specs.Units.{TextUnit, char, space, control, ext, octets, designation, good}
 
 -- a set stands on a side already
 unfoldable pub stands : Standing → Sets → Bool
@@ -94,3 +96,18 @@ shortestOf us = writing us (fresh .sets)
 
 abbrev pub shortestCount : List TextUnit → ℕ
 shortestCount us = cost us (fresh .sets)
+
+-- units that all have a property, and units that all may stand in a writing
+abbrev pub Every : (TextUnit → Type 0) → List TextUnit → Type 0
+Every P [] = Unit {0}
+Every P (u ∷ us) = P u × Every P us
+
+abbrev pub Good : List TextUnit → Type 0
+Good us = Every (λ u. good u ≡ true) us
+
+-- what a segment holds is octets
+abbrev pub Contents : TextUnit → Type 0
+Contents (char c k) = Unit {0}
+Contents space = Unit {0}
+Contents (control x) = Unit {0}
+Contents (ext e xs) = Octets xs

@@ -18,14 +18,14 @@ use Rattle.base.specs.Kind as kind
 use Rattle.base.specs.Limit as limit
 use Rattle.base.specs.Refusal as refusal
 use Rattle.base.specs.declared.Unit.{Unit as UnitRecord}
-use Rattle.element.proofs.Sizes.{Meant, with-set, with-none, with-code, MeantPart}
+use Rattle.element.specs.Meant.{Meant, with-set, with-none, with-code, MeantPart}
 use Rattle.state.specs.declared.State.{State}
 use Rattle.state.specs.declared.elements.Part.{Part}
 use Rattle.grammar.specs.Units.{TextUnit, unitOf}
 use Rattle.grammar.specs.Reading.{Elements, size, elementsOf, answerOf, checkOf, unitAt, unitsOf, readingOf}
 use Rattle.grammar.specs.Records.{readable, unitRead, prepend, listReading}
 use Rattle.grammar.proofs.Places.{Ahead, ends, stops, passes, reads, from-start, ahead-is}
-use Rattle.units.specs.Records.{recordOf, recordsFrom, recordsOf}
+use Rattle.units.specs.Records.{recordOf, recordsFrom, recordsOf, AllMeant, none-left, one-more}
 use Rattle.units.specs.Next.{outcomeOf, nextOf}
 
 -- ---- their reading
@@ -58,10 +58,6 @@ unfolding recordsOf readingOf
 records-read s = reads-from s (from-start s)
 
 -- ---- their fields
-
-pub data AllMeant : List UnitRecord → Type 0 where
-  none-left : AllMeant []
-  one-more : {r : UnitRecord} {rs : List UnitRecord} → Meant (r .kind) (r .set) (r .code) → AllMeant rs → AllMeant (r ∷ rs)
 
 meant-from : (s : List ℕ) {at : ℕ} {st : State} {es : Elements} → Ahead s at st es → AllMeant (recordsFrom es)
 unfolding recordsFrom

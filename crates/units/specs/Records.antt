@@ -3,6 +3,7 @@ use Prim.Native.Nat.{ℕ, _+_}
 use mathlib.Core.List.{List, [], _∷_}
 use Rattle.base.specs.declared.Unit.{Unit as UnitRecord}
 use Rattle.state.specs.declared.elements.Part.{Part}
+use Rattle.element.specs.Meant.{Meant}
 use Rattle.grammar.specs.Reading.{Elements, end-at, refused-at, silent-at, found-at, elementsOf}
 
 -- a record with nothing in it
@@ -24,3 +25,8 @@ recordsFrom (found-at at p st es) = recordOf p at ∷ recordsFrom es
 -- the units of a string up to its end or to the element that is refused
 unfoldable pub recordsOf : List ℕ → List UnitRecord
 recordsOf s = recordsFrom (elementsOf s)
+
+-- records whose fields that mean nothing are 0 (rule U1)
+pub data AllMeant : List UnitRecord → Type 0 where
+  none-left : AllMeant []
+  one-more : {r : UnitRecord} {rs : List UnitRecord} → Meant (r .kind) (r .set) (r .code) → AllMeant rs → AllMeant (r ∷ rs)

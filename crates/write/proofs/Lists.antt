@@ -21,7 +21,7 @@ use Rattle.grammar.specs.Units.{TextUnit, good}
 use Rattle.grammar.specs.Records.{unitRead, listReading, prepend}
 use Rattle.shortest.specs.Records.{fault, Finding, fine, faulty, onStep, checkRecords}
 use Rattle.shortest.specs.Offence.{noRecord}
-use Rattle.shortest.proofs.Bounds.{Good}
+use Rattle.shortest.specs.Writing.{Good}
 use Rattle.rows.specs.Rows.{startFrom, unitTagged, unitFrom, unitsIn, tagOf, sevenOctets, withRecord}
 use Rattle.check_list.specs.Plain.{plainOf}
 use Rattle.check_list.specs.Turn.{begun, onFault, turnOf, roomAfter, quickAfter, lookedAt}
