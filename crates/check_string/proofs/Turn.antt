@@ -1,5 +1,6 @@
 -- A turn of the loop of `whole`, on plain values: what is left answers what the whole string does, before the turn and after it.
 use Prim.Native.Nat.{ℕ, _+_, _-_, _≤_, _<_}
+use native.Mathlib.Numerals.{unary-clauses}
 use native.Mathlib.Omega.{arith}
 use mathlib.Core.Path.{_≡_, refl, ap, sym, _∙_}
 use mathlib.Core.List.{List}
@@ -9,14 +10,21 @@ use Rattle.base.specs.Choice.{from}
 use Rattle.base.specs.declared.Answer.{Answer}
 use Rattle.base.proofs.Ladder.{from-end}
 use Rattle.charset.specs.Charsets.{no-set}
-use Rattle.element.specs.Element.{elementOf}
+use Rattle.charset.specs.declared.Side.{Side}
+use Rattle.element.specs.Element.{shapeOf, steppedOf, directedOf, elementOf}
 use Rattle.element.proofs.Sizes.{silent, found}
 use Rattle.grammar.specs.Reading.{size, elementsOf, answerOf}
 use Rattle.grammar.proofs.Elements.{at-nothing}
 use Rattle.grammar.proofs.Places.{ahead, at-end, at-refused, at-passed, refused-within, step-passed}
-use Rattle.state.specs.State.{fresh, designatedOf}
+use Rattle.state.specs.Directions.{stepOf}
+use Rattle.state.specs.State.{fresh, designatedOf, directedTo}
 use Rattle.state.specs.declared.State.{State}
 use Rattle.state.specs.declared.elements.Part.{Part}
+use Rattle.state.specs.declared.directions.Directions.{Directions}
+use Rattle.state.specs.declared.directions.Step.{Step}
+use Rattle.state.specs.declared.directions.Step.the-variants.{Goes, Stops}
+use Rattle.state.specs.declared.elements.Shape.{Shape}
+use Rattle.state.specs.declared.elements.Shape.the-variants.{Ends, Refuses, Designates, Gives}
 use Rattle.state.specs.declared.elements.Element.{Element}
 use Rattle.state.specs.declared.elements.Element.the-variants.{End, Refused, Silent, Found}
 use Rattle.stretch.specs.Characters.{stretchAt}
@@ -47,14 +55,11 @@ pub record Next (s : List ℕ) (at k m : ℕ) (next : State) : Type 0 where
   pub head : Head s (at + k) m next
 
 module _ (s : List ℕ) (at count : ℕ) (st : State) (e : Element) (is : e ≡ elementOf (from at s) st) (h : Head s at count st) where
-  pub turn-end : e ≡ End → answer 0 at count ≡ whole s
+  turn-end : e ≡ End → answer 0 at count ≡ whole s
   unfolding answerOf
   turn-end k = sym (ap (answerOf count) (at-end s at st e is k)) ∙ h .same
 
-  pub turn-short : {n o : ℕ} → e ≡ Refused n o → at + o ≤ length s
-  turn-short k = refused-within s at st e is k
-
-  pub turn-refused : {n o : ℕ} → e ≡ Refused n o → refusedAt n (at + o) ≡ whole s
+  turn-refused : {n o : ℕ} → e ≡ Refused n o → refusedAt n (at + o) ≡ whole s
   unfolding answerOf
   turn-refused k = sym (ap (answerOf count) (at-refused s at st e is k)) ∙ h .same
 
@@ -64,17 +69,56 @@ module _ (s : List ℕ) (at count : ℕ) (st : State) (e : Element) (is : e ≡ 
   on some fits few same =
       record { some = some; fits = fits; head = record { within = fits; few = omega (arith, h .few, some, few); same = same ∙ h .same } }
 
-  pub turn-silent : {k : ℕ} {next : State} → e ≡ Silent k next → Next s at k count next
+  turn-silent : {k : ℕ} {next : State} → e ≡ Silent k next → Next s at k count next
   unfolding answerOf
   turn-silent i =
       let t = step-passed s at st e is silent i in
       on (t .some) (t .fits) (omega arith) (sym (ap (answerOf count) (at-passed s at st e is silent i)))
 
-  pub turn-found : {p : Part} {next : State} → e ≡ Found p next → Next s at (size p) (count + 1) next
+  turn-found : {p : Part} {next : State} → e ≡ Found p next → Next s at (size p) (count + 1) next
   unfolding answerOf
   turn-found i =
       let t = step-passed s at st e is found i in
       on (t .some) (t .fits) (omega arith) (sym (ap (answerOf count) (at-passed s at st e is found i)))
+
+-- the same by the element's shape, as the loop asks for it: the shape first, and the direction rule for a unit alone
+module _ (s : List ℕ) (at count : ℕ) (st : State) (h : Head s at count st) (sh : Shape) (is : sh ≡ shapeOf (from at s) (st .sets)) where
+  abbrev formed : directedOf sh st ≡ elementOf (from at s) st
+  formed = ap (λ x. directedOf x st) is
+
+  abbrev under : {other : Shape} → sh ≡ other → directedOf sh st ≡ directedOf other st
+  under k = ap (λ x. directedOf x st) k
+
+  abbrev ruled : {p : Part} {step other : Step} → sh ≡ Gives p → step ≡ stepOf (p .text) (p .kind) (st .directions) → step ≡ other
+      → directedOf sh st ≡ steppedOf p st other
+  unfolding directedOf
+  ruled k rule goes = under k ∙ ap (steppedOf _ st) (sym rule ∙ goes)
+
+  pub turn-ends : sh ≡ Ends → answer 0 at count ≡ whole s
+  unfolding directedOf
+  turn-ends k = turn-end s at count st _ formed h (under k)
+
+  pub turn-short : {n o : ℕ} → sh ≡ Refuses n o → at + o ≤ length s
+  unfolding directedOf
+  turn-short k = refused-within s at st _ formed (under k)
+
+  pub turn-refuses : {n o : ℕ} → sh ≡ Refuses n o → refusedAt n (at + o) ≡ whole s
+  unfolding directedOf
+  turn-refuses k = turn-refused s at count st _ formed h (under k)
+
+  pub turn-designates : {k c : ℕ} {d : Side} → sh ≡ Designates k d c → Next s at k count (designatedOf d c st)
+  unfolding directedOf
+  turn-designates k = turn-silent s at count st _ formed h (under k)
+
+  pub turn-stops : {p : Part} {step : Step} {n : ℕ} → sh ≡ Gives p → step ≡ stepOf (p .text) (p .kind) (st .directions) → step ≡ Stops n
+      → refusedAt n at ≡ whole s
+  unfolding steppedOf
+  turn-stops k rule stops = simp unary-clauses at (turn-refused s at count st _ formed h (ruled k rule stops))
+
+  pub turn-goes : {p : Part} {step : Step} {d : Directions} → sh ≡ Gives p → step ≡ stepOf (p .text) (p .kind) (st .directions) → step ≡ Goes d
+      → Next s at (size p) (count + 1) (directedTo d st)
+  unfolding steppedOf
+  turn-goes k rule goes = turn-found s at count st _ formed h (ruled k rule goes)
 
 module _ (s : List ℕ) (at count : ℕ) (st : State) (h : Head s at count st) where
   pub turn-done : length s ≤ at → answer 0 at count ≡ whole s

@@ -7,7 +7,8 @@ use base::limit;
 use base::refusal;
 use charset::NO_SET;
 use state::State;
-use state::elements::Element;
+use state::directions::Step;
+use state::elements::Shape;
 use stretch::characters::stretch_at;
 use stretch::designation::designation_at;
 
@@ -46,23 +47,33 @@ fn whole(s: &[u8]) -> Answer
                 continue;
             }
         }
-        let e = element::element(s, at, st);
-        match e {
-            Element::End => {
+        let sets = st.sets;
+        let directions = st.directions;
+        let shape = element::shape(s, at, sets);
+        match shape {
+            Shape::Ends => {
                 return Answer::accepted(at, count);
             }
-            Element::Refused(number, offset) => {
+            Shape::Refuses(number, offset) => {
                 let place = at + offset;
                 return Answer::refused(number, place);
             }
-            Element::Silent(octets, next) => {
+            Shape::Designates(octets, side, set) => {
                 at += octets;
-                st = next;
+                st = st.designated(side, set);
             }
-            Element::Found(part, next) => {
-                at += part.skip + part.octets;
-                st = next;
-                count += 1;
+            Shape::Gives(part) => {
+                let step = directions.step(part.text, part.kind);
+                match step {
+                    Step::Stops(number) => {
+                        return Answer::refused(number, at);
+                    }
+                    Step::Goes(next) => {
+                        at += part.skip + part.octets;
+                        st = st.directed(next);
+                        count += 1;
+                    }
+                }
             }
         }
     }

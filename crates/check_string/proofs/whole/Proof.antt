@@ -7,7 +7,8 @@ use borrow.Author.Needs.{needs}
 use lib.ListN.{length}
 use Rattle.base.proofs.Ladder.{on-lt, on-ge}
 use Rattle.grammar.specs.Reading.{checkOf}
-use Rattle.check_string.proofs.Turn.{Head, head-first, turn-done, turn-end, turn-short, turn-refused, turn-silent, turn-found, turn-designation, turn-stretch}
+use Rattle.check_string.proofs.Turn.{Head, head-first, turn-done, turn-designation, turn-stretch}
+use Rattle.check_string.proofs.Turn.{turn-ends, turn-short, turn-refuses, turn-designates, turn-stops, turn-goes}
 use Rattle.check_string.proofs.whole.Statement.{statement}
 use Rattle.check_string.proofs.whole.Tie as tie
 
@@ -69,73 +70,81 @@ loop-again-2 c =
 returns-2 : tie.Need-returns-2 Inv-loop μ-loop
 unfolding checkOf
 returns-2 c =
-    let head = c .before .before .before .before .before .before .before .loop .inv in
-    let end = turn-end _ _ _ _ _ (c .before .before .before .element .ensures) head (c .before .enum-told .given .1) in
-    on-ge _ _ _ _ _ (c .before .before .before .before .before .before .before .before .if1 .left) (c .accepted .ensures ∙ end)
+    let head = c .before .before .before .before .before .before .before .before .before .loop .inv in
+    let h = turn-ends _ _ _ _ head _ (c .before .before .before .shape .ensures) (c .before .enum-told .given .1) in
+    on-ge _ _ _ _ _ (c .before .before .before .before .before .before .before .before .before .before .if1 .left) (c .accepted .ensures ∙ h)
 
 add-place : tie.Need-add-place Inv-loop μ-loop
 add-place c =
-    let head = c .before .before .before .before .before .before .before .loop .inv in
-    let h = turn-short _ _ _ _ _ (c .before .before .before .element .ensures) head (c .before .e .given .1) in
+    let head = c .before .before .before .before .before .before .before .before .before .loop .inv in
+    let h = turn-short _ _ _ _ head _ (c .before .before .before .shape .ensures) (c .before .shape2 .given .1) in
     omega (arith, h, head .within)
 
 returns-3 : tie.Need-returns-3 Inv-loop μ-loop
 unfolding checkOf
 returns-3 c =
-    let head = c .before .before .before .before .before .before .before .before .loop .inv in
-    let refused = turn-refused _ _ _ _ _ (c .before .before .before .before .element .ensures) head (c .before .before .e .given .1) in
-    on-ge _ _ _ _ _ (c .before .before .before .before .before .before .before .before .before .if1 .left) (c .refused2 .ensures ∙ refused)
+    let head = c .before .before .before .before .before .before .before .before .before .before .loop .inv in
+    let h = turn-refuses _ _ _ _ head _ (c .before .before .before .before .shape .ensures) (c .before .before .shape2 .given .1) in
+    on-ge _ _ _ _ _ (c .before .before .before .before .before .before .before .before .before .before .before .if1 .left) (c .refused2 .ensures ∙ h)
 
 add-at-3 : tie.Need-add-at-3 Inv-loop μ-loop
 add-at-3 c =
-    let head = c .before .before .before .before .before .before .before .loop .inv in
-    let h = turn-silent _ _ _ _ _ (c .before .before .before .element .ensures) head (c .before .e2 .given .1) in
+    let head = c .before .before .before .before .before .before .before .before .before .loop .inv in
+    let h = turn-designates _ _ _ _ head _ (c .before .before .before .shape .ensures) (c .before .shape3 .given .1) in
     omega (arith, h .fits)
 
 loop-less-3 : tie.Need-loop-less-3 Inv-loop μ-loop
 loop-less-3 c =
-    let head = c .before .before .before .before .before .before .before .loop .inv in
-    let h = turn-silent _ _ _ _ _ (c .before .before .before .element .ensures) head (c .before .e2 .given .1) in
+    let head = c .before .before .before .before .before .before .before .before .before .before .loop .inv in
+    let h = turn-designates _ _ _ _ head _ (c .before .before .before .before .shape .ensures) (c .before .before .shape3 .given .1) in
     omega (arith, h .fits, h .some)
 
 loop-again-3 : tie.Need-loop-again-3 Inv-loop μ-loop
 loop-again-3 c =
-    let head = c .before .before .before .before .before .before .before .loop .inv in
-    let h = turn-silent _ _ _ _ _ (c .before .before .before .element .ensures) head (c .before .e2 .given .1) in
-    h .head
-
-add-at-4 : tie.Need-add-at-4 Inv-loop μ-loop
-add-at-4 c =
-    let head = c .before .before .before .before .before .before .before .before .loop .inv in
-    let h = turn-found _ _ _ _ _ (c .before .before .before .before .element .ensures) head (c .before .before .e3 .given .1) in
-    omega (arith, h .fits)
-
-add-at-5 : tie.Need-add-at-5 Inv-loop μ-loop
-add-at-5 c =
-    let head = c .before .before .before .before .before .before .before .before .loop .inv in
-    let h = turn-found _ _ _ _ _ (c .before .before .before .before .element .ensures) head (c .before .before .e3 .given .1) in
-    omega (arith, h .fits)
-
-add-count-2 : tie.Need-add-count-2 Inv-loop μ-loop
-add-count-2 c =
-    let head = c .before .before .before .before .before .before .before .before .loop .inv in
-    omega (arith, head .few, head .within)
-
-loop-less-4 : tie.Need-loop-less-4 Inv-loop μ-loop
-loop-less-4 c =
-    let head = c .before .before .before .before .before .before .before .before .loop .inv in
-    let h = turn-found _ _ _ _ _ (c .before .before .before .before .element .ensures) head (c .before .before .e3 .given .1) in
-    omega (arith, h .fits, h .some)
-
-loop-again-4 : tie.Need-loop-again-4 Inv-loop μ-loop
-loop-again-4 c =
-    let head = c .before .before .before .before .before .before .before .before .loop .inv in
-    let h = turn-found _ _ _ _ _ (c .before .before .before .before .element .ensures) head (c .before .before .e3 .given .1) in
-    h .head
+    let head = c .before .before .before .before .before .before .before .before .before .before .loop .inv in
+    let h = turn-designates _ _ _ _ head _ (c .before .before .before .before .shape .ensures) (c .before .before .shape3 .given .1) in
+    rw (c .designated2 .ensures) (h .head)
 
 returns-4 : tie.Need-returns-4 Inv-loop μ-loop
 unfolding checkOf
 returns-4 c =
+    let head = c .before .before .before .before .before .before .before .before .before .before .before .before .before .before .loop .inv in
+    let h = turn-stops _ _ _ _ head _ (c .before .before .before .before .before .before .before .before .shape .ensures) (c .before .before .before .before .before .before .shape4 .given .1) (c .before .before .before .before .step .ensures) (c .before .before .step2 .given .1) in
+    on-ge _ _ _ _ _ (c .before .before .before .before .before .before .before .before .before .before .before .before .before .before .before .if1 .left) (c .refused3 .ensures ∙ h)
+
+add-at-4 : tie.Need-add-at-4 Inv-loop μ-loop
+add-at-4 c =
+    let head = c .before .before .before .before .before .before .before .before .before .before .before .before .before .before .loop .inv in
+    let h = turn-goes _ _ _ _ head _ (c .before .before .before .before .before .before .before .before .shape .ensures) (c .before .before .before .before .before .before .shape4 .given .1) (c .before .before .before .before .step .ensures) (c .before .before .step3 .given .1) in
+    omega (arith, h .fits)
+
+add-at-5 : tie.Need-add-at-5 Inv-loop μ-loop
+add-at-5 c =
+    let head = c .before .before .before .before .before .before .before .before .before .before .before .before .before .before .loop .inv in
+    let h = turn-goes _ _ _ _ head _ (c .before .before .before .before .before .before .before .before .shape .ensures) (c .before .before .before .before .before .before .shape4 .given .1) (c .before .before .before .before .step .ensures) (c .before .before .step3 .given .1) in
+    omega (arith, h .fits)
+
+add-count-2 : tie.Need-add-count-2 Inv-loop μ-loop
+add-count-2 c =
+    let head = c .before .before .before .before .before .before .before .before .before .before .before .before .before .before .before .loop .inv in
+    let h = turn-goes _ _ _ _ head _ (c .before .before .before .before .before .before .before .before .before .shape .ensures) (c .before .before .before .before .before .before .before .shape4 .given .1) (c .before .before .before .before .before .step .ensures) (c .before .before .before .step3 .given .1) in
+    omega (arith, h .head .few, h .fits, c .before .before .before .before .before .before .before .before .before .before .before .before .before .before .before .before .if1 .left)
+
+loop-less-4 : tie.Need-loop-less-4 Inv-loop μ-loop
+loop-less-4 c =
+    let head = c .before .before .before .before .before .before .before .before .before .before .before .before .before .before .before .loop .inv in
+    let h = turn-goes _ _ _ _ head _ (c .before .before .before .before .before .before .before .before .before .shape .ensures) (c .before .before .before .before .before .before .before .shape4 .given .1) (c .before .before .before .before .before .step .ensures) (c .before .before .before .step3 .given .1) in
+    omega (arith, h .fits, h .some)
+
+loop-again-4 : tie.Need-loop-again-4 Inv-loop μ-loop
+loop-again-4 c =
+    let head = c .before .before .before .before .before .before .before .before .before .before .before .before .before .before .before .loop .inv in
+    let h = turn-goes _ _ _ _ head _ (c .before .before .before .before .before .before .before .before .before .shape .ensures) (c .before .before .before .before .before .before .before .shape4 .given .1) (c .before .before .before .before .before .step .ensures) (c .before .before .before .step3 .given .1) in
+    rw (c .directed .ensures) (h .head)
+
+returns-5 : tie.Need-returns-5 Inv-loop μ-loop
+unfolding checkOf
+returns-5 c =
     let done = turn-done _ _ _ _ (c .before .before .loop .inv) (c .before .loop-test .left) in
     on-ge _ _ _ _ _ (c .before .before .before .if1 .left) (c .accepted2 .ensures ∙ done)
 
@@ -169,13 +178,20 @@ whole-spec =
     returns-3
     (search needs)
     add-at-3
+    (search needs)
     loop-less-3
     loop-again-3
     (search needs)
+    (search needs)
+    (search needs)
+    (search needs)
+    returns-4
+    (search needs)
     add-at-4
     add-at-5
+    (search needs)
     add-count-2
     loop-less-4
     loop-again-4
     (search needs)
-    returns-4)
+    returns-5)
