@@ -2,18 +2,22 @@
 use Prim.Native.Nat.{ℕ, _≤_, _<_}
 use native.Mathlib.Omega.{arith}
 use mathlib.Core.Path.{_≡_, refl}
-use mathlib.Core.Bool.{Bool, true, false}
+use mathlib.Core.Bool.{Bool, true, false, false≢true}
 use mathlib.Core.List.{List}
+use lib.Dec.{eqb, leb, ltb}
+use borrow.Author.Tests.{eq-eqb, ne-eqb, eqb-true, eqb-false, le-leb, leb-true, le-ltb, ltb-false}
 use Rattle.base.specs.declared.Unit.{Unit as UnitRecord}
 use Rattle.state.specs.declared.directions.Directions.{Directions}
+use Rattle.state.specs.declared.directions.Step.{Step}
 use Rattle.state.specs.declared.directions.Step.the-variants.{Goes, Stops}
 use Rattle.base.specs.Choice.{pick}
 use Rattle.grammar.specs.Records.{unitRead}
 use Rattle.shortest.specs.Records.{fault}
 use Rattle.rows.specs.Rows.{withRecord}
-use Rattle.rows.specs.Stowable.{Stowable}
+use Rattle.base.specs.Kind as kind
+use Rattle.rows.specs.Stowable.{Stowable, stowableOf}
 use Rattle.check_list.specs.Plain.{settledByText}
-use Rattle.check_list.specs.Turn.{turnOf, roomAfter, quickAfter, quickUntil}
+use Rattle.check_list.specs.Turn.{onFault, turnOf, roomAfter, quickAfter, quickUntil}
 use Rattle.check_list.specs.declared.Progress.{Progress}
 use Rattle.check_list.specs.declared.Progress.the-variants.{Fine, Faulty}
 use Rattle.check_list.proofs.Refusals.{judged-good}
@@ -21,6 +25,42 @@ use Rattle.check_list.proofs.Fits.{fits}
 
 pub stowable : (o : List ℕ) (r : UnitRecord) (d next : Directions) → fault (unitRead o r) d ≡ Goes next → Stowable r
 stowable o r d next e = let j = judged-good o r d next e in fits o r (j .unit) (j .fit) (j .read) .stowable
+
+-- the test of a record that can stand in a row
+module _ (r : UnitRecord) where
+  segment-told : (x y z : Bool) → ltb (r .code) 0x30 ≡ x → leb (r .code) 0x34 ≡ y → leb (r .length) 16383 ≡ z → pick x false (pick y z false) ≡ true
+      → (0x30 ≤ r .code) × (r .code ≤ 0x34) × (r .length ≤ 16383)
+  unfolding pick
+  segment-told true y z a b c e = absurd (false≢true e)
+  segment-told false false z a b c e = absurd (false≢true e)
+  segment-told false true false a b c e = absurd (false≢true e)
+  segment-told false true true a b c e = (ltb-false _ _ a, leb-true _ _ b, leb-true _ _ c)
+
+  pub stowable-told : stowableOf r ≡ true → Stowable r
+  unfolding stowableOf pick
+  stowable-told e = go (eqb (r .kind) kind.segment) refl e
+    where
+      go : (b : Bool) → eqb (r .kind) kind.segment ≡ b
+          → pick b (pick (ltb (r .code) 0x30) false (pick (leb (r .code) 0x34) (leb (r .length) 16383) false)) (leb (r .kind) kind.segment) ≡ true
+          → Stowable r
+      go true q e =
+          let t = segment-told _ _ _ refl refl refl e in
+          let k = eqb-true (r .kind) kind.segment q in
+          record { one-of-eight = omega arith; low = λ _. t .0; high = λ _. t .1; few = λ _. t .2 }
+      go false q e =
+          let other = eqb-false (r .kind) kind.segment q in
+          record { one-of-eight = leb-true _ _ e; low = λ k. absurd (other k); high = λ k. absurd (other k); few = λ k. absurd (other k) }
+
+  pub stowable-tells : Stowable r → stowableOf r ≡ true
+  unfolding stowableOf pick
+  stowable-tells h = go (eqb (r .kind) kind.segment) refl
+    where
+      go : (b : Bool) → eqb (r .kind) kind.segment ≡ b
+          → pick b (pick (ltb (r .code) 0x30) false (pick (leb (r .code) 0x34) (leb (r .length) 16383) false)) (leb (r .kind) kind.segment) ≡ true
+      go true q =
+          let k = eqb-true (r .kind) kind.segment q in
+          rw (le-ltb (r .code) 0x30 (h .low k), le-leb (r .code) 0x34 (h .high k), le-leb (r .length) 16383 (h .few k))
+      go false q = le-leb _ _ (h .one-of-eight)
 
 module _ (o : List ℕ) (r : UnitRecord) (i : ℕ) (p : Progress) (w : List ℕ) where
   pub turn-goes : (d next : Directions) → p ≡ Fine d → fault (unitRead o r) d ≡ Goes next
@@ -36,6 +76,22 @@ module _ (o : List ℕ) (r : UnitRecord) (i : ℕ) (p : Progress) (w : List ℕ)
   pub turn-faulty : (n j : ℕ) → p ≡ Faulty n j → (Faulty n j ≡ turnOf o r i p) × (w ≡ roomAfter (turnOf o r i p) r i w)
   unfolding turnOf roomAfter
   turn-faulty n j ep = (rw ep, rw ep)
+
+pub fine-faulty : (n i : ℕ) (d : Directions) → Faulty n i ≡ Fine d → ⊥
+fine-faulty n i d e = let z : _≡_ {A = ℕ} 0 1 = cc in omega arith
+
+-- a record that is not refused is put into its row unchecked too
+module _ (o : List ℕ) (r : UnitRecord) (i : ℕ) (w : List ℕ) (d : Directions) where
+  put-fault : (before : Directions) (x : Step) → fault (unitRead o r) before ≡ x → onFault x i ≡ Fine d
+      → pick (stowableOf r) (withRecord w i r) w ≡ roomAfter (onFault x i) r i w
+  unfolding roomAfter pick
+  put-fault before (Goes next) e k = rw (stowable-tells r (stowable o r before next e))
+  put-fault before (Stops n) e k = absurd (fine-faulty n i d k)
+
+  pub put-turn : (p : Progress) → turnOf o r i p ≡ Fine d → pick (stowableOf r) (withRecord w i r) w ≡ roomAfter (turnOf o r i p) r i w
+  unfolding turnOf
+  put-turn (Fine before) k = put-fault before (fault (unitRead o r) before) refl k
+  put-turn (Faulty n j) k = absurd (fine-faulty n j d k)
 
 -- the end of the records that the quick check may look at
 module _ (p : Progress) (from n : ℕ) where

@@ -7,6 +7,7 @@ ghost use Rattle.base.specs.Choice.{pick};
 ghost use Rattle.grammar.specs.Records.{unitRead};
 ghost use Rattle.shortest.specs.Records.{fault};
 ghost use Rattle.rows.specs.Rows.{withRecord};
+ghost use Rattle.rows.specs.Stowable.{stowableOf};
 ghost use Rattle.check_list.specs.Plain.{settledByText, plainOf};
 ghost use Rattle.check_list.specs.Turn.{begun, turnOf, roomAfter, lookedAt, quickUntil};
 use base::Unit;
@@ -114,5 +115,15 @@ pub fn turn(progress: Progress, unit: Unit, i: usize, segments: &[u8], work: &mu
             }
         }
         Progress::Faulty(number, place) => Progress::Faulty(number, place),
+    }
+}
+
+// Record i, unchecked: put into its row where it can stand in one and the work room has that row. For lists that are known to have no
+// record that offends.
+pub fn put(unit: Unit, i: usize, work: &mut [u8])
+    ensures { λ _. ⌜ now (work .exit) ≡ pick (stowableOf unit) (withRecord (now (work .entry)) i unit) (now (work .entry)) ⌝ }
+{
+    if record::stowable(unit) {
+        record::put(unit, i, work);
     }
 }

@@ -3,11 +3,27 @@ ghost use mathlib.Core.Path.{_≡_};
 ghost use Prim.Native.Nat.{_+_, _-_, _*_, _<_};
 ghost use lib.ListN.{length};
 ghost use Rattle.rows.specs.Rows.{tagOf, numberOf, withRecord};
-ghost use Rattle.rows.specs.Stowable.{Stowable};
+ghost use Rattle.rows.specs.Stowable.{Stowable, stowableOf};
 use base::Unit;
 use base::kind;
 use rows::layout;
 use rows::tag;
+
+// Whether a record can stand in a row.
+pub fn stowable(unit: Unit) -> bool
+    ensures { λ r. ⌜ r ≡ stowableOf unit ⌝ }
+{
+    if unit.kind == kind::SEGMENT {
+        if unit.code < 0x30 {
+            return false;
+        }
+        if unit.code <= 0x34 {
+            return unit.length <= 16383;
+        }
+        return false;
+    }
+    unit.kind <= kind::SEGMENT
+}
 
 // The tag of a record.
 fn tag_of(unit: Unit) -> u8

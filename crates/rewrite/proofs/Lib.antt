@@ -1,3 +1,4 @@
 pub mod Coming
+pub mod Unoffending
 pub mod Turns
 pub mod Whole

@@ -11,16 +11,16 @@ use Rattle.base.specs.Limit as limit
 use Rattle.base.specs.Refusal as refusal
 use Rattle.base.specs.declared.Answer.{Answer}
 use Rattle.base.specs.declared.Unit.{Unit as UnitRecord}
-use Rattle.grammar.specs.Reading.{checkOf}
+use Rattle.grammar.specs.Reading.{Octets, checkOf}
 use Rattle.read.proofs.Filled.{short}
-use Rattle.check_list.specs.Turn.{lookedAt}
-use Rattle.check_list.specs.declared.Progress.{Progress}
+use Rattle.check_list.specs.Turn.{begun, lookedAt}
 use Rattle.units.specs.Records.{recordsOf}
 use Rattle.units.proofs.Records.{records-count, few-records}
 use Rattle.grammar.proofs.Places.{from-start}
-use Rattle.write.specs.Stowed.{reached, Stowed, finishAnswer, finishOutput}
+use Rattle.write.specs.Stowed.{Stowed, finishAnswer, finishOutput}
 use Rattle.write.proofs.Whole.{Finished, finished}
 use Rattle.rewrite.specs.Shortest.{shortestAnswer, shortestOutput}
+use Rattle.rewrite.proofs.Unoffending.{fine-end}
 
 module _ (s : List ℕ) (a : Answer) (is : a ≡ checkOf s) where
   pub accepts : a .number ≡ refusal.accepted → checkOf s .number ≡ refusal.accepted
@@ -46,17 +46,18 @@ module _ (s : List ℕ) (a : Answer) (is : a ≡ checkOf s) where
   unfolding shortestOutput pick
   refused-output work out z = rw (ne-eqb (checkOf s .number) refusal.accepted (λ e. z (rw is e)))
 
-  -- an accepted string
-  module _ (z : a .number ≡ refusal.accepted) (before after out : List ℕ) (p : Progress) (reaches : p ≡ reached s (recordsOf s) (a .count)) (stowed : Stowed s (recordsOf s) (a .count) before after) where
-    done : Finished (recordsOf s) s (length before) out (finishAnswer p (a .count) s after (length out)) (finishOutput p (a .count) s after out)
+  -- an accepted string, none of whose records offends
+  module _ (octets : Octets s) (z : a .number ≡ refusal.accepted) (before after out : List ℕ) (stowed : Stowed s (recordsOf s) (a .count) before after) where
+    done : Finished (recordsOf s) s (length before) out (finishAnswer begun (a .count) s after (length out)) (finishOutput begun (a .count) s after out)
+    unfolding finishAnswer finishOutput
     done =
         let f = finished (recordsOf s) s before after out (rw (counts z, sym (all z)) at stowed) in
-        rw (reaches, counts z) (rw (all z) at f)
+        rw (counts z) (rw (all z, fine-end s octets (accepts z) .is) at f)
 
-    pub accepted-answer : (r : Answer) → r ≡ finishAnswer p (a .count) s after (length out) → r ≡ shortestAnswer s (length before) (length out)
+    pub accepted-answer : (r : Answer) → r ≡ finishAnswer begun (a .count) s after (length out) → r ≡ shortestAnswer s (length before) (length out)
     unfolding shortestAnswer pick
     accepted-answer r e = rw (eq-eqb (checkOf s .number) refusal.accepted (accepts z)) (e ∙ done .answers)
 
-    pub accepted-output : (x : List ℕ) → x ≡ finishOutput p (a .count) s after out → x ≡ shortestOutput s (length before) out
+    pub accepted-output : (x : List ℕ) → x ≡ finishOutput begun (a .count) s after out → x ≡ shortestOutput s (length before) out
     unfolding shortestOutput pick
     accepted-output x e = rw (eq-eqb (checkOf s .number) refusal.accepted (accepts z)) (e ∙ done .output)

@@ -29,6 +29,7 @@ use Rattle.check_list.specs.declared.Progress.{Progress}
 use Rattle.check_list.specs.declared.Progress.the-variants.{Fine, Faulty}
 use Rattle.check_list.proofs.Fits.{fits}
 use Rattle.check_list.proofs.Quick.{quick-goes, quick-room}
+use Rattle.check_list.proofs.Turns.{fine-faulty}
 use Rattle.write.specs.Stowed.{reached, HoldsRecord, Stowed, quickRun, Passed}
 
 -- ---- the check
@@ -116,9 +117,6 @@ holds-old w i j r s l h q k = go (ltb i (length w / 72))
     go : (b : Bool) → getD (pick b (sets w (72 * i + 65) (sevenOctets r)) w) (72 * j + 65 + q) 0 ≡ getD (sevenOctets s) q 0
     go true = sets-out w (72 * i + 65) (sevenOctets r) (72 * j + 65 + q) (inl (omega arith)) ∙ h q k
     go false = h q k
-
-fine-faulty : (n i : ℕ) (d : Directions) → Faulty n i ≡ Fine d → ⊥
-fine-faulty n i d e = let z : _≡_ {A = ℕ} 0 1 = cc in omega arith
 
 pub stowed-none : (o : List ℕ) (rs : List UnitRecord) (w : List ℕ) → Stowed o rs 0 w w
 stowed-none o rs w = record { same = refl; rows = λ d e i h. absurd (omega arith) }

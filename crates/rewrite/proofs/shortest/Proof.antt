@@ -1,23 +1,36 @@
 -- `rewrite::shortest` meets its contract, by what it calls and the laws of `Whole`.
 use Rattle.rewrite.proofs.Whole.{accepts, counts, refused-answer, refused-output, accepted-answer, accepted-output}
+use native.Mathlib.Omega.{arith}
 use mathlib.Core.Path.{refl, _∙_}
+use Rattle.grammar.specs.Reading.{Octets}
 use denote.Ref.{now}
 use borrow.Author.Needs.{needs}
 use Rattle.rewrite.proofs.shortest.Statement.{statement}
 use Rattle.rewrite.proofs.shortest.Tie as tie
 
 stow-requires : tie.Need-stow-requires
-stow-requires c κs = (accepts _ _ (c .before .before .before .answer .ensures) (c .before .if1 .taken), counts _ _ (c .before .before .before .answer .ensures) (c .before .if1 .taken))
+stow-requires c κs =
+    let answer = c .before .before .before .answer .ensures in
+    (accepts _ _ answer (c .before .if1 .taken), counts _ _ answer (c .before .if1 .taken))
 
 returns : tie.Need-returns
-returns c = (
-  accepted-answer _ _ (c .before .before .before .before .before .before .before .before .before .before .before .before .before .answer .ensures) (c .before .before .before .before .before .before .before .before .before .before .before .if1 .taken) (now (c .before .before .before .before .before .before .before .before .before .before .before .before .before .before .before .before .before .args .work)) _ (now (c .before .before .before .before .before .before .before .before .before .before .before .before .before .before .before .before .before .args .out)) _ (c .before .before .before .before .before .before .before .before .before .stow .ensures .0) (c .before .before .before .before .before .before .before .before .before .stow .ensures .1) _ (c .before .before .before .before .finish .ensures .0),
-  accepted-output _ _ (c .before .before .before .before .before .before .before .before .before .before .before .before .before .answer .ensures) (c .before .before .before .before .before .before .before .before .before .before .before .if1 .taken) (now (c .before .before .before .before .before .before .before .before .before .before .before .before .before .before .before .before .before .args .work)) _ (now (c .before .before .before .before .before .before .before .before .before .before .before .before .before .before .before .before .before .args .out)) _ (c .before .before .before .before .before .before .before .before .before .stow .ensures .0) (c .before .before .before .before .before .before .before .before .before .stow .ensures .1) _ (c .before .before .before .before .finish .ensures .1),
-  c .before .before .before .before .finish .ensures .2 ∙ c .before .before .before .before .before .before .before .before .before .stow .ensures .1 .same,
-)
+returns c =
+    let start = c .before .before .before .before .before .before .before .before .before .before .before .before .before .before .before .before .before in
+    let octets : Octets (now (start .before .args .s)) = λ i. omega (arith, start .shared-slice-known .given i) in
+    let answer = c .before .before .before .before .before .before .before .before .before .before .before .before .before .before .answer .ensures in
+    let taken = c .before .before .before .before .before .before .before .before .before .before .before .before .if1 .taken in
+    let stowed = c .before .before .before .before .before .before .before .before .before .before .stow .ensures in
+    let wrote = c .before .before .before .before .finish .ensures in
+    let begun = c .before .before .before .before .before .before .before .begin .ensures in (
+      accepted-answer _ _ answer octets taken _ _ (now (start .before .args .out)) stowed _ (rw begun at (wrote .0)),
+      accepted-output _ _ answer octets taken _ _ (now (start .before .args .out)) stowed _ (rw begun at (wrote .1)),
+      wrote .2 ∙ stowed .same,
+    )
 
 returns-2 : tie.Need-returns-2
-returns-2 c = (refused-answer _ _ (c .before .before .answer .ensures) _ _ (c .if1 .left), refused-output _ _ (c .before .before .answer .ensures) _ _ (c .if1 .left), refl)
+returns-2 c =
+    let answer = c .before .before .answer .ensures in
+    (refused-answer _ _ answer _ _ (c .if1 .left), refused-output _ _ answer _ _ (c .if1 .left), refl)
 
 pub shortest-spec : {M : Type 1} → statement M
 shortest-spec =
@@ -25,6 +38,7 @@ shortest-spec =
     (tie.spec
     (search needs)
     stow-requires
+    (search needs)
     (search needs)
     (search needs)
     (search needs)

@@ -1,21 +1,25 @@
--- `rewrite::stow` meets its contract. The invariant is `Head`, each turn is `head-next`, and there is always a next unit (`head-more`).
+-- `rewrite::stow` meets its contract. The invariant is `Head`, each turn is `head-next`, there is always a next unit (`head-more`), and no record
+-- offends (`fine-at`).
 use borrow.Author.Needs.{needs}
 use native.Mathlib.Omega.{arith}
-use Prim.Native.Nat.{_-_}
-use mathlib.Core.Path.{_≡_, refl, sym, subst}
+use Prim.Native.Nat.{suc, _-_}
+use mathlib.Core.Path.{_≡_}
+use denote.Ref.{now}
+use Rattle.grammar.specs.Reading.{Octets}
 use Rattle.read.proofs.Filled.{short}
+use Rattle.rewrite.proofs.Unoffending.{fine-at}
 use Rattle.rewrite.proofs.Turns.{Head, head-first, head-more, head-next}
 use Rattle.rewrite.proofs.stow.Statement.{statement}
 use Rattle.rewrite.proofs.stow.Tie as tie
 
 abbrev Inv-loop : tie.InvT-loop
-Inv-loop s n work₀ progress₀ at₀ st₀ i₀ work progress at st i = Head s work₀ i at st progress work
+Inv-loop s n work₀ at₀ st₀ i₀ work at st i = Head s work₀ i at st work
 
 abbrev μ-loop : tie.MeasureT-loop
-μ-loop s n work₀ progress₀ at₀ st₀ i₀ work progress at st i = n - i
+μ-loop s n work₀ at₀ st₀ i₀ work at st i = n - i
 
 loop-holds : tie.Need-loop-holds Inv-loop μ-loop
-loop-holds c = rw (c .begin .ensures) (head-first _ _)
+loop-holds c = head-first _ _
 
 same-length : tie.Need-same-length Inv-loop μ-loop
 same-length c = c .before .before .before .before .loop .inv .stowed .same
@@ -23,24 +27,24 @@ same-length c = c .before .before .before .before .loop .inv .stowed .same
 returns : tie.Need-returns Inv-loop μ-loop
 returns c =
     let loop = c .before .before .before .before .loop in
-    let start = c .before .before .before .before .before .before .before .before in
+    let start = c .before .before .before .before .before .before .before in
     let more = c .before .before .before .loop-test .taken in
     let all = start .pre .1 in
     absurd
-    (head-more _ (short _ (start .pre .0)) _ _ _ _ _ _ (loop .inv) (omega arith) _ (c .before .before .next-unit .ensures)
+    (head-more _ (short _ (start .pre .0)) _ _ _ _ _ (loop .inv) (omega arith) _ (c .before .before .next-unit .ensures)
     (λ u place to q. omega (arith, rw q at (c .before .match .keys2))))
-
-add-i : tie.Need-add-i Inv-loop μ-loop
-add-i c = omega (arith, c .before .before .before .before .before .before .before .before .before .loop .inv .few)
 
 loop-again : tie.Need-loop-again Inv-loop μ-loop
 loop-again c =
-    let loop = c .before .before .before .before .before .before .before .before .before .loop in
-    let start = c .before .before .before .before .before .before .before .before .before .before .before .before .before in
-    let more = c .before .before .before .before .before .before .before .before .loop-test .taken in
+    let turn = c .before .before .before .before .before .before .before .before in
+    let loop = turn .before .loop in
+    let entry = turn .before .before .before in
+    let start = entry .before in
+    let octets : Octets (now (start .args .s)) = λ i. omega (arith, entry .shared-slice-known .given i) in
+    let more = turn .loop-test .taken in
     let all = start .pre .1 in
-    head-next _ (short _ (start .pre .0)) _ _ _ _ _ _ (loop .inv) (omega arith) _ _ _ _ _ _ (c .before .before .before .before .before .before .before .next-unit .ensures) (c .before .before .before .before .before .o .given .1)
-    (c .before .before .turn .ensures .0) (c .before .before .turn .ensures .1)
+    head-next _ (short _ (start .pre .0)) _ _ _ _ _ (loop .inv) (omega arith) _ _ _ _ _ (c .before .before .before .before .before .before .before .next-unit .ensures) (c .before .before .before .before .before .o .given .1)
+    (fine-at _ octets (start .pre .0) (suc (loop .i)) (omega arith)) (c .before .before .put .ensures)
 
 same-length-2 : tie.Need-same-length-2 Inv-loop μ-loop
 same-length-2 c = c .before .loop .inv .stowed .same
@@ -48,9 +52,9 @@ same-length-2 c = c .before .loop .inv .stowed .same
 returns-2 : tie.Need-returns-2 Inv-loop μ-loop
 returns-2 c =
     let few = c .before .loop .inv .few in
-    let all = c .before .before .before .before .before .pre .1 in
-    let e : c .before .loop .i ≡ c .before .before .before .before .before .args .n = omega arith in
-    (rw e at (c .before .loop .inv .checked), rw e at (c .before .loop .inv .stowed))
+    let all = c .before .before .before .before .pre .1 in
+    let e : c .before .loop .i ≡ c .before .before .before .before .args .n = omega arith in
+    rw e at (c .before .loop .inv .stowed)
 
 pub stow-spec : {M : Type 1} → statement M
 stow-spec =
@@ -58,7 +62,6 @@ stow-spec =
     (tie.spec
     Inv-loop
     μ-loop
-    (search needs)
     loop-holds
     (search needs)
     (search needs)
@@ -66,7 +69,7 @@ stow-spec =
     same-length
     returns
     (search needs)
-    add-i
+    (search needs)
     (λ c. omega arith)
     loop-again
     same-length-2

@@ -1,0 +1,21 @@
+-- `check_list::put` meets its contract, by what the test of the record says.
+use mathlib.Core.Path.{sym, _∙_}
+use Rattle.base.specs.Choice.{pick}
+use Rattle.check_list.proofs.Turns.{stowable-told}
+use borrow.Author.Needs.{needs}
+use Rattle.check_list.proofs.put.Statement.{statement}
+use Rattle.check_list.proofs.put.Tie as tie
+
+put-requires : tie.Need-put-requires
+put-requires c κs = stowable-told _ (sym (c .before .before .stowable .ensures) ∙ c .before .if1 .taken)
+
+returns : tie.Need-returns
+unfolding pick
+returns c = rw (sym (c .before .before .before .before .before .stowable .ensures) ∙ c .before .before .before .before .if1 .taken) (c .before .before .put .ensures)
+
+returns-2 : tie.Need-returns-2
+unfolding pick
+returns-2 c = rw (sym (c .before .stowable .ensures) ∙ c .if1 .left)
+
+pub put-spec : {M : Type 1} → statement M
+put-spec = tie.close (tie.spec (search needs) put-requires (search needs) returns returns-2)
