@@ -118,12 +118,12 @@ pub fn turn(progress: Progress, unit: Unit, i: usize, segments: &[u8], work: &mu
     }
 }
 
-// Record i, unchecked: put into its row where it can stand in one and the work room has that row. For lists that are known to have no
-// record that offends.
-pub fn put(unit: Unit, i: usize, work: &mut [u8])
-    ensures { λ _. ⌜ now (work .exit) ≡ pick (stowableOf unit) (withRecord (now (work .entry)) i unit) (now (work .entry)) ⌝ }
+// A record, unchecked: put into a row where it can stand in one and the work room has that row. For lists that are known to have no record
+// that offends.
+pub fn put(unit: Unit, row: usize, work: &mut [u8])
+    ensures { λ _. ⌜ now (work .exit) ≡ pick (stowableOf unit) (withRecord (now (work .entry)) row unit) (now (work .entry)) ⌝ }
 {
     if record::stowable(unit) {
-        record::put(unit, i, work);
+        record::put(unit, row, work);
     }
 }
