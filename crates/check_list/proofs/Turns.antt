@@ -28,7 +28,8 @@ stowable o r d next e = let j = judged-good o r d next e in fits o r (j .unit) (
 
 -- the test of a record that can stand in a row
 module _ (r : UnitRecord) where
-  segment-told : (x y z : Bool) → ltb (r .code) 0x30 ≡ x → leb (r .code) 0x34 ≡ y → leb (r .length) 16383 ≡ z → pick x false (pick y z false) ≡ true
+  segment-told : (x y z : Bool) → ltb (r .code) 0x30 ≡ x → leb (r .code) 0x34 ≡ y → leb (r .length) 16383 ≡ z
+      → pick x false (pick y z false) ≡ true
       → (0x30 ≤ r .code) × (r .code ≤ 0x34) × (r .length ≤ 16383)
   unfolding pick
   segment-told true y z a b c e = absurd (false≢true e)

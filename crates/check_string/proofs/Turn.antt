@@ -64,7 +64,8 @@ module _ (s : List ℕ) (at count : ℕ) (st : State) (e : Element) (is : e ≡ 
   turn-refused k = sym (ap (answerOf count) (at-refused s at st e is k)) ∙ h .same
 
   -- the place after an element, where the count is at most one more
-  on : {k m : ℕ} {next : State} → 1 ≤ k → at + k ≤ length s → m ≤ count + 1 → answerOf m (ahead s (at + k) next) ≡ answerOf count (ahead s at st)
+  on : {k m : ℕ} {next : State} → 1 ≤ k → at + k ≤ length s → m ≤ count + 1
+      → answerOf m (ahead s (at + k) next) ≡ answerOf count (ahead s at st)
       → Next s at k m next
   on some fits few same =
       record { some = some; fits = fits; head = record { within = fits; few = omega (arith, h .few, some, few); same = same ∙ h .same } }
@@ -125,7 +126,8 @@ module _ (s : List ℕ) (at count : ℕ) (st : State) (h : Head s at count st) w
   turn-done k = turn-end s at count st End (rw (from-end s at k) (sym (at-nothing st))) h refl
 
   -- a designation that is found by its octets
-  pub turn-designation : (d : Designation) → d ≡ designationAt (from at s) → d .set < no-set → Next s at (d .octets) count (designatedOf (d .side) (d .set) st)
+  pub turn-designation : (d : Designation) → d ≡ designationAt (from at s) → d .set < no-set
+      → Next s at (d .octets) count (designatedOf (d .side) (d .set) st)
   turn-designation d e k = turn-silent s at count st _ (designation-silent (from at s) st d e k) h refl
 
   -- a stretch

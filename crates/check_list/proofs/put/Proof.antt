@@ -11,7 +11,9 @@ put-requires c κs = stowable-told _ (sym (c .before .before .stowable .ensures)
 
 returns : tie.Need-returns
 unfolding pick
-returns c = rw (sym (c .before .before .before .before .before .stowable .ensures) ∙ c .before .before .before .before .if1 .taken) (c .before .before .put .ensures)
+returns c =
+    let taken = c .before .before .before .before in
+    rw (sym (taken .before .stowable .ensures) ∙ taken .if1 .taken) (c .before .before .put .ensures)
 
 returns-2 : tie.Need-returns-2
 unfolding pick

@@ -108,38 +108,50 @@ loop-again-3 c =
 returns-4 : tie.Need-returns-4 Inv-loop μ-loop
 unfolding checkOf
 returns-4 c =
-    let head = c .before .before .before .before .before .before .before .before .before .before .before .before .before .before .loop .inv in
-    let h = turn-stops _ _ _ _ head _ (c .before .before .before .before .before .before .before .before .shape .ensures) (c .before .before .before .before .before .before .shape4 .given .1) (c .before .before .before .before .step .ensures) (c .before .before .step2 .given .1) in
-    on-ge _ _ _ _ _ (c .before .before .before .before .before .before .before .before .before .before .before .before .before .before .before .if1 .left) (c .refused3 .ensures ∙ h)
+    let asked = c .before .before .before .before in
+    let formed = asked .before .before .before .before in
+    let h = turn-stops _ _ _ _ (formed .before .before .before .before .before .before .loop .inv) _ (formed .shape .ensures)
+    (asked .before .before .shape4 .given .1) (asked .step .ensures) (c .before .before .step2 .given .1) in
+    on-ge _ _ _ _ _ (formed .before .before .before .before .before .before .before .if1 .left) (c .refused3 .ensures ∙ h)
 
 add-at-4 : tie.Need-add-at-4 Inv-loop μ-loop
 add-at-4 c =
-    let head = c .before .before .before .before .before .before .before .before .before .before .before .before .before .before .loop .inv in
-    let h = turn-goes _ _ _ _ head _ (c .before .before .before .before .before .before .before .before .shape .ensures) (c .before .before .before .before .before .before .shape4 .given .1) (c .before .before .before .before .step .ensures) (c .before .before .step3 .given .1) in
+    let asked = c .before .before .before .before in
+    let formed = asked .before .before .before .before in
+    let h = turn-goes _ _ _ _ (formed .before .before .before .before .before .before .loop .inv) _ (formed .shape .ensures)
+    (asked .before .before .shape4 .given .1) (asked .step .ensures) (c .before .before .step3 .given .1) in
     omega (arith, h .fits)
 
 add-at-5 : tie.Need-add-at-5 Inv-loop μ-loop
 add-at-5 c =
-    let head = c .before .before .before .before .before .before .before .before .before .before .before .before .before .before .loop .inv in
-    let h = turn-goes _ _ _ _ head _ (c .before .before .before .before .before .before .before .before .shape .ensures) (c .before .before .before .before .before .before .shape4 .given .1) (c .before .before .before .before .step .ensures) (c .before .before .step3 .given .1) in
+    let asked = c .before .before .before .before in
+    let formed = asked .before .before .before .before in
+    let h = turn-goes _ _ _ _ (formed .before .before .before .before .before .before .loop .inv) _ (formed .shape .ensures)
+    (asked .before .before .shape4 .given .1) (asked .step .ensures) (c .before .before .step3 .given .1) in
     omega (arith, h .fits)
 
 add-count-2 : tie.Need-add-count-2 Inv-loop μ-loop
 add-count-2 c =
-    let head = c .before .before .before .before .before .before .before .before .before .before .before .before .before .before .before .loop .inv in
-    let h = turn-goes _ _ _ _ head _ (c .before .before .before .before .before .before .before .before .before .shape .ensures) (c .before .before .before .before .before .before .before .shape4 .given .1) (c .before .before .before .before .before .step .ensures) (c .before .before .before .step3 .given .1) in
-    omega (arith, h .head .few, h .fits, c .before .before .before .before .before .before .before .before .before .before .before .before .before .before .before .before .if1 .left)
+    let asked = c .before .before .before .before .before in
+    let formed = asked .before .before .before .before in
+    let h = turn-goes _ _ _ _ (formed .before .before .before .before .before .before .loop .inv) _ (formed .shape .ensures)
+    (asked .before .before .shape4 .given .1) (asked .step .ensures) (c .before .before .before .step3 .given .1) in
+    omega (arith, h .head .few, h .fits, formed .before .before .before .before .before .before .before .if1 .left)
 
 loop-less-4 : tie.Need-loop-less-4 Inv-loop μ-loop
 loop-less-4 c =
-    let head = c .before .before .before .before .before .before .before .before .before .before .before .before .before .before .before .loop .inv in
-    let h = turn-goes _ _ _ _ head _ (c .before .before .before .before .before .before .before .before .before .shape .ensures) (c .before .before .before .before .before .before .before .shape4 .given .1) (c .before .before .before .before .before .step .ensures) (c .before .before .before .step3 .given .1) in
+    let asked = c .before .before .before .before .before in
+    let formed = asked .before .before .before .before in
+    let h = turn-goes _ _ _ _ (formed .before .before .before .before .before .before .loop .inv) _ (formed .shape .ensures)
+    (asked .before .before .shape4 .given .1) (asked .step .ensures) (c .before .before .before .step3 .given .1) in
     omega (arith, h .fits, h .some)
 
 loop-again-4 : tie.Need-loop-again-4 Inv-loop μ-loop
 loop-again-4 c =
-    let head = c .before .before .before .before .before .before .before .before .before .before .before .before .before .before .before .loop .inv in
-    let h = turn-goes _ _ _ _ head _ (c .before .before .before .before .before .before .before .before .before .shape .ensures) (c .before .before .before .before .before .before .before .shape4 .given .1) (c .before .before .before .before .before .step .ensures) (c .before .before .before .step3 .given .1) in
+    let asked = c .before .before .before .before .before in
+    let formed = asked .before .before .before .before in
+    let h = turn-goes _ _ _ _ (formed .before .before .before .before .before .before .loop .inv) _ (formed .shape .ensures)
+    (asked .before .before .shape4 .given .1) (asked .step .ensures) (c .before .before .before .step3 .given .1) in
     rw (c .directed .ensures) (h .head)
 
 returns-5 : tie.Need-returns-5 Inv-loop μ-loop

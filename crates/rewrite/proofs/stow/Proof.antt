@@ -36,14 +36,16 @@ returns c =
 
 loop-again : tie.Need-loop-again Inv-loop μ-loop
 loop-again c =
-    let turn = c .before .before .before .before .before .before .before .before in
+    let found = c .before .before .before .before .before .before .before in
+    let turn = found .before in
     let loop = turn .before .loop in
     let entry = turn .before .before .before in
     let start = entry .before in
     let octets : Octets (now (start .args .s)) = λ i. omega (arith, entry .shared-slice-known .given i) in
     let more = turn .loop-test .taken in
     let all = start .pre .1 in
-    head-next _ (short _ (start .pre .0)) _ _ _ _ _ (loop .inv) (omega arith) _ _ _ _ _ (c .before .before .before .before .before .before .before .next-unit .ensures) (c .before .before .before .before .before .o .given .1)
+    head-next _ (short _ (start .pre .0)) _ _ _ _ _ (loop .inv) (omega arith) _ _ _ _ _ (found .next-unit .ensures)
+    (c .before .before .before .before .before .o .given .1)
     (fine-at _ octets (start .pre .0) (suc (loop .i)) (omega arith)) (c .before .before .put .ensures)
 
 same-length-2 : tie.Need-same-length-2 Inv-loop μ-loop
