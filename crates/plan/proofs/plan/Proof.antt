@@ -1,5 +1,4 @@
 -- `plan::plan` meets its contract. The invariant: what the rows from i on cost is known from all numbers, and those rows are planned.
-use borrow.Author.Needs.{needs}
 use native.Mathlib.Omega.{arith}
 use Prim.Native.Nat.{_≤_}
 use mathlib.Core.Path.{_≡_, refl, _∙_}
@@ -21,7 +20,7 @@ abbrev μ-loop : tie.MeasureT-loop
 loop-holds : tie.Need-loop-holds Inv-loop μ-loop
 loop-holds c =
     rw (c .rows-of .ensures .0)
-    (search needs, refl, known-none _ _ _ (replicate 80 0) (bounded (replicate 80 0) 0 refl), planned-none _ _ _)
+    (search arith, refl, known-none _ _ _ (replicate 80 0) (bounded (replicate 80 0) 0 refl), planned-none _ _ _)
 
 mul-row : tie.Need-mul-row Inv-loop μ-loop
 mul-row c =
@@ -110,7 +109,7 @@ add-result c =
     omega (arith, bound, known-low (inv .1) (inv .2) 1)
 
 returns : tie.Need-returns Inv-loop μ-loop
-returns c = plan-end _ _ _ _ _ _ (c .before .loop .cur) _ _ (search needs) (c .before .loop .inv .2) (c .before .loop .inv .3) refl
+returns c = plan-end _ _ _ _ _ _ (c .before .loop .cur) _ _ (search arith) (c .before .loop .inv .2) (c .before .loop .inv .3) refl
 
 pub plan-spec : {M : Type 1} → statement M
 plan-spec =
@@ -118,24 +117,24 @@ plan-spec =
     (tie.spec
     Inv-loop
     μ-loop
-    (search needs)
-    (search needs)
-    (search needs)
+    (search arith)
+    (search arith)
+    (search arith)
     loop-holds
-    (search needs)
+    (search arith)
     mul-row
     size-from-requires
     add-class-of
     slice-read-class-of
-    (search needs)
+    (search arith)
     keep-requires
     unit-before-requires
     add-base
     add-base-2
-    (search needs)
+    (search arith)
     loop-again
-    (search needs)
+    (search arith)
     cast-result
     add-result
-    (search needs)
+    (search arith)
     returns)

@@ -2,7 +2,6 @@
 use native.Mathlib.Omega.{arith}
 use Rattle.base.proofs.Ladder.{ladder}
 use Rattle.plan.specs.Plan.{rowsOf}
-use borrow.Author.Needs.{needs}
 use Rattle.plan.proofs.rows_of.Statement.{statement}
 use Rattle.plan.proofs.rows_of.Tie as tie
 
@@ -19,4 +18,4 @@ unfolding rowsOf
 returns-3 c = (search ladder, omega arith, omega arith)
 
 pub rows-of-spec : {M : Type 1} → statement M
-rows-of-spec = tie.close (tie.spec (search needs) returns returns-2 returns-3)
+rows-of-spec = tie.close (tie.spec (search arith) returns returns-2 returns-3)

@@ -5,7 +5,6 @@ use mathlib.Core.Path.{ap, ap₂, _∙_}
 use Rattle.base.proofs.Ladder.{ladder, on-lt, on-ge}
 use Rattle.rows.specs.Rows.{partOf}
 use Rattle.plan.specs.Plan.{sizeOf}
-use borrow.Author.Needs.{needs}
 use Rattle.plan.proofs.size_from.Statement.{statement}
 use Rattle.plan.proofs.size_from.Tie as tie
 
@@ -53,16 +52,16 @@ pub size-from-spec : {M : Type 1} → statement M
 size-from-spec =
     tie.close
     (tie.spec
-    (search needs)
-    (search needs)
+    (search arith)
+    (search arith)
     returns
     returns-2
     returns-3
     returns-4
     returns-5
-    (search needs)
-    (search needs)
-    (search needs)
-    (search needs)
+    (search arith)
+    (search arith)
+    (search arith)
+    (search arith)
     returns-6
     returns-7)

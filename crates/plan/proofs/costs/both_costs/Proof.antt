@@ -3,7 +3,6 @@ use native.Mathlib.Omega.{arith}
 use mathlib.Core.Path.{refl}
 use Rattle.plan.proofs.Filled.{columns-as}
 use Rattle.plan.proofs.Least.{charges-as, last-surcharge, fit-charges, fit-column, lesser-both}
-use borrow.Author.Needs.{needs}
 use Rattle.plan.proofs.costs.both_costs.Statement.{statement}
 use Rattle.plan.proofs.costs.both_costs.Tie as tie
 
@@ -32,10 +31,10 @@ pub both-costs-spec : {M : Type 1} → statement M
 both-costs-spec =
     tie.close
     (tie.spec
-    (search needs)
-    (search needs)
-    (search needs)
-    (search needs)
-    (search needs)
+    (search arith)
+    (search arith)
+    (search arith)
+    (search arith)
+    (search arith)
     lesser-costs-requires
     returns)

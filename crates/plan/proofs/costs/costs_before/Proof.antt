@@ -6,7 +6,6 @@ use mathlib.Core.List.{List}
 use lib.ListN.{getD}
 use Rattle.numbers.specs.Numbers.{placesInGL}
 use Rattle.plan.proofs.Least.{last-surcharge, served-left, in-right}
-use borrow.Author.Needs.{needs}
 use Rattle.plan.proofs.costs.costs_before.Statement.{statement}
 use Rattle.plan.proofs.costs.costs_before.Tie as tie
 
@@ -50,14 +49,14 @@ pub costs-before-spec : {M : Type 1} → statement M
 costs-before-spec =
     tie.close
     (tie.spec
-    (search needs)
-    (search needs)
-    (search needs)
-    (search needs)
-    (search needs)
+    (search arith)
+    (search arith)
+    (search arith)
+    (search arith)
+    (search arith)
     gl-costs-requires
-    (λ c. search needs)
+    (λ c. search arith)
     both-costs-requires
-    (λ c. search needs)
+    (λ c. search arith)
     gr-costs-requires
-    (λ c. search needs))
+    (λ c. search arith))

@@ -1,5 +1,4 @@
 -- `costs::gl_costs` meets its contract. The invariant: the first r columns hold the least costs, and the others what they held.
-use borrow.Author.Needs.{needs}
 use native.Mathlib.Omega.{arith}
 use Prim.Native.Nat.{_+_, _-_, _≤_}
 use mathlib.Core.Path.{_≡_, _∙_}
@@ -21,17 +20,17 @@ abbrev μ-loop : tie.MeasureT-loop
 μ-loop x three cur₀ p q r₀ cur r = 16 - r
 
 loop-holds : tie.Need-loop-holds Inv-loop μ-loop
-loop-holds c = (search needs, swept-none _ _, c .before .unserved .ensures, c .unserved2 .ensures)
+loop-holds c = (search arith, swept-none _ _, c .before .unserved .ensures, c .unserved2 .ensures)
 
 gl-column-requires : tie.Need-gl-column-requires Inv-loop μ-loop
 gl-column-requires c κs =
     let args = c .before .before .before .before .before .before .before .args in
     let pre = c .before .before .before .before .before .before .before .pre in
     let turn = c .before .before .before .before .loop in
-    let held = swept-next (turn .inv .1) (search needs) in
+    let held = swept-next (turn .inv .1) (search arith) in
     let low = pre .1 .small (turn .r) in
     let high = pre .1 .small (16 + turn .r) in (
-      search needs,
+      search arith,
       omega (arith, held .0, low, turn .inv .2, unserved-most (args .x) 2, pre .3),
       omega (arith, held .1, high, turn .inv .3, unserved-most (args .x) 0, pre .3),
       turn .inv .1 .long ∙ pre .4,
@@ -40,7 +39,7 @@ gl-column-requires c κs =
 loop-again : tie.Need-loop-again Inv-loop μ-loop
 loop-again c =
     let inv = c .before .before .before .before .before .loop .inv in
-    (omega arith, swept-gl _ _ _ (search needs) (inv .1) (c .gl-column .ensures), inv .2, inv .3)
+    (omega arith, swept-gl _ _ _ (search arith) (inv .1) (c .gl-column .ensures), inv .2, inv .3)
 
 returns : tie.Need-returns Inv-loop μ-loop
 returns c =
@@ -49,7 +48,7 @@ returns c =
     let inv = c .before .loop .inv in
     columns-as _
     (λ g q hg hq. gl-least (args .x) (args .cur .now) _ _ _ (pre .0) (pre .1) (pre .2) (inv .2) (inv .3) (pre .3) g q hg hq)
-    (swept-end (inv .1) (search needs) (search needs) (pre .4))
+    (swept-end (inv .1) (search arith) (search arith) (pre .4))
 
 pub gl-costs-spec : {M : Type 1} → statement M
 gl-costs-spec =
@@ -57,14 +56,14 @@ gl-costs-spec =
     (tie.spec
     Inv-loop
     μ-loop
-    (search needs)
-    (search needs)
+    (search arith)
+    (search arith)
     loop-holds
-    (search needs)
-    (search needs)
-    (search needs)
+    (search arith)
+    (search arith)
+    (search arith)
     gl-column-requires
-    (search needs)
-    (search needs)
+    (search arith)
+    (search arith)
     loop-again
     returns)

@@ -1,8 +1,8 @@
 -- `costs::gr_costs` meets its contract: the lesser costs are the least.
+use native.Mathlib.Omega.{arith}
 use mathlib.Core.Path.{refl}
 use Rattle.plan.proofs.Filled.{columns-as}
 use Rattle.plan.proofs.Least.{fit-column, lesser-gr}
-use borrow.Author.Needs.{needs}
 use Rattle.plan.proofs.costs.gr_costs.Statement.{statement}
 use Rattle.plan.proofs.costs.gr_costs.Tie as tie
 
@@ -22,4 +22,4 @@ returns c =
     (c .lesser-costs .ensures)
 
 pub gr-costs-spec : {M : Type 1} → statement M
-gr-costs-spec = tie.close (tie.spec (search needs) (search needs) lesser-costs-requires returns)
+gr-costs-spec = tie.close (tie.spec (search arith) (search arith) lesser-costs-requires returns)

@@ -1,6 +1,6 @@
 -- `costs::keep` meets its contract, by the class.
+use native.Mathlib.Omega.{arith}
 use Rattle.plan.proofs.Turns.{kept-character, kept-space}
-use borrow.Author.Needs.{needs}
 use Rattle.plan.proofs.costs.keep.Statement.{statement}
 use Rattle.plan.proofs.costs.keep.Tie as tie
 
@@ -25,18 +25,18 @@ pub keep-spec : {M : Type 1} → statement M
 keep-spec =
     tie.close
     (tie.spec
-    (λ c. search needs)
-    (search needs)
-    (search needs)
-    (search needs)
-    (search needs)
-    (search needs)
-    (search needs)
-    (search needs)
+    (λ c. search arith)
+    (search arith)
+    (search arith)
+    (search arith)
+    (search arith)
+    (search arith)
+    (search arith)
+    (search arith)
     returns-2
-    (search needs)
-    (search needs)
-    (search needs)
-    (search needs)
+    (search arith)
+    (search arith)
+    (search arith)
+    (search arith)
     returns-3
-    (λ c. search needs))
+    (λ c. search arith))

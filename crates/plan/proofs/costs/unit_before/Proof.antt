@@ -1,7 +1,7 @@
 -- `costs::unit_before` meets its contract.
+use native.Mathlib.Omega.{arith}
 use mathlib.Core.Path.{sym, _∙_}
 use Rattle.plan.proofs.Turns.{changes-class, turned-moved, turned-near, turned-lowered, turned-still}
-use borrow.Author.Needs.{needs}
 use Rattle.plan.proofs.costs.unit_before.Statement.{statement}
 use Rattle.plan.proofs.costs.unit_before.Tie as tie
 
@@ -45,9 +45,9 @@ pub unit-before-spec : {M : Type 1} → statement M
 unit-before-spec =
     tie.close
     (tie.spec
-    (search needs)
+    (search arith)
     costs-before-requires
-    (search needs)
+    (search arith)
     returns
     lower-requires
     returns-2

@@ -1,6 +1,6 @@
 -- `table::charges` meets its contract.
+use native.Mathlib.Omega.{arith}
 use Rattle.plan.proofs.Filled.{charges-of}
-use borrow.Author.Needs.{needs}
 use Rattle.plan.proofs.table.charges.Statement.{statement}
 use Rattle.plan.proofs.table.charges.Tie as tie
 
@@ -14,9 +14,9 @@ pub charges-spec : {M : Type 1} → statement M
 charges-spec =
     tie.close
     (tie.spec
-    (search needs)
-    (search needs)
-    (search needs)
-    (search needs)
-    (search needs)
+    (search arith)
+    (search arith)
+    (search arith)
+    (search arith)
+    (search arith)
     returns)

@@ -1,6 +1,6 @@
 -- `table::column` meets its contract.
+use native.Mathlib.Omega.{arith}
 use Rattle.plan.proofs.Filled.{column-of}
-use borrow.Author.Needs.{needs}
 use Rattle.plan.proofs.table.column.Statement.{statement}
 use Rattle.plan.proofs.table.column.Tie as tie
 
@@ -11,13 +11,13 @@ pub column-spec : {M : Type 1} → statement M
 column-spec =
     tie.close
     (tie.spec
-    (search needs)
-    (search needs)
-    (search needs)
-    (search needs)
-    (search needs)
-    (search needs)
-    (search needs)
-    (search needs)
-    (search needs)
+    (search arith)
+    (search arith)
+    (search arith)
+    (search arith)
+    (search arith)
+    (search arith)
+    (search arith)
+    (search arith)
+    (search arith)
     returns)

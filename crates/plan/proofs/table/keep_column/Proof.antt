@@ -1,5 +1,4 @@
 -- `table::keep_column` meets its contract. The invariant: the costs of the first g rows are kept.
-use borrow.Author.Needs.{needs}
 use native.Mathlib.Omega.{arith}
 use Prim.Native.Nat.{_+_, _-_, _*_, _≤_}
 use mathlib.Core.Path.{_≡_, refl}
@@ -16,13 +15,13 @@ abbrev μ-loop : tie.MeasureT-loop
 μ-loop cur r work₀ at g₀ work g = 5 - g
 
 loop-holds : tie.Need-loop-holds Inv-loop μ-loop
-loop-holds c = (search needs, refl, filled-none _ _ _)
+loop-holds c = (search arith, refl, filled-none _ _ _)
 
 loop-again : tie.Need-loop-again Inv-loop μ-loop
 loop-again c = (omega arith, simp length-set (c .before .before .loop .inv .1), filled-more _ _ _ _ _ _ (c .before .before .loop .inv .2) (omega arith) refl)
 
 returns : tie.Need-returns Inv-loop μ-loop
-returns c = filled-end 5 (c .before .loop .inv .2) (search needs) (search needs)
+returns c = filled-end 5 (c .before .loop .inv .2) (search arith) (search arith)
 
 pub keep-column-spec : {M : Type 1} → statement M
 keep-column-spec =
@@ -31,13 +30,13 @@ keep-column-spec =
     Inv-loop
     μ-loop
     loop-holds
-    (search needs)
-    (search needs)
-    (search needs)
-    (search needs)
-    (search needs)
-    (search needs)
-    (search needs)
+    (search arith)
+    (search arith)
+    (search arith)
+    (search arith)
+    (search arith)
+    (search arith)
+    (search arith)
     loop-again
-    (search needs)
+    (search arith)
     returns)

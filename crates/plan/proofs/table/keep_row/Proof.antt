@@ -1,5 +1,4 @@
 -- `table::keep_row` meets its contract. The invariant: the first r costs of the row are kept.
-use borrow.Author.Needs.{needs}
 use native.Mathlib.Omega.{arith}
 use Prim.Native.Nat.{_-_, _≤_}
 use mathlib.Core.Path.{_≡_, refl}
@@ -16,14 +15,14 @@ abbrev μ-loop : tie.MeasureT-loop
 μ-loop cur from work₀ at row r₀ work r = 16 - r
 
 loop-holds : tie.Need-loop-holds Inv-loop μ-loop
-loop-holds c = (search needs, refl, filled-none _ _ _, c .row-of .ensures)
+loop-holds c = (search arith, refl, filled-none _ _ _, c .row-of .ensures)
 
 loop-again : tie.Need-loop-again Inv-loop μ-loop
 loop-again c =
     (omega arith, simp length-set (c .before .loop .inv .1), filled-more _ _ _ _ _ _ (c .before .loop .inv .2) (omega arith) refl, c .before .loop .inv .3)
 
 returns : tie.Need-returns Inv-loop μ-loop
-returns c = filled-same (c .before .loop .inv .3 .each) (filled-end 16 (c .before .loop .inv .2) (search needs) (search needs))
+returns c = filled-same (c .before .loop .inv .3 .each) (filled-end 16 (c .before .loop .inv .2) (search arith) (search arith))
 
 pub keep-row-spec : {M : Type 1} → statement M
 keep-row-spec =
@@ -31,13 +30,13 @@ keep-row-spec =
     (tie.spec
     Inv-loop
     μ-loop
-    (search needs)
+    (search arith)
     loop-holds
-    (search needs)
-    (search needs)
-    (search needs)
-    (search needs)
-    (search needs)
+    (search arith)
+    (search arith)
+    (search arith)
+    (search arith)
+    (search arith)
     loop-again
-    (search needs)
+    (search arith)
     returns)

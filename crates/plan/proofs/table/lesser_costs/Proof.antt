@@ -1,5 +1,4 @@
 -- `table::lesser_costs` meets its contract. The invariant: the first r columns hold the lesser costs.
-use borrow.Author.Needs.{needs}
 use native.Mathlib.Omega.{arith}
 use Prim.Native.Nat.{_+_, _-_, _≤_, min}
 use mathlib.Core.Path.{refl}
@@ -17,7 +16,7 @@ abbrev μ-loop : tie.MeasureT-loop
 μ-loop a i p c j q cur₀ r₀ cur r = 16 - r
 
 loop-holds : tie.Need-loop-holds Inv-loop μ-loop
-loop-holds c = (search needs, columns-none _ _ (c .before .before .pre .2))
+loop-holds c = (search arith, columns-none _ _ (c .before .before .pre .2))
 
 add-u : tie.Need-add-u Inv-loop μ-loop
 add-u c = omega (arith, c .before .before .before .before .pre .0 0 (omega arith) .inside)
@@ -35,14 +34,14 @@ lesser-column-requires : tie.Need-lesser-column-requires Inv-loop μ-loop
 lesser-column-requires c κs =
     let pre = c .before .before .before .before .before .before .before .pre in
     let turn = c .before .before .before .before .loop in
-    (search needs, λ g h. (pre .0 g h .sums (turn .r) (search needs), pre .1 g h .sums (turn .r) (search needs)), turn .inv .1 .long)
+    (search arith, λ g h. (pre .0 g h .sums (turn .r) (search arith), pre .1 g h .sums (turn .r) (search arith)), turn .inv .1 .long)
 
 loop-again : tie.Need-loop-again Inv-loop μ-loop
 loop-again c =
-    (omega arith, columns-more _ _ _ _ _ (search needs) (λ g. refl) (c .before .before .before .before .before .loop .inv .1) (c .lesser-column .ensures))
+    (omega arith, columns-more _ _ _ _ _ (search arith) (λ g. refl) (c .before .before .before .before .before .loop .inv .1) (c .lesser-column .ensures))
 
 returns : tie.Need-returns Inv-loop μ-loop
-returns c = columns-end (c .before .loop .inv .1) (search needs) (search needs)
+returns c = columns-end (c .before .loop .inv .1) (search arith) (search arith)
 
 pub lesser-costs-spec : {M : Type 1} → statement M
 lesser-costs-spec =
@@ -56,7 +55,7 @@ lesser-costs-spec =
     add-v
     shared-slice-read-v
     lesser-column-requires
-    (search needs)
-    (search needs)
+    (search arith)
+    (search arith)
     loop-again
     returns)

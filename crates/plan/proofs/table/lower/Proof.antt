@@ -1,5 +1,4 @@
 -- `table::lower` meets its contract. The invariant: 128 is taken from the first k costs.
-use borrow.Author.Needs.{needs}
 use native.Mathlib.Omega.{arith}
 use mathlib.Core.Logic.{inr}
 use Prim.Native.Nat.{ℕ, _-_, _≤_}
@@ -17,7 +16,7 @@ abbrev μ-loop : tie.MeasureT-loop
 μ-loop cur₀ k₀ cur k = 80 - k
 
 loop-holds : tie.Need-loop-holds Inv-loop μ-loop
-loop-holds c = (search needs, search needs, filled-none _ _ _)
+loop-holds c = (search arith, search arith, filled-none _ _ _)
 
 sub-cur : tie.Need-sub-cur Inv-loop μ-loop
 sub-cur c =
@@ -36,7 +35,7 @@ loop-again c = (
 )
 
 returns : tie.Need-returns Inv-loop μ-loop
-returns c = filled-end 80 (c .before .loop .inv .2) (search needs) (search needs)
+returns c = filled-end 80 (c .before .loop .inv .2) (search arith) (search arith)
 
 pub lower-spec : {M : Type 1} → statement M
 lower-spec =
@@ -45,10 +44,10 @@ lower-spec =
     Inv-loop
     μ-loop
     loop-holds
-    (search needs)
+    (search arith)
     sub-cur
-    (search needs)
-    (search needs)
-    (search needs)
+    (search arith)
+    (search arith)
+    (search arith)
     loop-again
     returns)

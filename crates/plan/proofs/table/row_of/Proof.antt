@@ -1,5 +1,4 @@
 -- `table::row_of` meets its contract. The invariant: the first r costs are there.
-use borrow.Author.Needs.{needs}
 use native.Mathlib.Omega.{arith}
 use Prim.Native.Nat.{_+_, _-_, _≤_}
 use mathlib.Core.Path.{_≡_, refl}
@@ -16,13 +15,13 @@ abbrev μ-loop : tie.MeasureT-loop
 μ-loop costs from row₀ r₀ row r = 16 - r
 
 loop-holds : tie.Need-loop-holds Inv-loop μ-loop
-loop-holds c = (search needs, refl, filled-none _ _ _)
+loop-holds c = (search arith, refl, filled-none _ _ _)
 
 loop-again : tie.Need-loop-again Inv-loop μ-loop
 loop-again c = (omega arith, simp length-set (c .before .before .loop .inv .1), filled-at _ _ _ _ _ (c .before .before .loop .inv .2) (omega arith) refl)
 
 returns : tie.Need-returns Inv-loop μ-loop
-returns c = row-filled _ _ _ _ (c .before .loop .inv .1) (filled-end 16 (c .before .loop .inv .2) (search needs) (search needs))
+returns c = row-filled _ _ _ _ (c .before .loop .inv .1) (filled-end 16 (c .before .loop .inv .2) (search arith) (search arith))
 
 pub row-of-spec : {M : Type 1} → statement M
 row-of-spec =
@@ -31,10 +30,10 @@ row-of-spec =
     Inv-loop
     μ-loop
     loop-holds
-    (search needs)
-    (search needs)
-    (search needs)
-    (search needs)
-    (search needs)
+    (search arith)
+    (search arith)
+    (search arith)
+    (search arith)
+    (search arith)
     loop-again
     returns)
