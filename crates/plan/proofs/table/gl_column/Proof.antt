@@ -1,6 +1,6 @@
 -- `table::gl_column` meets its contract.
-use Rattle.plan.proofs.Filled.{gl-column-of}
 use native.Mathlib.Omega.{arith}
+use Rattle.plan.proofs.Filled.{gl-column-of}
 use Rattle.plan.proofs.table.gl_column.Statement.{statement}
 use Rattle.plan.proofs.table.gl_column.Tie as tie
 
