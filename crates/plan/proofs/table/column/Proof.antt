@@ -4,9 +4,6 @@ use Rattle.plan.proofs.Filled.{column-of}
 use Rattle.plan.proofs.table.column.Statement.{statement}
 use Rattle.plan.proofs.table.column.Tie as tie
 
-returns : tie.Need-returns
-returns c = column-of _ _
-
 pub column-spec : {M : Type 1} → statement M
 column-spec =
     tie.close
@@ -20,4 +17,4 @@ column-spec =
     (search arith)
     (search arith)
     (search arith)
-    returns)
+    (λ c. column-of _ _))
