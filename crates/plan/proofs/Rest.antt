@@ -29,7 +29,7 @@ use Rattle.plan.specs.Costs.{leastBy, Smooth, changes, Turned, TwoStandi
 use Rattle.plan.specs.Plan.{sizeOf, sizeAt, restFrom, CostsKept, Planned}
 use Rattle.numbers.proofs.Numbers.{choice-at, chosen-base, below, steady-at}
 use Rattle.plan.proofs.Again.{least-again, least-plus, least-space}
-use Rattle.plan.proofs.Units.{rest-end, rest-cons}
+use Rattle.plan.proofs.Units.{rest-end, rest-cons, same-start}
 
 -- ---- bounds
 
@@ -290,13 +290,7 @@ module _ {o before : List ℕ} {n i j base last : ℕ} {cur room : List ℕ} (e 
       ew ∙ ap₂ sizeOf (p .kept j 65 (omega arith) (omega arith))
       (ap₂ (λ (c s : ℕ). partOf c s (length o))
       (ap₂ countOf (p .kept j 66 (omega arith) (omega arith)) (p .kept j 67 (omega arith) (omega arith)))
-      (let z : startFrom room (72 * j) ≡ startFrom before (72 * j) = omega (
-        arith,
-        p .kept j 68 (omega arith) (omega arith),
-        p .kept j 69 (omega arith) (omega arith),
-        p .kept j 70 (omega arith) (omega arith),
-        p .kept j 71 (omega arith) (omega arith),
-      ) in z))
+      (same-start room before (72 * j) (p .kept j)))
 
   pub turn-near : (k m : ℕ) → k < 80 → m < 80 → leastBy x cur k ≤ 8 + leastBy x cur m
   turn-near k m hk hm =

@@ -4,7 +4,7 @@ use native.Mathlib.Omega.{arith}
 use mathlib.Core.Path.{_≡_, refl, ap, ap₂, _∙_}
 use mathlib.Core.Bool.{Bool, true, false, _&&_, false≢true}
 use mathlib.Core.List.{List}
-use lib.ListN.{length}
+use lib.ListN.{length, getD}
 use lib.Dec.{eqb, ltb}
 use borrow.Author.Tests.{ltb-true, ltb-false, le-ltb, eqb-true}
 use Rattle.base.proofs.Bools.{test, and-left, and-right, up-to}
@@ -92,3 +92,14 @@ rest-cons o w n i s h =
     ∙ ap₂ (λ (a : ℕ) (q : Need). a + least q (restFrom o w n (suc i)) s)
     (size-tagged o (tagAt w i) (highOctet w (72 * i)) (lowOctet w (72 * i)) (startFrom w (72 * i)))
     (need-tagged o (tagAt w i) (highOctet w (72 * i)) (lowOctet w (72 * i)) (startFrom w (72 * i)))
+
+-- a row whose octets from the tag on are the same has its segment at the same place
+pub same-start : (a b : List ℕ) (row : ℕ) → ((q : ℕ) → 65 ≤ q → q < 72 → getD a (row + q) 0 ≡ getD b (row + q) 0) → startFrom a row ≡ startFrom b row
+same-start a b row e =
+    omega (
+      arith,
+      e 68 (omega arith) (omega arith),
+      e 69 (omega arith) (omega arith),
+      e 70 (omega arith) (omega arith),
+      e 71 (omega arith) (omega arith),
+    )
