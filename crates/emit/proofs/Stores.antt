@@ -15,8 +15,8 @@ use Rattle.charset.specs.declared.Side.{Side}
 use Rattle.charset.specs.declared.Side.the-variants.{GL, GR}
 use Rattle.charset.specs.Charsets.{rowOf, formOf}
 use Rattle.state.specs.State.{on}
-use Rattle.grammar.specs.Units.{TextUnit, ext, wide, top, octets, designation}
-use Rattle.rows.specs.Rows.{partOf, textTagged}
+use Rattle.grammar.specs.Units.{Control, control, ext, wide, top, octets, designation}
+use Rattle.rows.specs.Rows.{partOf, textTagged, markTagged}
 use Rattle.rows.specs.Tag as tag
 use Rattle.rows.proofs.Units.{part-length}
 use Rattle.emit.specs.Octets.{Written, sideOf, signOf}
@@ -185,9 +185,11 @@ pub segment-length : (o : List ℕ) (e n s : ℕ) → length (octets GL (ext e (
 unfolding octets
 segment-length o e n s = omega (arith, part-length o n s)
 
--- octets of a unit that is another
-pub unit-size : {u v : TextUnit} → u ≡ v → length (octets GL u) ≡ length (octets GL v)
-unit-size e = ap (λ (u : TextUnit). length (octets GL u)) e
+-- a mark by its tag: the room that it takes, and where it is stored
+pub mark-room : (m : Control) (t at : ℕ) {n : ℕ} → control m ≡ markTagged t → at + length (octets GL (markTagged t)) ≤ n
+    → at + length (octets GL (control m)) ≤ n
+mark-room m t at e h = rw e h
 
-pub unit-written : {u v : TextUnit} {at r : ℕ} {l m : List ℕ} → u ≡ v → Written l at (octets GL u) r m → Written l at (octets GL v) r m
-unit-written e w = rw e at w
+pub mark-written : (m : Control) (t : ℕ) {at r : ℕ} {l after : List ℕ} → control m ≡ markTagged t → Written l at (octets GL (control m)) r after
+    → Written l at (octets GL (markTagged t)) r after
+mark-written m t e w = rw e at w

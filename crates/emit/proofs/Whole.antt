@@ -1,6 +1,6 @@
 -- From the plan to the writing, and the answer for the rows.
 use mathlib.Core.Path.{_≡_, refl, sym, ap, ap₂, _∙_, subst}
-use mathlib.Core.Bool.{true, false}
+use mathlib.Core.Bool.{Bool, false}
 use mathlib.Core.List.{List, _∷_, _++_}
 use Prim.Native.Nat.{ℕ, zero, suc, _+_, _-_, _*_, _≤_, _<_}
 use native.Mathlib.Omega.{arith}
@@ -22,6 +22,7 @@ use Rattle.rows.specs.Rows.{tagAt, startFrom, unitTagged, unitFrom, unitsIn}
 use Rattle.numbers.specs.Numbers.{numbered, classOf, afterFirst, afterSecond}
 use Rattle.plan.specs.Costs.{TwoStandings, secondSlot}
 use Rattle.plan.specs.Plan.{rowsOf, Planned}
+use Rattle.plan.proofs.Units.{same-start}
 use Rattle.emit.specs.Octets.{Written}
 use Rattle.emit.specs.Emit.{rowsAnswer, rowsOutput, Ready}
 
@@ -34,19 +35,9 @@ module _ (a b : List ℕ) (e : Same a b) where
   same-tag : (i : ℕ) → tagAt a i ≡ tagAt b i
   same-tag i = e i 65 (omega arith) (omega arith)
 
-  same-start : (i : ℕ) → startFrom a (72 * i) ≡ startFrom b (72 * i)
-  same-start i =
-      omega (
-        arith,
-        e i 68 (omega arith) (omega arith),
-        e i 69 (omega arith) (omega arith),
-        e i 70 (omega arith) (omega arith),
-        e i 71 (omega arith) (omega arith),
-      )
-
   same-unit : (o : List ℕ) (i : ℕ) → unitFrom o a (72 * i) ≡ unitFrom o b (72 * i)
   same-unit o i =
-      ap₂ (λ (t s : ℕ). unitTagged o t (getD a (72 * i + 66) 0) (getD a (72 * i + 67) 0) s) (same-tag i) (same-start i)
+      ap₂ (λ (t s : ℕ). unitTagged o t (getD a (72 * i + 66) 0) (getD a (72 * i + 67) 0) s) (same-tag i) (same-start a b (72 * i) (e i))
       ∙ ap₂ (λ (x y : ℕ). unitTagged o (tagAt b i) x y (startFrom b (72 * i))) (e i 66 (omega arith) (omega arith)) (e i 67 (omega arith) (omega arith))
 
   pub same-units : (o : List ℕ) (m i : ℕ) → unitsIn o a i m ≡ unitsIn o b i m
@@ -102,36 +93,36 @@ module _ (o w : List ℕ) (n : ℕ) (out : List ℕ) where
   wrote-many h = let l = lt-ltb 65535 n h in record { answers = rw l; output = rw l }
 
   module _ (hn : n ≤ 65535) where
+    few : ltb 65535 n ≡ false
+    few = le-ltb 65535 n hn
+
     pub wrote-no-work : length w < workRoom n → Wrote o w n out (refusedAt refusal.no-work-room 0) out
     unfolding rowsAnswer rowsOutput pick
-    wrote-no-work h =
-        let l = le-ltb 65535 n hn in
-        let m = lt-ltb (length w) (workRoom n) h in
-        record { answers = rw (l, m); output = rw (l, m) }
+    wrote-no-work h = let m = lt-ltb (length w) (workRoom n) h in record { answers = rw (few, m); output = rw (few, m) }
 
     module _ (hw : workRoom n ≤ length w) (c : ℕ) (ec : c ≡ cost (unitsIn o w 0 n) (fresh .sets)) where
-      units : List TextUnit
-      units = unitsIn o w 0 n
+      abbrev shortest : List ℕ
+      shortest = writing (unitsIn o w 0 n) (fresh .sets)
+
+      lie : ltb (length w) (workRoom n) ≡ false
+      lie = le-ltb (length w) (workRoom n) hw
+
+      -- a test of the cost, by the count
+      by-count : (m : ℕ) {t : Bool} → ltb m c ≡ t → ltb m (cost (unitsIn o w 0 n) (fresh .sets)) ≡ t
+      by-count m e = ap (ltb m) (sym ec) ∙ e
 
       pub wrote-long : 65535 < c → Wrote o w n out (refusedAt refusal.too-long 0) out
       unfolding rowsAnswer rowsOutput writeAnswer outputAfter pick
       wrote-long h =
-          let l = le-ltb 65535 n hn in
-          let m = le-ltb (length w) (workRoom n) hw in
-          let q : ltb 65535 (cost (unitsIn o w 0 n) (fresh .sets)) ≡ true = lt-ltb 65535 (cost (unitsIn o w 0 n) (fresh .sets))
-          (subst (λ (y : ℕ). 65535 < y) ec h) in
-          record { answers = rw (l, m, q); output = rw (l, m, q) }
+          let q = by-count 65535 (lt-ltb 65535 c h) in
+          record { answers = rw (few, lie, q); output = rw (few, lie, q) }
 
       pub wrote-room : c ≤ 65535 → length out < c → Wrote o w n out (answer refusal.no-room 0 c) out
       unfolding rowsAnswer rowsOutput writeAnswer outputAfter pick
       wrote-room h k =
-          let l = le-ltb 65535 n hn in
-          let m = le-ltb (length w) (workRoom n) hw in
-          let q : ltb 65535 (cost (unitsIn o w 0 n) (fresh .sets)) ≡ false = le-ltb 65535 (cost (unitsIn o w 0 n) (fresh .sets))
-          (subst (λ (y : ℕ). y ≤ 65535) ec h) in
-          let r : ltb (length out) (cost (unitsIn o w 0 n) (fresh .sets)) ≡ true = lt-ltb (length out) (cost (unitsIn o w 0 n) (fresh .sets))
-          (subst (λ (y : ℕ). length out < y) ec k) in
-          record { answers = rw (l, m, q, r) (ap (answer 10 0) ec); output = rw (l, m, q, r) }
+          let q = by-count 65535 (le-ltb 65535 c h) in
+          let r = by-count (length out) (lt-ltb (length out) c k) in
+          record { answers = rw (few, lie, q, r) (ap (answer 10 0) ec); output = rw (few, lie, q, r) }
 
       pub room-for : (room : List ℕ) → Same room w → c ≤ length out → length (writing (unitsIn o room 0 n) (fresh .sets)) ≤ length out
       room-for room same k =
@@ -147,19 +138,14 @@ module _ (o w : List ℕ) (n : ℕ) (out : List ℕ) where
           → Wrote o w n out (answer refusal.accepted n c) after
       unfolding rowsAnswer rowsOutput writeAnswer outputAfter pick
       wrote-all room after end same h k p =
-          let l = le-ltb 65535 n hn in
-          let m = le-ltb (length w) (workRoom n) hw in
-          let q : ltb 65535 (cost (unitsIn o w 0 n) (fresh .sets)) ≡ false = le-ltb 65535 (cost (unitsIn o w 0 n) (fresh .sets))
-          (subst (λ (y : ℕ). y ≤ 65535) ec h) in
-          let r : ltb (length out) (cost (unitsIn o w 0 n) (fresh .sets)) ≡ false = le-ltb (length out) (cost (unitsIn o w 0 n) (fresh .sets))
-          (subst (λ (y : ℕ). y ≤ length out) ec k) in
-          let s : length (writing (unitsIn o w 0 n) (fresh .sets)) ≡ cost (unitsIn o w 0 n) (fresh .sets) = writing-length (unitsIn o w 0 n) (fresh .sets) in
+          let q = by-count 65535 (le-ltb 65535 c h) in
+          let r = by-count (length out) (le-ltb (length out) c k) in
+          let s = writing-length (unitsIn o w 0 n) (fresh .sets) in
           record {
-            answers = rw (l, m, q, r) (ap₂ (answer 0) (sym (units-length o w n 0)) ec);
+            answers = rw (few, lie, q, r) (ap₂ (answer 0) (sym (units-length o w n 0)) ec);
             output =
-                rw (l, m, q, r)
+                rw (few, lie, q, r)
                 (p .now ∙ ap (λ (us : List TextUnit). sets out 0 (writing us (fresh .sets))) (same-units room w same o n 0)
-                ∙ sets-eq (writing (unitsIn o w 0 n) (fresh .sets)) out 0 (omega (arith, ec))
-                ∙ ap (λ (y : ℕ). writing (unitsIn o w 0 n) (fresh .sets) ++ drop y out)
-                (let z : 0 + length (writing (unitsIn o w 0 n) (fresh .sets)) ≡ cost (unitsIn o w 0 n) (fresh .sets) = omega arith in z));
+                ∙ sets-eq shortest out 0 (omega (arith, ec, s))
+                ∙ ap (λ (y : ℕ). shortest ++ drop y out) (let z : 0 + length shortest ≡ cost (unitsIn o w 0 n) (fresh .sets) = omega (arith, s) in z));
           }

@@ -1,6 +1,6 @@
--- Stores into a list, place by place and row by row.
-use mathlib.Core.Path.{_≡_, refl, ap, ap₂, _∙_, subst, sym}
-use mathlib.Core.Bool.{Bool, true, false, cond}
+-- Stores into a list, place by place, and into a table, column by column.
+use mathlib.Core.Path.{_≡_, refl, sym, ap, ap₂, _∙_, subst}
+use mathlib.Core.Bool.{cond}
 use mathlib.Core.List.{List, [], _∷_}
 use mathlib.Core.Logic.{_⊎_, inl, inr, ⊎-elim}
 use Prim.Native.Nat.{ℕ, _+_, _*_, _/_, _%_, _≤_, _<_, min}
@@ -9,137 +9,41 @@ use lib.ListN.{length, getD, set, length-set}
 use lib.Seq.{getD-set-same, getD-set-other}
 use lib.Dec.{ltb, eqb}
 use borrow.Author.Tests.{ltb-true, ltb-false, eqb-true, eqb-false}
-use Rattle.plan.specs.Table.{PlacesFilled, ColumnFilled, Columns, Swept, Charges, ColumnRead, RowRead, fromGL}
+use Rattle.base.proofs.Bools.{test}
+use Rattle.plan.specs.Table.{Filled, ColumnFilled, Columns, Swept, Charges, ColumnRead, RowRead, fromGL}
 
 below-cases : (j k : ℕ) → j < k + 1 → (j < k) ⊎ (j ≡ k)
-below-cases j k h = go (ltb j k) refl
-  where
-    go : (b : Bool) → ltb j k ≡ b → (j < k) ⊎ (j ≡ k)
-    go true e = inl (ltb-true j k e)
-    go false e = inr (let l = ltb-false j k e in omega arith)
+below-cases j k h = test (ltb j k) (λ e. inl (ltb-true j k e)) (λ e. inr (let l = ltb-false j k e in omega arith))
 
 -- ---- one place more
 
-pub filled-none : (f : ℕ → ℕ) (at : ℕ) (before : List ℕ) → PlacesFilled f at 0 before before
-filled-none f at before = record { there = λ r h. absurd (omega arith); kept = λ p h. refl; long = refl }
+pub filled-none : (place f : ℕ → ℕ) (before : List ℕ) → Filled place f 0 before before
+filled-none place f before = record { there = λ r h. absurd (omega arith); kept = λ p h. refl; long = refl }
 
-pub filled-more : (f : ℕ → ℕ) (at m : ℕ) (before after : List ℕ) (v : ℕ) → PlacesFilled f at m before after → at + m < length after → v ≡ f m
-    → PlacesFilled f at (m + 1) before (set after (at + m) v)
-filled-more f at m before after v s h e =
+pub filled-more : (place f : ℕ → ℕ) (m : ℕ) (before after : List ℕ) (v : ℕ) → ((r : ℕ) → r < m → place r ≡ place m → ⊥)
+    → Filled place f m before after → place m < length after → v ≡ f m
+    → Filled place f (m + 1) before (set after (place m) v)
+filled-more place f m before after v apart s h e =
     record {
       there = λ r l.
           ⊎-elim
-          (λ q. getD-set-other after (at + m) (at + r) v 0 (λ z. omega arith) ∙ s .there r q)
-          (λ q. rw q (getD-set-same after (at + m) v 0 h ∙ e))
+          (λ q. getD-set-other after (place m) (place r) v 0 (apart r q) ∙ s .there r q)
+          (λ q. rw q (getD-set-same after (place m) v 0 h ∙ e))
           (below-cases r m l);
-      kept = λ p l.
-          getD-set-other after (at + m) p v 0 (λ z. ⊎-elim (λ q. omega arith) (λ q. omega arith) l)
-          ∙ s .kept p (⊎-elim (λ q. inl q) (λ q. inr (omega arith)) l);
-      long = length-set after (at + m) v ∙ s .long;
+      kept = λ p n. getD-set-other after (place m) p v 0 (n m (omega arith)) ∙ s .kept p (λ r l. n r (omega arith));
+      long = length-set after (place m) v ∙ s .long;
     }
 
-pub filled-at : (f : ℕ → ℕ) (m : ℕ) (before after : List ℕ) (v : ℕ) → PlacesFilled f 0 m before after → m < length after → v ≡ f m
-    → PlacesFilled f 0 (m + 1) before (set after m v)
-filled-at f m before after v s h e =
-    let z : 0 + m ≡ m = omega arith in
-    subst (λ (i : ℕ). PlacesFilled f 0 (m + 1) before (set after i v)) z (filled-more f 0 m before after v s (omega arith) e)
-
-pub filled-end : {f : ℕ → ℕ} {at k : ℕ} {before after : List ℕ} (m : ℕ) → PlacesFilled f at k before after → k ≤ m → m ≤ k → PlacesFilled f at m before after
-filled-end {f} {at} {k} {before} {after} m s l h = subst (λ (i : ℕ). PlacesFilled f at i before after) (omega arith) s
+pub filled-end : {place f : ℕ → ℕ} {k : ℕ} {before after : List ℕ} (m : ℕ) → Filled place f k before after → k ≤ m → m ≤ k → Filled place f m before after
+filled-end {place} {f} {k} {before} {after} m s l h = subst (λ (i : ℕ). Filled place f i before after) (omega arith) s
 
 -- what is read first is what is then stored
-pub filled-same : {f g : ℕ → ℕ} {at m : ℕ} {before after : List ℕ} → ((r : ℕ) → r < m → f r ≡ g r) → PlacesFilled f at m before after → PlacesFilled g at m before after
+pub filled-same : {place f g : ℕ → ℕ} {m : ℕ} {before after : List ℕ} → ((r : ℕ) → r < m → f r ≡ g r) → Filled place f m before after
+    → Filled place g m before after
 filled-same e s = record { there = λ r h. s .there r h ∙ e r h; kept = s .kept; long = s .long }
 
-pub row-filled : (costs : List ℕ) (from : ℕ) (before row : List ℕ) → length row ≡ 16 → PlacesFilled (λ r. getD costs (from + r) 0) 0 16 before row
-    → RowRead costs from row
-row-filled costs from before row l s =
-    record { sixteen = l; each = λ r h. ap (λ (i : ℕ). getD row i 0) (let z : r ≡ 0 + r = omega arith in z) ∙ s .there r h }
+-- ---- columns that are computed from what they hold
 
--- ---- a fact of each of five
-
-pub all-five : (P : ℕ → Type 0) → P 0 → P 1 → P 2 → P 3 → P 4 → (g : ℕ) → g < 5 → P g
-all-five P a b c d e g h = go (eqb g 0) refl (eqb g 1) refl (eqb g 2) refl (eqb g 3) refl
-  where
-    at : (n : ℕ) → eqb g n ≡ true → P n → P g
-    at n q p = subst P (sym (eqb-true g n q)) p
-
-    go : (t : Bool) → eqb g 0 ≡ t → (u : Bool) → eqb g 1 ≡ u → (v : Bool) → eqb g 2 ≡ v → (w : Bool) → eqb g 3 ≡ w → P g
-    go true q u r v s w z = at 0 q a
-    go false q true r v s w z = at 1 r b
-    go false q false r true s w z = at 2 s c
-    go false q false r false s true z = at 3 z d
-    go false q false r false s false z =
-        let n0 : g ≡ 0 → ⊥ = eqb-false g 0 q in
-        let n1 : g ≡ 1 → ⊥ = eqb-false g 1 r in
-        let n2 : g ≡ 2 → ⊥ = eqb-false g 2 s in
-        let n3 : g ≡ 3 → ⊥ = eqb-false g 3 z in
-        let y : 4 ≡ g = omega arith in
-        subst P y e
-
--- ---- one place of a column more, one column more
-
-pub column-none : (f : ℕ → ℕ) (r : ℕ) (before : List ℕ) → ColumnFilled f r 0 before before
-column-none f r before = record { there = λ g h. absurd (omega arith); kept = λ g q h n. refl; long = refl }
-
-pub column-more : (f : ℕ → ℕ) (r m : ℕ) (before after : List ℕ) (v : ℕ) → ColumnFilled f r m before after → r < 16 → 16 * m + r < length after → v ≡ f m
-    → ColumnFilled f r (m + 1) before (set after (16 * m + r) v)
-column-more f r m before after v s hr h e =
-    record {
-      there = λ g l.
-          ⊎-elim
-          (λ q. getD-set-other after (16 * m + r) (16 * g + r) v 0 (λ z. omega arith) ∙ s .there g q)
-          (λ q. rw q (getD-set-same after (16 * m + r) v 0 h ∙ e))
-          (below-cases g m l);
-      kept = λ g q hq n. getD-set-other after (16 * m + r) (16 * g + q) v 0 (λ z. n (omega arith)) ∙ s .kept g q hq n;
-      long = length-set after (16 * m + r) v ∙ s .long;
-    }
-
-pub column-end : {f : ℕ → ℕ} {r k : ℕ} {before after : List ℕ} → ColumnFilled f r k before after → k ≤ 5 → 5 ≤ k → ColumnFilled f r 5 before after
-column-end {f} {r} {k} {before} {after} s l h = subst (λ (i : ℕ). ColumnFilled f r i before after) (omega arith) s
-
--- a store in each row
-pub column-five : (l : List ℕ) (r a b c : ℕ) → r < 16 → length l ≡ 80
-    → ColumnFilled (λ g. getD (a ∷ b ∷ c ∷ c ∷ c ∷ []) g 0) r 5 l (set (set (set (set (set l r a) (16 + r) b) (32 + r) c) (48 + r) c) (64 + r) c)
-column-five l r a b c hr len = column-more f r 4 l l4 c s4 hr (omega (arith, s4 .long, len)) refl
-  where
-    f : ℕ → ℕ
-    f g = getD (a ∷ b ∷ c ∷ c ∷ c ∷ []) g 0
-
-    l1 : List ℕ
-    l1 = set l r a
-
-    l2 : List ℕ
-    l2 = set l1 (16 + r) b
-
-    l3 : List ℕ
-    l3 = set l2 (32 + r) c
-
-    l4 : List ℕ
-    l4 = set l3 (48 + r) c
-
-    s1 : ColumnFilled f r 1 l l1
-    s1 =
-        subst (λ (i : ℕ). ColumnFilled f r 1 l (set l i a)) (let z : 16 * 0 + r ≡ r = omega arith in z)
-        (column-more f r 0 l l a (column-none f r l) hr (omega (arith, len)) refl)
-
-    s2 : ColumnFilled f r 2 l l2
-    s2 = column-more f r 1 l l1 b s1 hr (omega (arith, s1 .long, len)) refl
-
-    s3 : ColumnFilled f r 3 l l3
-    s3 = column-more f r 2 l l2 c s2 hr (omega (arith, s2 .long, len)) refl
-
-    s4 : ColumnFilled f r 4 l l4
-    s4 = column-more f r 3 l l3 c s3 hr (omega (arith, s3 .long, len)) refl
-
-pub gl-column-of : (l : List ℕ) (r a p b q t first second other : ℕ) → r < 16 → length l ≡ 80 → first ≡ min (a + p) (b + t)
-    → second ≡ min (b + q) (a + t) → other ≡ min (a + p) (b + q)
-    → ColumnFilled (λ g. getD (fromGL a p b q t) g 0) r 5 l
-    (set (set (set (set (set l r first) (16 + r) second) (32 + r) (other + t)) (48 + r) (other + t)) (64 + r) (other + t))
-gl-column-of l r a p b q t first second other hr len e1 e2 e3 =
-    rw (e1, e2, e3) (column-five l r (min (a + p) (b + t)) (min (b + q) (a + t)) (min (a + p) (b + q) + t) hr len)
-
--- columns that are computed from what they hold
 pub swept-none : (f : ℕ → ℕ → ℕ) (before : List ℕ) → Swept f 0 before before
 swept-none f before = record { there = λ g r h k. absurd (omega arith); kept = λ g r h k. refl; long = refl }
 
@@ -149,51 +53,18 @@ swept-more f h m before mid after hm eh s e =
     record {
       there = λ g r hg hr.
           ⊎-elim
-          (λ q. e .kept g r (omega arith) (λ z. omega arith) ∙ s .there g r hg q)
+          (λ q. other g r (omega arith) (omega arith) ∙ s .there g r hg q)
           (λ q. rw q (e .there g hg ∙ eh g))
           (below-cases r m hr);
-      kept = λ g r hm hr. e .kept g r hr (λ z. omega arith) ∙ s .kept g r (omega arith) hr;
+      kept = λ g r hm hr. other g r hr (omega arith) ∙ s .kept g r (omega arith) hr;
       long = e .long ∙ s .long;
     }
-
-pub swept-next : {f : ℕ → ℕ → ℕ} {m : ℕ} {before after : List ℕ} → Swept f m before after → m < 16
-    → (getD after m 0 ≡ getD before m 0) × (getD after (16 + m) 0 ≡ getD before (16 + m) 0)
-swept-next {f} {m} {before} {after} s h =
-    let z : 16 * 0 + m ≡ m = omega arith in
-    (subst (λ (i : ℕ). getD after i 0 ≡ getD before i 0) z (s .kept 0 m (omega arith) h), s .kept 1 m (omega arith) h)
-
--- by a column that is computed from what the first two rows held
-pub swept-gl : (p q t : ℕ) {m : ℕ} {before mid after : List ℕ} → m < 16
-    → Swept (λ g r. getD (fromGL (getD before r 0) p (getD before (16 + r) 0) q t) g 0) m before mid
-    → ColumnFilled (λ g. getD (fromGL (getD mid m 0) p (getD mid (16 + m) 0) q t) g 0) m 5 mid after
-    → Swept (λ g r. getD (fromGL (getD before r 0) p (getD before (16 + r) 0) q t) g 0) (m + 1) before after
-swept-gl p q t {m} {before} {mid} {after} h s e =
-    let held = swept-next s h in
-    swept-more (λ g r. getD (fromGL (getD before r 0) p (getD before (16 + r) 0) q t) g 0)
-    (λ g. getD (fromGL (getD mid m 0) p (getD mid (16 + m) 0) q t) g 0) m before mid after h
-    (λ g. ap₂ (λ (a b : ℕ). getD (fromGL a p b q t) g 0) (held .0) (held .1)) s e
+  where
+    other : (g r : ℕ) → r < 16 → (r ≡ m → ⊥) → getD after (16 * g + r) 0 ≡ getD mid (16 * g + r) 0
+    other g r hr n = e .kept (16 * g + r) (λ j hj z. n (omega arith))
 
 pub swept-end : {f : ℕ → ℕ → ℕ} {k : ℕ} {before after : List ℕ} → Swept f k before after → k ≤ 16 → 16 ≤ k → length before ≡ 80 → Columns f 16 after
-swept-end {f} {k} {before} {after} s l h e =
-    record { there = λ g r hg hr. s .there g r hg (omega arith); long = s .long ∙ e }
-
-pub columns-none : (f : ℕ → ℕ → ℕ) (table : List ℕ) → length table ≡ 80 → Columns f 0 table
-columns-none f table l = record { there = λ g r h k. absurd (omega arith); long = l }
-
-pub columns-more : (f : ℕ → ℕ → ℕ) (h : ℕ → ℕ) (m : ℕ) (before after : List ℕ) → m < 16 → ((g : ℕ) → h g ≡ f g m) → Columns f m before
-    → ColumnFilled h m 5 before after → Columns f (m + 1) after
-columns-more f h m before after hm eh s e =
-    record {
-      there = λ g r hg hr.
-          ⊎-elim
-          (λ q. e .kept g r (omega arith) (λ z. omega arith) ∙ s .there g r hg q)
-          (λ q. rw q (e .there g hg ∙ eh g))
-          (below-cases r m hr);
-      long = e .long ∙ s .long;
-    }
-
-pub columns-end : {f : ℕ → ℕ → ℕ} {k : ℕ} {table : List ℕ} → Columns f k table → k ≤ 16 → 16 ≤ k → Columns f 16 table
-columns-end {f} {k} {table} s l h = subst (λ (i : ℕ). Columns f i table) (omega arith) s
+swept-end s l h e = record { there = λ g r hg hr. s .there g r hg (omega arith); long = s .long ∙ e }
 
 pub columns-as : {f : ℕ → ℕ → ℕ} {table : List ℕ} (g : ℕ → ℕ → ℕ) → ((i r : ℕ) → i < 5 → r < 16 → f i r ≡ g i r) → Columns f 16 table
     → Columns g 16 table
@@ -204,7 +75,48 @@ columns-at f {table} s k h =
     let z : 16 * (k / 16) + k % 16 ≡ k = omega arith in
     subst (λ (i : ℕ). getD table i 0 ≡ f i) z (s .there (k / 16) (k % 16) (omega arith) (omega arith))
 
--- ---- five surcharges
+-- ---- before a unit that GL alone serves: a store in each row, by what the first two rows held
+
+module _ (p q t : ℕ) where
+  abbrev pub costsGL : List ℕ → ℕ → ℕ → ℕ
+  costsGL held g r = getD (fromGL (getD held r 0) p (getD held (16 + r) 0) q t) g 0
+
+  pub gl-column-of : (l : List ℕ) (r a b first second other : ℕ) → r < 16 → length l ≡ 80 → first ≡ min (a + p) (b + t)
+      → second ≡ min (b + q) (a + t) → other ≡ min (a + p) (b + q)
+      → ColumnFilled (λ g. getD (fromGL a p b q t) g 0) r 5 l
+      (set (set (set (set (set l r first) (16 + r) second) (32 + r) (other + t)) (48 + r) (other + t)) (64 + r) (other + t))
+  gl-column-of l r a b first second other hr len e1 e2 e3 =
+      let z : 16 * 0 + r ≡ r = omega arith in
+      let e = ap (λ (m : ℕ). m + t) e3 in
+      let s1 = subst (λ (i : ℕ). ColumnFilled f r 1 l (set l i first)) z (more 0 l first (filled-none (λ g. 16 * g + r) f l) (omega arith) e1) in
+      more 4 _ _ (more 3 _ _ (more 2 _ _ (more 1 _ _ s1 (omega arith) e2) (omega arith) e) (omega arith) e) (omega arith) e
+    where
+      f : ℕ → ℕ
+      f g = getD (fromGL a p b q t) g 0
+
+      more : (m : ℕ) (after : List ℕ) (v : ℕ) → ColumnFilled f r m l after → m < 5 → v ≡ f m → ColumnFilled f r (m + 1) l (set after (16 * m + r) v)
+      more m after v s h e = filled-more (λ g. 16 * g + r) f m l after v (λ g k z. omega arith) s (omega (arith, s .long)) e
+
+  pub swept-next : {m : ℕ} {before after : List ℕ} → Swept (costsGL before) m before after → m < 16
+      → (getD after m 0 ≡ getD before m 0) × (getD after (16 + m) 0 ≡ getD before (16 + m) 0)
+  swept-next {m} {before} {after} s h =
+      let z : 16 * 0 + m ≡ m = omega arith in
+      (subst (λ (i : ℕ). getD after i 0 ≡ getD before i 0) z (s .kept 0 m (omega arith) h), s .kept 1 m (omega arith) h)
+
+  pub swept-gl : {m : ℕ} {before mid after : List ℕ} → m < 16 → Swept (costsGL before) m before mid → ColumnFilled (λ g. costsGL mid g m) m 5 mid after
+      → Swept (costsGL before) (m + 1) before after
+  swept-gl {m} {before} {mid} {after} h s e =
+      let held = swept-next s h in
+      swept-more (costsGL before) (λ g. costsGL mid g m) m before mid after h
+      (λ g. ap₂ (λ (a b : ℕ). getD (fromGL a p b q t) g 0) (held .0) (held .1)) s e
+
+-- ---- a fact of each of five
+
+pub all-five : (P : ℕ → Type 0) → P 0 → P 1 → P 2 → P 3 → P 4 → (g : ℕ) → g < 5 → P g
+all-five P a b c d e g h = at 0 a (λ n0. at 1 b (λ n1. at 2 c (λ n2. at 3 d (λ n3. let z : 4 ≡ g = omega arith in subst P z e))))
+  where
+    at : (n : ℕ) → P n → ((g ≡ n → ⊥) → P g) → P g
+    at n p f = test (eqb g n) (λ q. subst P (sym (eqb-true g n q)) p) (λ q. f (eqb-false g n q))
 
 -- five of a price, with nothing at a place
 pub charges-of : (price place a b c d e : ℕ) → a ≡ cond (eqb 0 place) 0 price → b ≡ cond (eqb 1 place) 0 price → c ≡ cond (eqb 2 place) 0 price
@@ -215,10 +127,11 @@ charges-of price place a b c d e qa qb qc qd qe =
 pub column-of : (costs : List ℕ) (r : ℕ)
     → ColumnRead costs r (getD costs r 0 ∷ getD costs (16 + r) 0 ∷ getD costs (32 + r) 0 ∷ getD costs (48 + r) 0 ∷ getD costs (64 + r) 0 ∷ [])
 column-of costs r =
-    record { five = refl; each = all-five (λ g. getD fives g 0 ≡ getD costs (16 * g + r) 0) (ap (λ (m : ℕ). getD costs m 0) z) refl refl refl refl }
+    let z : r ≡ 16 * 0 + r = omega arith in
+    record {
+      five = refl;
+      each = all-five (λ g. getD (at r ∷ at (16 + r) ∷ at (32 + r) ∷ at (48 + r) ∷ at (64 + r) ∷ []) g 0 ≡ at (16 * g + r)) (ap at z) refl refl refl refl;
+    }
   where
-    fives : List ℕ
-    fives = getD costs r 0 ∷ getD costs (16 + r) 0 ∷ getD costs (32 + r) 0 ∷ getD costs (48 + r) 0 ∷ getD costs (64 + r) 0 ∷ []
-
-    z : r ≡ 16 * 0 + r
-    z = omega arith
+    at : ℕ → ℕ
+    at k = getD costs k 0

@@ -1,15 +1,18 @@
 -- The costs of what follows, unit by unit from the last to the first. They are kept less a base, since no two differ by more than two
 -- designations; and beside them the class that changed them last, since its need changes them no more.
 use mathlib.Core.Path.{_≡_, refl, sym, ap, ap₂, _∙_, subst, fun-ext}
-use mathlib.Core.Bool.{Bool, true, false, cond, not, true≢false}
+use mathlib.Core.Bool.{Bool, true, false, not, true≢false}
 use mathlib.Core.List.{List}
 use mathlib.Core.Logic.{_⊎_, inl, inr, ⊎-elim}
 use mathlib.Core.Option.{Option, none, some}
-use Prim.Native.Nat.{ℕ, zero, suc, _+_, _-_, _*_, _/_, _%_, _≤_, _<_}
+use Prim.Native.Nat.{ℕ, zero, suc, _+_, _-_, _*_, _%_, _≤_, _<_}
 use native.Mathlib.Omega.{arith}
 use lib.Dec.{ltb, eqb}
+use mir.Syntax.{w64}
+use mir.Val.{Fits}
 use borrow.Author.Tests.{ltb-true, ltb-false, eqb-true}
 use lib.ListN.{length, getD, List·getD-eq-default}
+use Rattle.base.proofs.Bools.{test, pick-by}
 use Rattle.base.specs.Choice.{pick}
 use Rattle.charset.specs.declared.Side.the-variants.{GL, GR}
 use Rattle.charset.specs.Charsets.{rowOf, allowed, mayUse, formOf}
@@ -26,17 +29,15 @@ use Rattle.plan.specs.Costs.{leastBy, Smooth, changes, Turned, TwoStandi
 use Rattle.plan.specs.Plan.{sizeOf, sizeAt, restFrom, CostsKept, Planned}
 use Rattle.numbers.proofs.Numbers.{choice-at, chosen-base, below, steady-at}
 use Rattle.plan.proofs.Again.{least-again, least-plus, least-space}
-use Rattle.plan.proofs.Units.{rest-end, rest-cons}
+use Rattle.plan.proofs.Units.{rest-end, rest-cons, same-start}
 
 -- ---- bounds
 
 price-most : (p : Standing) → price p ≤ 4
 unfolding price designation formOf
-price-most p = go (eqb (rowOf (p .set) .form) 3) refl
-  where
-    go : (b : Bool) → eqb (rowOf (p .set) .form) 3 ≡ b → price p ≤ 4
-    go true e = omega (arith, lead-size (rowOf (p .set) .form) (p .side) (rowOf (p .set) .last) true e)
-    go false e = omega (arith, lead-size (rowOf (p .set) .form) (p .side) (rowOf (p .set) .last) false e)
+price-most p =
+    let size = lead-size (rowOf (p .set) .form) (p .side) (rowOf (p .set) .last) in
+    test (eqb (rowOf (p .set) .form) 3) (λ e. omega (arith, size true e)) (λ e. omega (arith, size false e))
 
 -- no two costs differ by more than two designations
 near : (us : List TextUnit) (s t : Sets) → cost us s ≤ 8 + cost us t
@@ -57,236 +58,226 @@ least-most n f b s h = go (choose n f s) (least-chosen n f s)
     go none e = omega (arith, h s)
     go (some p) e = omega (arith, h (put p s), price-most p)
 
-pub size-most : (t n : ℕ) → n ≤ 16383 → sizeOf t n ≤ 16389
-unfolding sizeOf pick
-size-most t n h = go (ltb t 12) (ltb t 15) (ltb t 18) (ltb t 20) (ltb t 21) (ltb t 26)
+size-most : (t n : ℕ) → n ≤ 16383 → sizeOf t n ≤ 16389
+unfolding sizeOf
+size-most t n h = by _ (omega arith) (by _ (omega arith) (by _ (omega arith) (by _ (omega arith) (by _ (omega arith) (by _ (omega arith) (omega arith))))))
   where
-    go : (a b c d e f : Bool) → pick a 1 (pick b 2 (pick c 1 (pick d 3 (pick e 2 (pick f (6 + n) 2))))) ≤ 16389
-    go true b c d e f = omega arith
-    go false true c d e f = omega arith
-    go false false true d e f = omega arith
-    go false false false true e f = omega arith
-    go false false false false true f = omega arith
-    go false false false false false true = omega arith
-    go false false false false false false = omega arith
-
--- no unit takes more than 16,393 octets with its designation
-rest-most : (o w : List ℕ) → ((p : ℕ) → getD w p 0 < 256) → (n m i : ℕ) (s : Sets) → n - i ≡ m → i ≤ n → restFrom o w n i s ≤ 16393 * m
-rest-most o w h n zero i s e l = let z : n ≡ i = omega arith in omega (arith, subst (λ (j : ℕ). restFrom o w n j s ≡ 0) z (rest-end o w n s))
-rest-most o w h n (suc m) i s e l =
-    omega (
-      arith,
-      rest-cons o w n i s (omega arith),
-      least-most (needOfClass (classOf (tagAt w i))) (restFrom o w n (suc i)) (16393 * m) s (λ t. rest-most o w h n m (suc i) t (omega arith) (omega arith)),
-      size-most (tagAt w i) (partOf (countOf (getD w (72 * i + 66) 0) (getD w (72 * i + 67) 0)) (startFrom w (72 * i)) (length o))
-          (omega (arith, h (72 * i + 67))),
-    )
-
--- ---- the costs of all numbers, less a base, are those of the rows from i on
-
-abbrev CostsAre : List ℕ → List ℕ → ℕ → ℕ → ℕ → List ℕ → Type 0
-CostsAre o before n i base cur = (k : ℕ) → k < 80 → base + getD cur k 0 ≡ restFrom o before n i (numbered k)
-
--- the need of class x changes no cost of the rows from i on
-abbrev Settled : List ℕ → List ℕ → ℕ → ℕ → ℕ → Type 0
-Settled o before n i x = (s : Sets) → least (needOfClass x) (restFrom o before n i) s ≡ restFrom o before n i s
+    by : {x y : ℕ} (b : Bool) → x ≤ 16389 → y ≤ 16389 → pick b x y ≤ 16389
+    by b hx hy = pick-by (λ m. m ≤ 16389) b (λ _. hx) (λ _. hy)
 
 pub class-below : (t : ℕ) → classOf t < 17
-unfolding classOf pick
-class-below t = go (ltb t 16) refl
-  where
-    go : (b : Bool) → ltb t 16 ≡ b → pick b t 16 < 17
-    go true e = let l = ltb-true t 16 e in omega arith
-    go false e = omega arith
+unfolding classOf
+class-below t = pick-by (λ m. m < 17) (ltb t 16) (λ e. let l = ltb-true t 16 e in omega arith) (λ _. omega arith)
 
-least-rest : (o before : List ℕ) (n i base : ℕ) (next : List ℕ) → i < n → CostsAre o before n (suc i) base next → (k : ℕ) → k < 80
-    → base + sizeAt o before i + leastBy (classOf (tagAt before i)) next k ≡ restFrom o before n i (numbered k)
-unfolding leastBy
-least-rest o before n i base next h v k hk = omega (arith, m, rest-cons o before n i (numbered k) h)
-  where
-    x : ℕ
-    x = classOf (tagAt before i)
+-- the sets of the fresh state have number 1
+pub fresh-number : numbered 1 ≡ fresh .sets
+unfolding numbered
+fresh-number = refl
 
-    f : Sets → ℕ
-    f = restFrom o before n (suc i)
+-- ---- the rows as they were before, whose segments stand in o
 
-    j : ℕ
-    j = afterChoice x k (λ i. getD next i 0)
+module _ (o before : List ℕ) (n : ℕ) where
+  abbrev class : ℕ → ℕ
+  class i = classOf (tagAt before i)
 
-    e : j ≡ afterChoice x k (λ i. base + getD next i 0)
-    e =
-        chosen-base x k base (getD next (afterFirst x k) 0) (getD next (afterSecond x k) 0) (base + getD next (afterFirst x k) 0)
-        (base + getD next (afterSecond x k) 0) refl refl
+  abbrev rest : ℕ → Sets → ℕ
+  rest i = restFrom o before n i
 
-    m : base + (surcharge x k j + getD next j 0) ≡ least (needOfClass x) f (numbered k)
-    m =
-        omega (
-          arith,
-          choice-at f (λ i. base + getD next i 0) v x k hk (class-below (tagAt before i)) .cost,
-          ap (λ (i : ℕ). surcharge x k i + (base + getD next i 0)) e,
-        )
+  -- no unit takes more than 16,393 octets with its designation
+  rest-most : ((p : ℕ) → getD before p 0 < 256) → (m i : ℕ) (s : Sets) → n - i ≡ m → i ≤ n → rest i s ≤ 16393 * m
+  rest-most h zero i s e l = let z : n ≡ i = omega arith in omega (arith, subst (λ (j : ℕ). rest j s ≡ 0) z (rest-end o before n s))
+  rest-most h (suc m) i s e l =
+      omega (
+        arith,
+        rest-cons o before n i s (omega arith),
+        least-most (needOfClass (class i)) (rest (suc i)) (16393 * m) s (λ t. rest-most h m (suc i) t (omega arith) (omega arith)),
+        size-most (tagAt before i)
+            (partOf (countOf (getD before (72 * i + 66) 0) (getD before (72 * i + 67) 0)) (startFrom before (72 * i)) (length o))
+            (omega (arith, h (72 * i + 67))),
+      )
 
-costs-step : (o before : List ℕ) (n i base c : ℕ) (next cur : List ℕ) → i < n → CostsAre o before n (suc i) base next
-    → ((k : ℕ) → k < 80 → c + getD cur k 0 ≡ leastBy (classOf (tagAt before i)) next k)
-    → CostsAre o before n i (base + sizeAt o before i + c) cur
-costs-step o before n i base c next cur h v s k hk = omega (arith, s k hk, least-rest o before n i base next h v k hk)
+  -- the costs of all numbers, less a base, are those of the rows from i on
+  abbrev CostsAre : ℕ → ℕ → List ℕ → Type 0
+  CostsAre i base cur = (k : ℕ) → k < 80 → base + getD cur k 0 ≡ rest i (numbered k)
 
--- where the need changes nothing, the unit only adds its octets
-module _ (o before : List ℕ) (n i : ℕ) (h : i < n) (c : Settled o before n (suc i) (classOf (tagAt before i))) where
-  skip-rest : (s : Sets) → restFrom o before n i s ≡ sizeAt o before i + restFrom o before n (suc i) s
-  skip-rest s = rest-cons o before n i s h ∙ ap (λ (m : ℕ). sizeAt o before i + m) (c s)
+  -- the need of class x changes no cost of the rows from i on
+  abbrev Settled : ℕ → ℕ → Type 0
+  Settled i x = (s : Sets) → least (needOfClass x) (rest i) s ≡ rest i s
 
-  costs-skip : (base : ℕ) (cur : List ℕ) → CostsAre o before n (suc i) base cur → CostsAre o before n i (base + sizeAt o before i) cur
-  costs-skip base cur v k hk = omega (arith, v k hk, skip-rest (numbered k))
+  least-rest : (i base : ℕ) (next : List ℕ) → i < n → CostsAre (suc i) base next → (k : ℕ) → k < 80
+      → base + sizeAt o before i + leastBy (class i) next k ≡ rest i (numbered k)
+  unfolding leastBy
+  least-rest i base next h v k hk = omega (arith, m, rest-cons o before n i (numbered k) h)
+    where
+      at : ℕ → ℕ
+      at j = getD next j 0
 
-  settled-skip : (y : ℕ) → Settled o before n (suc i) y → Settled o before n i y
-  settled-skip y d s =
-      ap (λ (f : Sets → ℕ). least (needOfClass y) f s) (fun-ext skip-rest)
-      ∙ least-plus (restFrom o before n (suc i)) (sizeAt o before i) (needOfClass y) s
-      ∙ ap (λ (m : ℕ). sizeAt o before i + m) (d s) ∙ sym (skip-rest s)
+      j : ℕ
+      j = afterChoice (class i) k at
 
--- after a unit its need changes nothing
-settled-new : (o before : List ℕ) (n i : ℕ) → i < n → Settled o before n i (classOf (tagAt before i))
-settled-new o before n i h s =
-    ap (λ (f : Sets → ℕ). least (needOfClass (classOf (tagAt before i))) f s) (fun-ext (λ t. rest-cons o before n i t h))
-    ∙ least-again (restFrom o before n (suc i)) (sizeAt o before i) (needOfClass (classOf (tagAt before i))) s
-    ∙ sym (rest-cons o before n i s h)
+      e : j ≡ afterChoice (class i) k (λ m. base + at m)
+      e = chosen-base (class i) k base (at (afterFirst (class i) k)) (at (afterSecond (class i) k)) _ _ refl refl
 
-settled-none : (o before : List ℕ) (n i : ℕ) → Settled o before n i 16
-unfolding needOfClass least
-settled-none o before n i s = refl
-
--- where a class does not change the costs, its need changes nothing
-calm : (o before : List ℕ) (n i last x : ℕ) → Settled o before n i last → changes last x ≡ false → Settled o before n i x
-unfolding changes pick needOfClass allowed mayUse
-calm o before n i last x d e = go (eqb x 16) refl (eqb x last) refl (eqb x 15) refl (eqb last 0) refl e
-  where
-    alike : (y : ℕ) → x ≡ y → Settled o before n i y → Settled o before n i x
-    alike y q g = subst (λ (z : ℕ). Settled o before n i z) (sym q) g
-
-    space-settled : Settled o before n i 0 → Settled o before n i 15
-    space-settled g = least-space (restFrom o before n i) g
-
-    go : (a : Bool) → eqb x 16 ≡ a → (b : Bool) → eqb x last ≡ b → (c : Bool) → eqb x 15 ≡ c → (f : Bool) → eqb last 0 ≡ f
-        → pick a false (pick b false (pick c (not f) true)) ≡ false → Settled o before n i x
-    go true qa b qb c qc f qf r = alike 16 (eqb-true x 16 qa) (settled-none o before n i)
-    go false qa true qb c qc f qf r = alike last (eqb-true x last qb) d
-    go false qa false qb true qc true qf r = alike 15 (eqb-true x 15 qc) (space-settled (subst (λ (z : ℕ). Settled o before n i z) (eqb-true last 0 qf) d))
-    go false qa false qb true qc false qf r = absurd (true≢false r)
-    go false qa false qb false qc f qf r = absurd (true≢false r)
-
--- ---- what is known between two units
-
-pub record Known (o before : List ℕ) (n i base last : ℕ) (cur : List ℕ) : Type 0 where
-  pub values : CostsAre o before n i base cur
-  pub settled : Settled o before n i last
-  pub low : getD cur 1 0 ≤ 200
-
-pub known-none : (o before : List ℕ) (n : ℕ) (cur : List ℕ) → ((k : ℕ) → getD cur k 0 ≤ 0) → Known o before n n 0 16 cur
-known-none o before n cur z =
-    record { values = λ k h. omega (arith, z k, rest-end o before n (numbered k)); settled = settled-none o before n n; low = omega (arith, z 1) }
-
-known-near : {o before : List ℕ} {n i base last : ℕ} {cur : List ℕ} → Known o before n i base last cur → (j k : ℕ) → j < 80 → k < 80
-    → getD cur j 0 ≤ 8 + getD cur k 0
-known-near {o} {before} {n} {i} v j k hj hk = omega (arith, v .values j hj, v .values k hk, near (unitsIn o before i (n - i)) (numbered j) (numbered k))
-
-pub known-low : {o before : List ℕ} {n i base last : ℕ} {cur : List ℕ} → length cur ≡ 80 → Known o before n i base last cur → (j : ℕ) → getD cur j 0 ≤ 208
-known-low {cur = cur} l v j = go (ltb j 80) refl
-  where
-    go : (b : Bool) → ltb j 80 ≡ b → getD cur j 0 ≤ 208
-    go true e = omega (arith, v .low, known-near v j 1 (ltb-true j 80 e) (omega arith))
-    go false e = let m = ltb-false j 80 e in let d : getD cur j 0 ≡ 0 = List·getD-eq-default cur 0 (omega arith) in omega arith
-
-pub known-bound : {o before : List ℕ} {n i base last : ℕ} {cur : List ℕ} → ((p : ℕ) → getD before p 0 < 256) → n ≤ 65535 → i ≤ n
-    → Known o before n i base last cur
-    → base ≤ 1074400000
-known-bound {o} {before} {n} {i} h hn hi v = omega (arith, v .values 1 (omega arith), rest-most o before h n (n - i) i (numbered 1) refl hi)
-
-pub known-smooth : {o before : List ℕ} {n i base last : ℕ} {cur : List ℕ} (x : ℕ) → length cur ≡ 80 → Known o before n i base last cur → x < 17 → Smooth x cur
-known-smooth {o} {before} {n} {i} x l v hx =
-    record {
-      first-near =
-          λ k hk. omega (
+      m : base + (surcharge (class i) k j + at j) ≡ least (needOfClass (class i)) (rest (suc i)) (numbered k)
+      m =
+          omega (
             arith,
-            v .values k hk,
-            v .values (afterFirst x k) (below x k hx hk .0),
-            steady-at (restFrom o before n i) (cost-steady (unitsIn o before i (n - i))) x k hx hk .0,
-          );
-      second-near =
-          λ k hk. omega (
-            arith,
-            v .values k hk,
-            v .values (afterSecond x k) (below x k hx hk .1),
-            steady-at (restFrom o before n i) (cost-steady (unitsIn o before i (n - i))) x k hx hk .1,
-          );
-      small = known-low l v;
-    }
+            choice-at (rest (suc i)) (λ m. base + at m) v (class i) k hk (class-below (tagAt before i)) .cost,
+            ap (λ (m : ℕ). surcharge (class i) k m + (base + at m)) e,
+          )
 
--- ---- the rows
+  -- where the need changes nothing, the unit only adds its octets
+  module _ (i : ℕ) (h : i < n) (c : Settled (suc i) (class i)) where
+    skip-rest : (s : Sets) → rest i s ≡ sizeAt o before i + rest (suc i) s
+    skip-rest s = rest-cons o before n i s h ∙ ap (λ (m : ℕ). sizeAt o before i + m) (c s)
 
-pub planned-none : (o before : List ℕ) (n : ℕ) → Planned o before n n before
-planned-none o before n = record { costs = λ j h l. absurd (omega arith); kept = λ j q h l. refl; long = refl }
+    settled-skip : (y : ℕ) → Settled (suc i) y → Settled i y
+    settled-skip y d s =
+        ap (λ (f : Sets → ℕ). least (needOfClass y) f s) (fun-ext skip-rest)
+        ∙ least-plus (rest (suc i)) (sizeAt o before i) (needOfClass y) s ∙ ap (λ (m : ℕ). sizeAt o before i + m) (d s) ∙ sym (skip-rest s)
 
-planned-step : (o before : List ℕ) (n i base : ℕ) (cur room after : List ℕ) → i < n → CostsAre o before n (suc i) base cur → Planned o before n (suc i) room
-    → RowKept (classOf (tagAt before i)) cur room (72 * i) after
-    → Planned o before n i after
-planned-step o before n i base cur room after h v p s =
-    record {
-      costs = λ j l m t. ⊎-elim (later j m t) (here j t) (at-or-after i j l);
-      kept = λ j q a b. s .kept (72 * j + q) (outside j q a b) ∙ p .kept j q a b;
-      long = s .long ∙ p .long;
-    }
-  where
-    outside : (j q : ℕ) → 65 ≤ q → q < 72 → (72 * j + q < 72 * i) ⊎ (72 * i + 65 ≤ 72 * j + q)
-    outside j q a b = go (ltb j i) refl
-      where
-        go : (t : Bool) → ltb j i ≡ t → (72 * j + q < 72 * i) ⊎ (72 * i + 65 ≤ 72 * j + q)
-        go true e = inl (let l = ltb-true j i e in omega arith)
-        go false e = inr (let l = ltb-false j i e in omega arith)
+  -- after a unit its need changes nothing
+  settled-new : (i : ℕ) → i < n → Settled i (class i)
+  settled-new i h s =
+      ap (λ (f : Sets → ℕ). least (needOfClass (class i)) f s) (fun-ext (λ t. rest-cons o before n i t h))
+      ∙ least-again (rest (suc i)) (sizeAt o before i) (needOfClass (class i)) s ∙ sym (rest-cons o before n i s h)
 
-    later : (j : ℕ) → j < n → TwoStandings (classOf (tagAt before j)) → suc i ≤ j → CostsKept o before n j after
-    later j m t l =
-        let c = p .costs j l m t in
-        record {
-          base = c .base;
-          first-cost = λ k hk. ap (λ (y : ℕ). c .base + y) (s .kept (72 * j + k % 16) (inr (omega arith))) ∙ c .first-cost k hk;
-          second-cost =
-              λ k hk. ap (λ (y : ℕ). c .base + y) (s .kept (72 * j + secondSlot (classOf (tagAt before j)) k) (inr (omega arith)))
-              ∙ c .second-cost k hk;
-        }
+  settled-none : (i : ℕ) → Settled i 16
+  unfolding needOfClass least
+  settled-none i s = refl
 
-    here : (j : ℕ) → TwoStandings (classOf (tagAt before j)) → j ≡ i → CostsKept o before n j after
-    here j t e =
-        subst (λ (y : ℕ). CostsKept o before n y after) (sym e)
-        (record {
-          base = base;
-          first-cost = λ k hk. ap (λ (y : ℕ). base + y) (s .first-cost t′ k hk) ∙ v (afterFirst x k) (below x k (class-below (tagAt before i)) hk .0);
-          second-cost = λ k hk. ap (λ (y : ℕ). base + y) (s .second-cost t′ k hk) ∙ v (afterSecond x k) (below x k (class-below (tagAt before i)) hk .1);
-        })
-      where
-        x : ℕ
-        x = classOf (tagAt before i)
+  -- where a class does not change the costs, its need changes nothing
+  calm : (i last x : ℕ) → Settled i last → changes last x ≡ false → Settled i x
+  unfolding changes pick needOfClass allowed mayUse
+  calm i last x d e = go (eqb x 16) refl (eqb x last) refl (eqb x 15) refl (eqb last 0) refl e
+    where
+      alike : (y : ℕ) → eqb x y ≡ true → Settled i y → Settled i x
+      alike y q g = subst (Settled i) (sym (eqb-true x y q)) g
 
-        t′ : TwoStandings x
-        t′ = subst (λ (y : ℕ). TwoStandings (classOf (tagAt before y))) e t
+      go : (a : Bool) → eqb x 16 ≡ a → (b : Bool) → eqb x last ≡ b → (c : Bool) → eqb x 15 ≡ c → (f : Bool) → eqb last 0 ≡ f
+          → pick a false (pick b false (pick c (not f) true)) ≡ false → Settled i x
+      go true qa b qb c qc f qf r = alike 16 qa (settled-none i)
+      go false qa true qb c qc f qf r = alike last qb d
+      go false qa false qb true qc true qf r = alike 15 qc (least-space (rest i) (subst (Settled i) (eqb-true last 0 qf) d))
+      go false qa false qb true qc false qf r = absurd (true≢false r)
+      go false qa false qb false qc f qf r = absurd (true≢false r)
 
-    at-or-after : (i j : ℕ) → i ≤ j → (suc i ≤ j) ⊎ (j ≡ i)
-    at-or-after i j l = go (ltb i j) refl
-      where
-        go : (t : Bool) → ltb i j ≡ t → (suc i ≤ j) ⊎ (j ≡ i)
-        go true e = inl (ltb-true i j e)
-        go false e = inr (let m = ltb-false i j e in omega arith)
+  -- ---- what is known between two units
+
+  pub record Known (i base last : ℕ) (cur : List ℕ) : Type 0 where
+    pub values : CostsAre i base cur
+    pub settled : Settled i last
+    pub low : getD cur 1 0 ≤ 200
+    pub long : length cur ≡ 80
+    pub inside : i ≤ n
+    pub few : n ≤ 65535
+    pub lie : 72 * n ≤ length before
+    pub octets : (p : ℕ) → getD before p 0 < 256
+
+  pub known-none : (cur : List ℕ) → ((k : ℕ) → getD cur k 0 ≤ 0) → length cur ≡ 80 → n ≤ 65535 → 72 * n ≤ length before
+      → ((p : ℕ) → getD before p 0 < 256) → Known n 0 16 cur
+  known-none cur z l f h b =
+      record {
+        values = λ k h. omega (arith, z k, rest-end o before n (numbered k));
+        settled = settled-none n;
+        low = omega (arith, z 1);
+        long = l;
+        inside = omega arith;
+        few = f;
+        lie = h;
+        octets = b;
+      }
+
+  -- ---- the rows
+
+  pub planned-none : Planned o before n n before
+  planned-none = record { costs = λ j h l. absurd (omega arith); kept = λ j q h l. refl; long = refl }
+
+  planned-step : (i base : ℕ) (cur room after : List ℕ) → i < n → CostsAre (suc i) base cur → Planned o before n (suc i) room
+      → RowKept (class i) cur room (72 * i) after → Planned o before n i after
+  planned-step i base cur room after h v p s =
+      record {
+        costs = λ j l m t.
+            test (ltb i j) (λ e. later j m t (ltb-true i j e))
+            (λ e. let q = ltb-false i j e in let z : i ≡ j = omega arith in
+            subst (λ (y : ℕ). TwoStandings (class y) → CostsKept o before n y after) z here t);
+        kept = λ j q a b. s .kept (72 * j + q) (outside j q a b) ∙ p .kept j q a b;
+        long = s .long ∙ p .long;
+      }
+    where
+      outside : (j q : ℕ) → 65 ≤ q → q < 72 → (72 * j + q < 72 * i) ⊎ (72 * i + 65 ≤ 72 * j + q)
+      outside j q a b =
+          test (ltb j i) (λ e. inl (let l = ltb-true j i e in omega arith)) (λ e. inr (let l = ltb-false j i e in omega arith))
+
+      later : (j : ℕ) → j < n → TwoStandings (class j) → suc i ≤ j → CostsKept o before n j after
+      later j m t l =
+          let c = p .costs j l m t in
+          record {
+            base = c .base;
+            first-cost = λ k hk. ap (λ (y : ℕ). c .base + y) (s .kept (72 * j + k % 16) (inr (omega arith))) ∙ c .first-cost k hk;
+            second-cost = λ k hk. ap (λ (y : ℕ). c .base + y) (s .kept (72 * j + secondSlot (class j) k) (inr (omega arith))) ∙ c .second-cost k hk;
+          }
+
+      here : TwoStandings (class i) → CostsKept o before n i after
+      here t =
+          let x = class-below (tagAt before i) in
+          record {
+            base = base;
+            first-cost = λ k hk. ap (λ (y : ℕ). base + y) (s .first-cost t k hk) ∙ v (afterFirst (class i) k) (below (class i) k x hk .0);
+            second-cost = λ k hk. ap (λ (y : ℕ). base + y) (s .second-cost t k hk) ∙ v (afterSecond (class i) k) (below (class i) k x hk .1);
+          }
+
+-- ---- what follows from it
+
+module _ {o before : List ℕ} {n i base last : ℕ} {cur : List ℕ} (v : Known o before n i base last cur) where
+  -- the sums of the plan fit
+  known-bound : base ≤ 1074400000
+  known-bound = omega (arith, v .values 1 (omega arith), rest-most o before n (v .octets) (n - i) i (numbered 1) refl (v .inside))
+
+  pub known-sum : {w r : ℕ} → w ≤ 16389 → r ≤ 128 → Fits w64 (base + w) × Fits w64 (base + w + r)
+  known-sum hw hr = (omega (arith, known-bound), omega (arith, known-bound))
+
+  pub known-low : (j : ℕ) → getD cur j 0 ≤ 208
+  known-low j =
+      test (ltb j 80)
+      (λ e. let h = ltb-true j 80 e in
+      omega (arith, v .values j h, v .values 1 (omega arith), near (unitsIn o before i (n - i)) (numbered j) (numbered 1)))
+      (λ e. let m = ltb-false j 80 e in omega (arith, List·getD-eq-default cur 0 (let z : length cur ≤ j = omega arith in z)))
+
+  pub known-result : Fits w64 (getD cur 1 0) × Fits w64 (base + getD cur 1 0)
+  known-result = (omega (arith, known-low 1), omega (arith, known-bound, known-low 1))
+
+  pub known-smooth : (x : ℕ) → x < 17 → Smooth x cur
+  known-smooth x hx =
+      let steady = steady-at (restFrom o before n i) (cost-steady (unitsIn o before i (n - i))) x in
+      record {
+        first-near = λ k hk. omega (arith, v .values k hk, v .values (afterFirst x k) (below x k hx hk .0), steady k hx hk .0);
+        second-near = λ k hk. omega (arith, v .values k hk, v .values (afterSecond x k) (below x k hx hk .1), steady k hx hk .1);
+        small = known-low;
+      }
+
+-- the row before row i lies in the room
+pub record RowLies (i : ℕ) (room : List ℕ) : Type 0 where
+  pub next : i ≡ suc (i - 1)
+  pub less : i - 1 < i
+  pub start : Fits w64 (72 * (i - 1))
+  pub tag : Fits w64 (72 * (i - 1) + 65)
+  pub read : 72 * (i - 1) + 65 < length room
+  pub costs : 72 * (i - 1) + 65 ≤ length room
+  pub whole : 72 * (i - 1) + 72 ≤ length room
+
+pub row-lies : {o before : List ℕ} {n i base last : ℕ} {cur room : List ℕ} → Known o before n i base last cur × Planned o before n i room → 0 < i
+    → RowLies i room
+row-lies (v, p) h =
+    record { next = omega arith; less = omega arith; start = omega arith; tag = omega arith; read = omega arith; costs = omega arith; whole = omega arith }
 
 -- ---- one turn of the plan: the unit before row i, which is read in the room as it then is
 
-module _ (o before : List ℕ) (n i j base last : ℕ) (cur room : List ℕ) (e : i ≡ suc j) (h : i ≤ n) (v : Known o before n i base last cur)
+module _ {o before : List ℕ} {n i j base last : ℕ} {cur room : List ℕ} (e : i ≡ suc j) (v : Known o before n i base last cur)
     (p : Planned o before n i room)
-    (x w : ℕ) (ex : x ≡ classOf (tagAt room j)) (ew : w ≡ sizeAt o room j) where
+    {x w : ℕ} (ex : x ≡ classOf (tagAt room j)) (ew : w ≡ sizeAt o room j) where
   hj : j < n
   hj = omega arith
-
-  p′ : Planned o before n (suc j) room
-  p′ = subst (λ (m : ℕ). Planned o before n m room) e p
 
   v′ : Known o before n (suc j) base last cur
   v′ = subst (λ (m : ℕ). Known o before n m base last cur) e v
@@ -299,55 +290,44 @@ module _ (o before : List ℕ) (n i j base last : ℕ) (cur room : List ℕ) (e 
       ew ∙ ap₂ sizeOf (p .kept j 65 (omega arith) (omega arith))
       (ap₂ (λ (c s : ℕ). partOf c s (length o))
       (ap₂ countOf (p .kept j 66 (omega arith) (omega arith)) (p .kept j 67 (omega arith) (omega arith)))
-      (let z : startFrom room (72 * j) ≡ startFrom before (72 * j) = omega (
-        arith,
-        p .kept j 68 (omega arith) (omega arith),
-        p .kept j 69 (omega arith) (omega arith),
-        p .kept j 70 (omega arith) (omega arith),
-        p .kept j 71 (omega arith) (omega arith),
-      ) in z))
+      (same-start room before (72 * j) (p .kept j)))
 
   pub turn-near : (k m : ℕ) → k < 80 → m < 80 → leastBy x cur k ≤ 8 + leastBy x cur m
-  turn-near k m hk hm = rw its-class (omega (arith, at k hk, at m hm, near (unitsIn o before j (n - j)) (numbered k) (numbered m)))
+  turn-near k m hk hm =
+      let at = least-rest o before n j base cur hj (v′ .values) in
+      rw its-class (omega (arith, at k hk, at m hm, near (unitsIn o before j (n - j)) (numbered k) (numbered m)))
+
+  pub turn-planned : {after : List ℕ} → RowKept x cur room (72 * j) after → Planned o before n j after
+  turn-planned {after} s =
+      planned-step o before n j base cur room after hj (v′ .values) (subst (λ (m : ℕ). Planned o before n m room) e p)
+      (subst (λ (y : ℕ). RowKept y cur room (72 * j) after) its-class s)
+
+  pub turn-known : {r last′ : ℕ} {after : List ℕ} → Turned last x cur r last′ after → Known o before n j (base + w + r) last′ after
+  turn-known {r} {last′} {after} t =
+      test (changes last x)
+      (λ q. more (λ k hk. omega (arith, its-size, rw its-class at (t .moved q .1 k hk), least-rest o before n j base cur hj (v′ .values) k hk))
+      (rw (t .moved q .0 ∙ its-class) (settled-new o before n j hj)))
+      (λ q. let d = subst (Settled o before n (suc j)) its-class (calm o before n (suc j) last x (v′ .settled) q) in
+      more (λ k hk. rw (t .still q .2) (omega (arith, its-size, t .still q .0, v′ .values k hk, skip-rest o before n j hj d (numbered k))))
+      (rw (t .still q .1) (settled-skip o before n j hj d last (v′ .settled))))
     where
-      at : (q : ℕ) → q < 80 → base + sizeAt o before j + leastBy (classOf (tagAt before j)) cur q ≡ restFrom o before n j (numbered q)
-      at q hq = least-rest o before n j base cur hj (v′ .values) q hq
-
-  pub turn-planned : (after : List ℕ) → RowKept x cur room (72 * j) after → Planned o before n j after
-  turn-planned after s = planned-step o before n j base cur room after hj (v′ .values) p′ (subst (λ (y : ℕ). RowKept y cur room (72 * j) after) its-class s)
-
-  pub turn-known : (r last′ : ℕ) (after : List ℕ) → Turned last x cur r last′ after → Known o before n j (base + w + r) last′ after
-  turn-known r last′ after t = go (changes last x) refl
-    where
-      go : (b : Bool) → changes last x ≡ b → Known o before n j (base + w + r) last′ after
-      go false q =
-          let d : Settled o before n (suc j) (classOf (tagAt before j)) = subst (λ (y : ℕ). Settled o before n (suc j) y) its-class
-          (calm o before n (suc j) last x (v′ .settled) q) in
-          let z : base + w + r ≡ base + sizeAt o before j = omega (arith, t .still q .0, its-size) in
+      more : CostsAre o before n j (base + w + r) after → Settled o before n j last′ → Known o before n j (base + w + r) last′ after
+      more values settled =
           record {
-            values = rw (z, t .still q .2) (costs-skip o before n j hj d base cur (v′ .values));
-            settled = rw (t .still q .1) (settled-skip o before n j hj d last (v′ .settled));
+            values = values;
+            settled = settled;
             low = t .low;
-          }
-      go true q =
-          let z : base + w + r ≡ base + sizeAt o before j + r = omega (arith, its-size) in
-          record {
-            values =
-                rw z (costs-step o before n j base r cur after hj (v′ .values)
-                (subst (λ (y : ℕ). (k : ℕ) → k < 80 → r + getD after k 0 ≡ leastBy y cur k) its-class (t .moved q .1)));
-            settled = rw (t .moved q .0 ∙ its-class) (settled-new o before n j hj);
-            low = t .low;
+            long = t .long ∙ v .long;
+            inside = omega arith;
+            few = v .few;
+            lie = v .lie;
+            octets = v .octets;
           }
 
--- the sets of the fresh state have number 1
-pub fresh-number : numbered 1 ≡ fresh .sets
-unfolding numbered
-fresh-number = refl
-
-pub plan-end : (o before : List ℕ) (n i base last : ℕ) (cur room : List ℕ) (r : ℕ) → i ≤ 0 → Known o before n i base last cur
+pub plan-end : {o before : List ℕ} {n i base last : ℕ} {cur room : List ℕ} {r : ℕ} → i ≤ 0 → Known o before n i base last cur
     → Planned o before n i room → r ≡ base + getD cur 1 0
     → (r ≡ cost (unitsIn o before 0 n) (fresh .sets)) × Planned o before n 0 room
-plan-end o before n i base last cur room r h v p er =
+plan-end {o} {before} {n} {i} {base} {last} {cur} {room} h v p er =
     let e : i ≡ 0 = omega arith in
     let z : n - 0 ≡ n = omega arith in (
       er ∙ subst (λ (m : ℕ). CostsAre o before n m base cur) e (v .values) 1 (omega arith)

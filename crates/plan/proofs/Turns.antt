@@ -2,7 +2,7 @@
 use mathlib.Core.Path.{_≡_, refl, sym, ap, _∙_}
 use mathlib.Core.Bool.{Bool, true, false, cond, not, _&&_, true≢false, false≢true}
 use mathlib.Core.List.{List}
-use mathlib.Core.Logic.{inl, inr, ⊎-elim}
+use mathlib.Core.Logic.{⊎-elim}
 use Prim.Native.Nat.{ℕ, _+_, _-_, _*_, _/_, _%_, _≤_, _<_}
 use native.Mathlib.Omega.{arith}
 use lib.ListN.{length, getD}
@@ -10,7 +10,7 @@ use lib.Dec.{ltb, leb, eqb}
 use borrow.Author.Tests.{lt-ltb, le-ltb, eqb-false}
 use Rattle.base.specs.Choice.{pick}
 use Rattle.numbers.specs.Numbers.{priceOfClass, afterFirst, afterSecond, afterChoice}
-use Rattle.plan.specs.Table.{PlacesFilled, Columns}
+use Rattle.plan.specs.Table.{Filled, PlacesFilled, Columns}
 use Rattle.plan.specs.Costs.{leastBy, changes, Turned, secondSlot, RowKept}
 use Rattle.numbers.proofs.Numbers.{first-gl, second-gr, first-space, second-space, gl-two, gr-most}
 use Rattle.plan.proofs.Filled.{columns-at}
@@ -18,46 +18,39 @@ use Rattle.plan.proofs.Filled.{columns-at}
 -- ---- what a row keeps: two stretches, of the costs after the first designation and after the second
 
 module _ (x : ℕ) (cur before mid after : List ℕ) (row : ℕ) where
-  kept-places : 12 ≤ x → x < 15 → (k : ℕ) → (16 * (x - 10) + k % 16 ≡ afterFirst x k) × (16 * (k / 16) + (x - 2) ≡ afterSecond x k)
-  kept-places h m k = (
-    omega (arith, first-gl x (x - 10) (x - 2) k (gl-two x h m) (gr-most x (omega arith) m) m (omega arith)),
-    omega (arith, second-gr x (x - 10) (x - 2) k (gl-two x h m) (gr-most x (omega arith) m) m (omega arith)),
-  )
+  -- by the place that each number has in either stretch
+  kept-both : (p q : ℕ → ℕ) (n : ℕ) → n ≤ 16 → PlacesFilled (λ r. getD cur (p r) 0) row 16 before mid
+      → PlacesFilled (λ r. getD cur (q r) 0) (row + 16) n mid after
+      → ((k : ℕ) → p (k % 16) ≡ afterFirst x k)
+      → (place : ℕ → ℕ) → ((k : ℕ) → k < 80 → place k < n) → ((k : ℕ) → secondSlot x k ≡ 16 + place k) → ((k : ℕ) → q (place k) ≡ afterSecond x k)
+      → RowKept x cur before row after
+  kept-both p q n hn a b first place small slot second =
+      record {
+        first-cost = λ t k hk.
+            b .kept (row + k % 16) (λ r h z. omega arith) ∙ a .there (k % 16) (omega arith) ∙ ap (λ (y : ℕ). getD cur y 0) (first k);
+        second-cost = λ t k hk.
+            let z : row + secondSlot x k ≡ row + 16 + place k = omega (arith, slot k) in
+            ap (λ (y : ℕ). getD after y 0) z ∙ b .there (place k) (small k hk) ∙ ap (λ (y : ℕ). getD cur y 0) (second k);
+        kept = λ i l.
+            b .kept i (λ r h z. ⊎-elim (λ w. omega arith) (λ w. omega arith) l) ∙ a .kept i (λ r h z. ⊎-elim (λ w. omega arith) (λ w. omega arith) l);
+        long = b .long ∙ a .long;
+      }
 
   pub kept-character : 12 ≤ x → x < 15 → PlacesFilled (λ q. getD cur (16 * (x - 10) + q) 0) row 16 before mid
       → PlacesFilled (λ q. getD cur (16 * q + (x - 2)) 0) (row + 16) 5 mid after
       → RowKept x cur before row after
   kept-character h m a b =
-      record {
-        first-cost = λ t k hk.
-            b .kept (row + k % 16) (inl (omega arith)) ∙ a .there (k % 16) (omega arith) ∙ ap (λ (y : ℕ). getD cur y 0) (kept-places h m k .0);
-        second-cost = λ t k hk.
-            ap (λ (y : ℕ). getD after y 0) (place k) ∙ b .there (k / 16) (omega arith) ∙ ap (λ (y : ℕ). getD cur y 0) (kept-places h m k .1);
-        kept = λ p l.
-            b .kept p (⊎-elim (λ z. inl (omega arith)) (λ z. inr (omega arith)) l) ∙ a .kept p (⊎-elim (λ z. inl (omega arith)) (λ z. inr (omega arith)) l);
-        long = b .long ∙ a .long;
-      }
-    where
-      place : (k : ℕ) → row + secondSlot x k ≡ row + 16 + k / 16
-      place k = rw (lt-ltb x 15 m) (omega arith)
+      let gl = gl-two x h m in
+      let gr = gr-most x (omega arith) m in
+      kept-both (λ q. 16 * (x - 10) + q) (λ q. 16 * q + (x - 2)) 5 (omega arith) a b
+      (λ k. omega (arith, first-gl x (x - 10) (x - 2) k gl gr m (omega arith))) (λ k. k / 16) (λ k hk. omega arith) (λ k. rw (lt-ltb x 15 m))
+      (λ k. omega (arith, second-gr x (x - 10) (x - 2) k gl gr m (omega arith)))
 
   pub kept-space : x ≡ 15 → PlacesFilled (λ q. getD cur (0 + q) 0) row 16 before mid → PlacesFilled (λ q. getD cur (16 + q) 0) (row + 16) 16 mid after
       → RowKept x cur before row after
   kept-space e a b =
-      record {
-        first-cost = λ t k hk.
-            b .kept (row + k % 16) (inl (omega arith)) ∙ a .there (k % 16) (omega arith)
-            ∙ rw e (ap (λ (y : ℕ). getD cur y 0) (let z : 0 + k % 16 ≡ afterFirst 15 k = omega (arith, first-space k) in z));
-        second-cost = λ t k hk.
-            ap (λ (y : ℕ). getD after y 0) (place k) ∙ b .there (k % 16) (omega arith)
-            ∙ rw e (ap (λ (y : ℕ). getD cur y 0) (let z : 16 + k % 16 ≡ afterSecond 15 k = omega (arith, second-space k) in z));
-        kept = λ p l.
-            b .kept p (⊎-elim (λ z. inl (omega arith)) (λ z. inr (omega arith)) l) ∙ a .kept p (⊎-elim (λ z. inl (omega arith)) (λ z. inr (omega arith)) l);
-        long = b .long ∙ a .long;
-      }
-    where
-      place : (k : ℕ) → row + secondSlot x k ≡ row + 16 + k % 16
-      place k = rw (le-ltb x 15 (omega arith)) (omega arith)
+      kept-both (λ q. 0 + q) (λ q. 16 + q) 16 (omega arith) a b (λ k. rw e (omega (arith, first-space k))) (λ k. k % 16) (λ k hk. omega arith) (λ k. rw e)
+      (λ k. rw e (omega (arith, second-space k)))
 
 -- ---- what a unit does
 
@@ -107,16 +100,13 @@ module _ (last x : ℕ) (before after : List ℕ) (l : length before ≡ 80) whe
       turned-near k hk = omega (arith, n 1 k (omega arith) hk, now k hk, now 1 (omega arith))
 
       pub turned-lowered : (last-costs : List ℕ) → changes last x ≡ true → ((j : ℕ) → getD before j 0 ≤ 208)
-          → PlacesFilled (λ k. getD after k 0 - 128) 0 80 after last-costs
+          → Filled (λ k. k) (λ k. getD after k 0 - 128) 80 after last-costs
           → Turned last x before 128 x last-costs
       turned-lowered last-costs e u d =
           record {
             still = λ q. absurd (true≢false (sym e ∙ q));
-            moved = λ q. (refl, λ k hk. omega (arith, at k hk, turned-near k hk, now k hk));
-            low = omega (arith, at 1 (omega arith), least-by-most x before 208 u 1, now 1 (omega arith));
+            moved = λ q. (refl, λ k hk. omega (arith, d .there k hk, turned-near k hk, now k hk));
+            low = omega (arith, d .there 1 (omega arith), least-by-most x before 208 u 1, now 1 (omega arith));
             small = omega arith;
             long = d .long ∙ s .long ∙ sym l;
           }
-        where
-          at : (k : ℕ) → k < 80 → getD last-costs k 0 ≡ getD after k 0 - 128
-          at k hk = ap (λ (m : ℕ). getD last-costs m 0) (let z : k ≡ 0 + k = omega arith in z) ∙ d .there k hk

@@ -4,10 +4,10 @@ use native.Mathlib.Omega.{arith}
 use mathlib.Core.Path.{_≡_, refl, ap, ap₂, _∙_}
 use mathlib.Core.Bool.{Bool, true, false, _&&_, false≢true}
 use mathlib.Core.List.{List}
-use lib.ListN.{length}
+use lib.ListN.{length, getD}
 use lib.Dec.{eqb, ltb}
-use borrow.Author.Tests.{ltb-true, ltb-false, lt-ltb, le-ltb, eqb-true}
-use Rattle.base.proofs.Bools.{and-left, and-right, up-to}
+use borrow.Author.Tests.{ltb-true, ltb-false, le-ltb, eqb-true}
+use Rattle.base.proofs.Bools.{test, and-left, and-right, up-to}
 use Rattle.base.specs.Choice.{pick}
 use Rattle.charset.specs.Charsets.{allowed, mayUse, formOf}
 use Rattle.state.specs.declared.Sets.{Sets}
@@ -42,22 +42,13 @@ module _ (o : List ℕ) (t a b s : ℕ) where
   spare : tag.spare ≤ t → unit ≡ control revert
   spare h = unit-mark o t a b s (omega arith) (λ l k. omega arith) ∙ mark-revert t (omega arith)
 
-  need-low : t < tag.spare → need unit ≡ needOfClass (classOf t)
-  unfolding need unitTagged textTagged markTagged needOfClass classOf pick allowed mayUse
-  need-low h =
-      sameNeed-eq (need unit) (needOfClass (classOf t))
-      (up-to 26 (λ m. sameNeed (need (unitTagged o m a b s)) (needOfClass (classOf m))) refl t h)
-
-  need-spare : tag.spare ≤ t → need unit ≡ needOfClass (classOf t)
-  unfolding need needOfClass classOf pick
-  need-spare h = ap need (spare h) ∙ rw (le-ltb t 16 (omega arith))
-
   pub need-tagged : need unit ≡ needOfClass (classOf t)
-  need-tagged = go (ltb t tag.spare) refl
-    where
-      go : (q : Bool) → ltb t tag.spare ≡ q → need unit ≡ needOfClass (classOf t)
-      go true e = need-low (ltb-true t tag.spare e)
-      go false e = need-spare (ltb-false t tag.spare e)
+  unfolding need unitTagged textTagged markTagged needOfClass classOf pick allowed mayUse
+  need-tagged =
+      test (ltb t tag.spare)
+      (λ e. sameNeed-eq (need unit) (needOfClass (classOf t))
+      (up-to 26 (λ m. sameNeed (need (unitTagged o m a b s)) (needOfClass (classOf m))) refl t (ltb-true t tag.spare e)))
+      (λ e. let h = ltb-false t tag.spare e in ap need (spare h) ∙ rw (le-ltb t 16 (omega arith)))
 
   abbrev part : ℕ
   part = partOf (countOf a b) s (length o)
@@ -78,22 +69,14 @@ module _ (o : List ℕ) (t a b s : ℕ) where
         le-ltb t tag.segment h,
       )
 
-  size-segment : tag.segment ≤ t → t < tag.spare → size unit ≡ sizeOf t part
-  unfolding size octets pick
-  size-segment h k =
-      ap size (unit-segment o t a b s h k) ∙ rw (size-high h, lt-ltb t tag.spare k) (omega (arith, part-length o (countOf a b) s))
-
-  size-spare : tag.spare ≤ t → size unit ≡ sizeOf t part
-  unfolding size octets pick
-  size-spare h = ap size (spare h) ∙ rw (size-high (omega arith), le-ltb t tag.spare h)
-
   pub size-tagged : size unit ≡ sizeOf t part
-  size-tagged = go (ltb t tag.segment) refl (ltb t tag.spare) refl
-    where
-      go : (p : Bool) → ltb t tag.segment ≡ p → (q : Bool) → ltb t tag.spare ≡ q → size unit ≡ sizeOf t part
-      go true e q d = size-low (ltb-true t tag.segment e)
-      go false e true d = size-segment (ltb-false t tag.segment e) (ltb-true t tag.spare d)
-      go false e false d = size-spare (ltb-false t tag.spare d)
+  unfolding size octets pick
+  size-tagged =
+      test (ltb t tag.segment) (λ e. size-low (ltb-true t tag.segment e))
+      (λ e. let h = ltb-false t tag.segment e in
+      test (ltb t tag.spare)
+      (λ q. ap size (unit-segment o t a b s h (ltb-true t tag.spare q)) ∙ rw (size-high h, q) (omega (arith, part-length o (countOf a b) s)))
+      (λ q. ap size (spare (ltb-false t tag.spare q)) ∙ rw (size-high h, q)))
 
 -- the cost of the rows from i on
 pub rest-end : (o w : List ℕ) (n : ℕ) (s : Sets) → restFrom o w n n s ≡ 0
@@ -109,3 +92,14 @@ rest-cons o w n i s h =
     ∙ ap₂ (λ (a : ℕ) (q : Need). a + least q (restFrom o w n (suc i)) s)
     (size-tagged o (tagAt w i) (highOctet w (72 * i)) (lowOctet w (72 * i)) (startFrom w (72 * i)))
     (need-tagged o (tagAt w i) (highOctet w (72 * i)) (lowOctet w (72 * i)) (startFrom w (72 * i)))
+
+-- a row whose octets from the tag on are the same has its segment at the same place
+pub same-start : (a b : List ℕ) (row : ℕ) → ((q : ℕ) → 65 ≤ q → q < 72 → getD a (row + q) 0 ≡ getD b (row + q) 0) → startFrom a row ≡ startFrom b row
+same-start a b row e =
+    omega (
+      arith,
+      e 68 (omega arith) (omega arith),
+      e 69 (omega arith) (omega arith),
+      e 70 (omega arith) (omega arith),
+      e 71 (omega arith) (omega arith),
+    )

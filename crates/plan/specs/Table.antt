@@ -3,22 +3,23 @@ use Prim.Native.Nat.{ℕ, _+_, _*_, _≤_, _<_, min}
 use mathlib.Core.Path.{_≡_}
 use mathlib.Core.Bool.{cond}
 use mathlib.Core.List.{List, [], _∷_}
-use mathlib.Core.Logic.{_⊎_}
 use lib.Dec.{eqb}
 use lib.ListN.{length, getD}
 use Rattle.numbers.specs.Size as size
 
--- m places from a place on hold the numbers that f gives, and the others what they held
-pub record PlacesFilled (f : ℕ → ℕ) (at m : ℕ) (before after : List ℕ) : Type 0 where
-  pub there : (r : ℕ) → r < m → getD after (at + r) 0 ≡ f r
-  pub kept : (p : ℕ) → (p < at) ⊎ (at + m ≤ p) → getD after p 0 ≡ getD before p 0
+-- the first m of the places that `place` gives hold the numbers that f gives, and all other places what they held
+pub record Filled (place f : ℕ → ℕ) (m : ℕ) (before after : List ℕ) : Type 0 where
+  pub there : (r : ℕ) → r < m → getD after (place r) 0 ≡ f r
+  pub kept : (p : ℕ) → ((r : ℕ) → r < m → p ≡ place r → ⊥) → getD after p 0 ≡ getD before p 0
   pub long : length after ≡ length before
 
--- in a table of five rows by 16, the first m places of column r hold the numbers that f gives by row, and the other columns what they held
-pub record ColumnFilled (f : ℕ → ℕ) (r m : ℕ) (before after : List ℕ) : Type 0 where
-  pub there : (g : ℕ) → g < m → getD after (size.columns * g + r) 0 ≡ f g
-  pub kept : (g q : ℕ) → q < size.columns → (q ≡ r → ⊥) → getD after (size.columns * g + q) 0 ≡ getD before (size.columns * g + q) 0
-  pub long : length after ≡ length before
+-- the places from a place on
+abbrev pub PlacesFilled : (ℕ → ℕ) → ℕ → ℕ → List ℕ → List ℕ → Type 0
+PlacesFilled f at = Filled (λ r. at + r) f
+
+-- those of column r, by row, in a table of five rows by 16
+abbrev pub ColumnFilled : (ℕ → ℕ) → ℕ → ℕ → List ℕ → List ℕ → Type 0
+ColumnFilled f r = Filled (λ g. size.columns * g + r) f
 
 -- the first m columns of such a table hold the numbers that f gives by row and column
 pub record Columns (f : ℕ → ℕ → ℕ) (m : ℕ) (table : List ℕ) : Type 0 where

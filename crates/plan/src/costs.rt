@@ -22,7 +22,7 @@ fn unserved(x: usize, class: usize) -> u8
 // The least costs of a unit that GL alone serves: of class 0, of class 2, or a space, which both sets serve. In place, since only the first
 // two rows are read, column by column.
 fn gl_costs(x: usize, three: u8, cur: &mut [u8; size::NUMBERS])
-    requires { ⌜ OfGL x × Smooth 0 (now cur) × Smooth 2 (now cur) × (three ≡ 3) × (length (now cur) ≡ sizes.numbers) ⌝ }
+    requires { ⌜ OfGL x × ((y : ℕ) → y < classes.all → Smooth y (now cur)) × (three ≡ 3) × (length (now cur) ≡ sizes.numbers) ⌝ }
     ensures { λ _. ⌜ Columns (λ g r. leastBy x (now (cur .entry)) (sizes.columns * g + r)) sizes.columns (now (cur .exit)) ⌝ }
 {
     // set 0 serves all three but class 2, and set 2 all but class 0

@@ -5,7 +5,6 @@ use mathlib.Core.Path.{ap}
 use lib.ListN.{getD}
 use Rattle.numbers.proofs.Numbers.{chosen-only}
 use Rattle.emit.proofs.Chosen.{first-stays, second-stays, first-taken, second-taken}
-use borrow.Author.Needs.{needs}
 use Rattle.emit.proofs.choose.Statement.{statement}
 use Rattle.emit.proofs.choose.Tie as tie
 
@@ -13,7 +12,7 @@ returns : tie.Need-returns
 returns c = first-stays _ _ _ _ _ (c .before .after-first .ensures) (c .if1 .taken)
 
 returns-2 : tie.Need-returns-2
-returns-2 c = chosen-only _ _ _ _ _ (c .before .before .after-first .ensures) (c .before .if1 .left) (c .if2 .taken) (search needs)
+returns-2 c = chosen-only _ _ _ _ _ (c .before .before .after-first .ensures) (c .before .if1 .left) (c .if2 .taken) (search arith)
 
 returns-3 : tie.Need-returns-3
 returns-3 c = second-stays _ _ _ _ _ _ (c .before .before .before .before .after-first .ensures) (c .before .after-second .ensures) (c .if3 .taken)
@@ -40,17 +39,17 @@ pub choose-spec : {M : Type 1} → statement M
 choose-spec =
     tie.close
     (tie.spec
-    (search needs)
-    (search needs)
-    (search needs)
+    (search arith)
+    (search arith)
+    (search arith)
     returns
     returns-2
-    (search needs)
+    (search arith)
     returns-3
-    (search needs)
-    (search needs)
-    (search needs)
-    (search needs)
-    (search needs)
+    (search arith)
+    (search arith)
+    (search arith)
+    (search arith)
+    (search arith)
     returns-4
     returns-5)

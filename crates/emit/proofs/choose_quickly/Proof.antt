@@ -1,6 +1,6 @@
 -- `emit::choose_quickly` meets its contract: where a place that serves the class stands, nothing is designated.
+use native.Mathlib.Omega.{arith}
 use Rattle.emit.proofs.Chosen.{gl-stays, gr-stays}
-use borrow.Author.Needs.{needs}
 use Rattle.emit.proofs.choose_quickly.Statement.{statement}
 use Rattle.emit.proofs.choose_quickly.Tie as tie
 
@@ -15,4 +15,4 @@ returns-2 c =
     gr-stays _ _ _ _ _ (pre .0) (pre .1) (pre .3) (c .if2 .taken)
 
 pub choose-quickly-spec : {M : Type 1} → statement M
-choose-quickly-spec = tie.close (tie.spec returns returns-2 (search needs) (λ c. search needs))
+choose-quickly-spec = tie.close (tie.spec returns returns-2 (search arith) (λ c. search arith))

@@ -1,5 +1,4 @@
 -- `emit::emit` meets its contract. The invariant: what is written and the writing of the rest are the whole.
-use borrow.Author.Needs.{needs}
 use native.Mathlib.Omega.{arith}
 use mathlib.Core.Path.{_≡_, refl, _∙_}
 use Prim.Native.Nat.{_-_, _≤_}
@@ -16,7 +15,7 @@ abbrev μ-loop : tie.MeasureT-loop
 μ-loop work n segments out₀ in-gl in-gr i₀ k₀ at₀ out i k at = n - i
 
 loop-holds : tie.Need-loop-holds Inv-loop μ-loop
-loop-holds c = (search needs, refl, going-none _ _ _ _)
+loop-holds c = (search arith, refl, going-none _ _ _ _)
 
 array-read-wide : tie.Need-array-read-wide Inv-loop μ-loop
 array-read-wide c = c .class-of .ensures .1
@@ -74,7 +73,7 @@ loop-again c =
     )
 
 returns : tie.Need-returns Inv-loop μ-loop
-returns c = going-end _ _ _ _ _ _ _ _ (c .before .loop .inv .2) (c .before .loop .inv .0) (search needs)
+returns c = going-end _ _ _ _ _ _ _ _ (c .before .loop .inv .2) (c .before .loop .inv .0) (search arith)
 
 pub emit-spec : {M : Type 1} → statement M
 emit-spec =
@@ -83,19 +82,19 @@ emit-spec =
     Inv-loop
     μ-loop
     loop-holds
-    (search needs)
-    (search needs)
-    (search needs)
-    (search needs)
+    (search arith)
+    (search arith)
+    (search arith)
+    (search arith)
     array-read-wide
-    (search needs)
+    (search arith)
     array-read-wide-2
-    (search needs)
+    (search arith)
     choose-quickly-requires
     put-change-requires
     put-row-requires
-    (search needs)
-    (search needs)
+    (search arith)
+    (search arith)
     loop-again
-    (search needs)
+    (search arith)
     returns)

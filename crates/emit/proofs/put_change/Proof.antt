@@ -4,7 +4,6 @@ use mathlib.Core.Path.{ap}
 use lib.ListN.{length}
 use Rattle.emit.proofs.Stores.{written-none, written-as}
 use Rattle.emit.proofs.Chosen.{change-none, change-gr, change-gl}
-use borrow.Author.Needs.{needs}
 use Rattle.emit.proofs.put_change.Statement.{statement}
 use Rattle.emit.proofs.put_change.Tie as tie
 
@@ -46,11 +45,11 @@ put-change-spec =
     tie.close
     (tie.spec
     returns
-    (search needs)
+    (search arith)
     put-designation-requires
-    (search needs)
+    (search arith)
     returns-2
-    (search needs)
+    (search arith)
     put-designation-requires-2
-    (search needs)
+    (search arith)
     returns-3)

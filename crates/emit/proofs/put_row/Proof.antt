@@ -7,7 +7,6 @@ use lib.ListN.{length, getD}
 use Rattle.emit.specs.Octets.{sideOf}
 use Rattle.emit.proofs.Stores.{written-as, segment-length}
 use Rattle.emit.proofs.Row.{text-octets, segment-octets, mark-octets}
-use borrow.Author.Needs.{needs}
 use Rattle.emit.proofs.put_row.Statement.{statement}
 use Rattle.emit.proofs.put_row.Tie as tie
 
@@ -62,23 +61,23 @@ pub put-row-spec : {M : Type 1} → statement M
 put-row-spec =
     tie.close
     (tie.spec
-    (search needs)
-    (search needs)
-    (search needs)
-    (search needs)
-    (search needs)
-    (search needs)
+    (search arith)
+    (search arith)
+    (search arith)
+    (search arith)
+    (search arith)
+    (search arith)
     put-text-requires
-    (search needs)
+    (search arith)
     returns
-    (search needs)
-    (search needs)
-    (search needs)
-    (search needs)
-    (search needs)
+    (search arith)
+    (search arith)
+    (search arith)
+    (search arith)
+    (search arith)
     put-segment-requires
-    (search needs)
+    (search arith)
     returns-2
     put-mark-requires
-    (search needs)
+    (search arith)
     returns-3)

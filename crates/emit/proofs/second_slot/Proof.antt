@@ -1,7 +1,6 @@
 -- `emit::second_slot` meets its contract.
 use native.Mathlib.Omega.{arith}
 use borrow.Author.Tests.{lt-ltb, le-ltb}
-use borrow.Author.Needs.{needs}
 use Rattle.emit.proofs.second_slot.Statement.{statement}
 use Rattle.emit.proofs.second_slot.Tie as tie
 
@@ -12,4 +11,4 @@ returns-2 : tie.Need-returns-2
 returns-2 c = (rw (le-ltb _ _ (c .if1 .left)), omega arith)
 
 pub second-slot-spec : {M : Type 1} → statement M
-second-slot-spec = tie.close (tie.spec (search needs) (search needs) returns returns-2)
+second-slot-spec = tie.close (tie.spec (search arith) (search arith) returns returns-2)

@@ -2,7 +2,6 @@
 use native.Mathlib.Omega.{arith}
 use mathlib.Core.Path.{refl, _∙_}
 use Rattle.emit.proofs.Whole.{planned-all, ready, wrote-many, wrote-no-work, wrote-long, wrote-room, wrote-all, room-for}
-use borrow.Author.Needs.{needs}
 use Rattle.emit.proofs.write_rows.Statement.{statement}
 use Rattle.emit.proofs.write_rows.Tie as tie
 
@@ -66,20 +65,20 @@ pub write-rows-spec : {M : Type 1} → statement M
 write-rows-spec =
     tie.close
     (tie.spec
-    (search needs)
+    (search arith)
     returns
-    (search needs)
-    (search needs)
-    (search needs)
+    (search arith)
+    (search arith)
+    (search arith)
     returns-2
-    (search needs)
-    (search needs)
-    (search needs)
+    (search arith)
+    (search arith)
+    (search arith)
     returns-3
-    (search needs)
+    (search arith)
     returns-4
     emit-requires
-    (search needs)
-    (search needs)
-    (search needs)
+    (search arith)
+    (search arith)
+    (search arith)
     returns-5)

@@ -1,116 +1,58 @@
 -- `plan::plan` meets its contract. The invariant: what the rows from i on cost is known from all numbers, and those rows are planned.
-use borrow.Author.Needs.{needs}
 use native.Mathlib.Omega.{arith}
-use Prim.Native.Nat.{_≤_}
-use mathlib.Core.Path.{_≡_, refl, _∙_}
+use mathlib.Core.Path.{refl}
 use lib.ListN.{length, replicate}
 use Rattle.plan.specs.Plan.{rowsOf, Planned}
 use Rattle.numbers.proofs.Numbers.{bounded}
-use Rattle.plan.proofs.Rest.{Known, known-none, planned-none, known-low, known-bound, known-smooth, turn-near, turn-known, turn-planned, plan-end}
+use Rattle.plan.proofs.Rest.{Known, known-none, planned-none, known-sum, known-result, known-smooth, row-lies, turn-near, turn-known, turn-planned, plan-end}
 use Rattle.plan.proofs.plan.Statement.{statement}
 use Rattle.plan.proofs.plan.Tie as tie
 
 abbrev Inv-loop : tie.InvT-loop
 Inv-loop work₀ n segments m fours threes left right cur₀ base₀ last₀ i₀ work cur base last i =
-    (i ≤ rowsOf n (length work₀)) × (length cur ≡ 80) × Known segments work₀ (rowsOf n (length work₀)) i base last cur
-    × Planned segments work₀ (rowsOf n (length work₀)) i work
+    Known segments work₀ (rowsOf n (length work₀)) i base last cur × Planned segments work₀ (rowsOf n (length work₀)) i work
 
 abbrev μ-loop : tie.MeasureT-loop
 μ-loop work₀ n segments m fours threes left right cur₀ base₀ last₀ i₀ work cur base last i = i
 
 loop-holds : tie.Need-loop-holds Inv-loop μ-loop
 loop-holds c =
-    rw (c .rows-of .ensures .0)
-    (search needs, refl, known-none _ _ _ (replicate 80 0) (bounded (replicate 80 0) 0 refl), planned-none _ _ _)
-
-mul-row : tie.Need-mul-row Inv-loop μ-loop
-mul-row c =
-    let rows = c .before .before .rows-of .ensures in
-    let inv = c .before .loop .inv in
-    omega (arith, rows .0, rows .1, rows .2, inv .0)
-
-size-from-requires : tie.Need-size-from-requires Inv-loop μ-loop
-size-from-requires c κs =
-    let rows = c .before .before .before .rows-of .ensures in
-    let inv = c .before .before .loop .inv in
-    omega (arith, rows .0, rows .1, rows .2, inv .0, inv .3 .long)
-
-add-class-of : tie.Need-add-class-of Inv-loop μ-loop
-add-class-of c =
-    let rows = c .before .before .before .before .rows-of .ensures in
-    let inv = c .before .before .before .loop .inv in
-    omega (arith, rows .0, rows .1, rows .2, inv .0)
-
-slice-read-class-of : tie.Need-slice-read-class-of Inv-loop μ-loop
-slice-read-class-of c =
-    let rows = c .before .before .before .before .before .rows-of .ensures in
-    let inv = c .before .before .before .before .loop .inv in
-    omega (arith, rows .0, rows .1, rows .2, inv .0, inv .3 .long)
-
-keep-requires : tie.Need-keep-requires Inv-loop μ-loop
-keep-requires c κs =
-    let rows = c .before .before .before .before .before .before .before .before .rows-of .ensures in
-    let inv = c .before .before .before .before .before .before .before .loop .inv in
-    (c .before .before .class-of .ensures .1, omega (arith, rows .0, rows .1, rows .2, inv .0, inv .3 .long))
+    let rows = c .rows-of .ensures in
+    let octet = c .before .before .slice-known .given in
+    rw (rows .0) (
+      known-none _ _ _ (replicate 80 0) (bounded (replicate 80 0) 0 refl) refl (omega (arith, rows .0)) (omega (arith, rows .0)) (λ q. octet q .fits),
+      planned-none _ _ _,
+    )
 
 unit-before-requires : tie.Need-unit-before-requires Inv-loop μ-loop
 unit-before-requires c κs =
-    let inv = c .before .before .before .before .before .before .before .before .before .before .before .before .before .before .before .loop .inv in
-    let size = c .before .before .before .before .before .before .before .before .before .before .before .before .size-from .ensures .0 in
-    let class = c .before .before .before .before .before .before .before .before .before .before .class-of .ensures in
-    let near = turn-near _ _ _ _ _ _ _ _ _ (omega arith) (inv .0) (inv .2) (inv .3) _ _ (class .0) size in (
-      record { class-of = class .1; low = inv .2 .low; smooth = λ y h. known-smooth y (inv .1) (inv .2) h; near = near; long = inv .1 },
+    let class = c .before .before .before .before .before .before .before .before .before .before in
+    let size = class .before .before in
+    let turn = size .before .before in
+    let known = turn .before .loop .inv in (
+      record {
+        class-of = class .class-of .ensures .1;
+        low = known .0 .low;
+        smooth = known-smooth (known .0);
+        near = turn-near (row-lies known (turn .loop-test .taken) .next) (known .0) (known .1) (class .class-of .ensures .0) (size .size-from .ensures .0);
+        long = known .0 .long;
+      },
       record { in-gl = refl; in-gr = refl; by-four = refl; by-three = refl },
     )
 
-add-base : tie.Need-add-base Inv-loop μ-loop
-add-base c =
-    let top = c .before .before .before .before .before .before .before .before .before .before .before .before .before .before .before .before in
-    let size = c .before .before .before .before .before .before .before .before .before .before .before .before .before .size-from .ensures .1 in
-    let rows = top .before .rows-of .ensures in
-    let inv = top .loop .inv in
-    let known = top .before .before .before .slice-known .given in
-    let bound = known-bound (λ q. known q .fits) (omega (arith, rows .0, rows .1)) (inv .0) (inv .2) in
-    omega (arith, bound, size)
-
-add-base-2 : tie.Need-add-base-2 Inv-loop μ-loop
-add-base-2 c =
-    let top = c .before .before .before .before .before .before .before .before .before .before .before .before .before .before .before .before .before in
-    let size = c .before .before .before .before .before .before .before .before .before .before .before .before .before .before .size-from .ensures .1 in
-    let rows = top .before .rows-of .ensures in
-    let inv = top .loop .inv in
-    let known = top .before .before .before .slice-known .given in
-    let bound = known-bound (λ q. known q .fits) (omega (arith, rows .0, rows .1)) (inv .0) (inv .2) in
-    omega (arith, bound, size, c .before .unit-before .ensures .small)
-
 loop-again : tie.Need-loop-again Inv-loop μ-loop
 loop-again c =
-    let turn = c .before .before .before .before .before .before .before .before .before in
-    let inv = turn .before .before .before .before .before .before .before .before .loop .inv in
-    let size = c .before .before .before .before .before .before .before .before .before .before .before .before .before .before .size-from .ensures .0 in
-    let class = c .before .before .before .before .before .before .before .before .before .before .before .before .class-of .ensures .0 in
-    let kept = c .before .before .before .before .before .before .before .before .before .keep .ensures in
-    let turned = c .before .unit-before .ensures in (
-      omega arith,
-      turned .long ∙ inv .1,
-      turn-known _ _ _ _ _ _ _ _ _ (omega arith) (inv .0) (inv .2) (inv .3) _ _ class size _ _ _ turned,
-      turn-planned _ _ _ _ _ _ _ _ _ (omega arith) (inv .0) (inv .2) (inv .3) _ _ class size _ kept,
+    let kept = c .before .before .before .before .before .before .before .before .before in
+    let class = kept .before .before .before in
+    let size = class .before .before in
+    let turn = size .before .before in
+    let known = turn .before .loop .inv in
+    let next = row-lies known (turn .loop-test .taken) .next in
+    let its-class = class .class-of .ensures .0 in
+    let its-size = size .size-from .ensures .0 in (
+      turn-known next (known .0) (known .1) its-class its-size (c .before .unit-before .ensures),
+      turn-planned next (known .0) (known .1) its-class its-size (kept .keep .ensures),
     )
-
-cast-result : tie.Need-cast-result Inv-loop μ-loop
-cast-result c = omega (arith, known-low (c .before .loop .inv .1) (c .before .loop .inv .2) 1)
-
-add-result : tie.Need-add-result Inv-loop μ-loop
-add-result c =
-    let top = c .before in
-    let rows = top .before .rows-of .ensures in
-    let inv = top .loop .inv in
-    let known = top .before .before .before .slice-known .given in
-    let bound = known-bound (λ q. known q .fits) (omega (arith, rows .0, rows .1)) (inv .0) (inv .2) in
-    omega (arith, bound, known-low (inv .1) (inv .2) 1)
-
-returns : tie.Need-returns Inv-loop μ-loop
-returns c = plan-end _ _ _ _ _ _ (c .before .loop .cur) _ _ (search needs) (c .before .loop .inv .2) (c .before .loop .inv .3) refl
 
 pub plan-spec : {M : Type 1} → statement M
 plan-spec =
@@ -118,24 +60,24 @@ plan-spec =
     (tie.spec
     Inv-loop
     μ-loop
-    (search needs)
-    (search needs)
-    (search needs)
+    (search arith)
+    (search arith)
+    (search arith)
     loop-holds
-    (search needs)
-    mul-row
-    size-from-requires
-    add-class-of
-    slice-read-class-of
-    (search needs)
-    keep-requires
+    (λ c. c .loop-test .taken)
+    (λ c. row-lies (c .before .loop .inv) (c .loop-test .taken) .start)
+    (λ c κs. row-lies (c .before .before .loop .inv) (c .before .loop-test .taken) .whole)
+    (λ c. row-lies (c .before .before .before .loop .inv) (c .before .before .loop-test .taken) .tag)
+    (λ c. row-lies (c .before .before .before .before .loop .inv) (c .before .before .before .loop-test .taken) .read)
+    (search arith)
+    (λ c κs. let turn = c .before .before .before .before .before .before in (c .before .before .class-of .ensures .1, row-lies (turn .before .loop .inv) (turn .loop-test .taken) .costs))
     unit-before-requires
-    add-base
-    add-base-2
-    (search needs)
+    (λ c. let size = c .before .before .before .before .before .before .before .before .before .before .before .before .before in known-sum (size .before .before .before .loop .inv .0) (size .size-from .ensures .1) (c .unit-before .ensures .small) .0)
+    (λ c. let size = c .before .before .before .before .before .before .before .before .before .before .before .before .before .before in known-sum (size .before .before .before .loop .inv .0) (size .size-from .ensures .1) (c .before .unit-before .ensures .small) .1)
+    (λ c. let turn = c .before .before .before .before .before .before .before .before .before .before .before .before .before .before .before .before in row-lies (turn .before .loop .inv) (turn .loop-test .taken) .less)
     loop-again
-    (search needs)
-    cast-result
-    add-result
-    (search needs)
-    returns)
+    (search arith)
+    (λ c. known-result (c .before .loop .inv .0) .0)
+    (λ c. known-result (c .before .loop .inv .0) .1)
+    (search arith)
+    (λ c. plan-end (search arith) (c .before .loop .inv .0) (c .before .loop .inv .1) refl))

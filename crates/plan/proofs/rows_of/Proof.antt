@@ -2,21 +2,15 @@
 use native.Mathlib.Omega.{arith}
 use Rattle.base.proofs.Ladder.{ladder}
 use Rattle.plan.specs.Plan.{rowsOf}
-use borrow.Author.Needs.{needs}
 use Rattle.plan.proofs.rows_of.Statement.{statement}
 use Rattle.plan.proofs.rows_of.Tie as tie
 
-returns : tie.Need-returns
-unfolding rowsOf
-returns c = (search ladder, omega arith, omega arith)
-
-returns-2 : tie.Need-returns-2
-unfolding rowsOf
-returns-2 c = (search ladder, omega arith, omega arith)
-
-returns-3 : tie.Need-returns-3
-unfolding rowsOf
-returns-3 c = (search ladder, omega arith, omega arith)
-
 pub rows-of-spec : {M : Type 1} → statement M
-rows-of-spec = tie.close (tie.spec (search needs) returns returns-2 returns-3)
+unfolding rowsOf
+rows-of-spec =
+    tie.close
+    (tie.spec
+    (search arith)
+    (λ c. (search ladder, omega arith, omega arith))
+    (λ c. (search ladder, omega arith, omega arith))
+    (λ c. (search ladder, omega arith, omega arith)))

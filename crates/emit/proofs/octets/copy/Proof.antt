@@ -1,5 +1,4 @@
 -- `octets::copy` meets its contract. The invariant: the first k octets are stored.
-use borrow.Author.Needs.{needs}
 use native.Mathlib.Omega.{arith}
 use mathlib.Core.Path.{_≡_, refl}
 use Prim.Native.Nat.{_-_, _≤_}
@@ -16,7 +15,7 @@ abbrev μ-loop : tie.MeasureT-loop
 μ-loop src from n out₀ at k₀ out k = n - k
 
 loop-holds : tie.Need-loop-holds Inv-loop μ-loop
-loop-holds c = (search needs, refl, refl)
+loop-holds c = (search arith, refl, refl)
 
 loop-again : tie.Need-loop-again Inv-loop μ-loop
 loop-again c = (
@@ -28,7 +27,7 @@ loop-again c = (
 
 returns : tie.Need-returns Inv-loop μ-loop
 returns c =
-    copy-done _ _ (c .before .before .args .src .now) _ (c .before .before .args .from) _ _ (c .before .loop .inv .0) (search needs)
+    copy-done _ _ (c .before .before .args .src .now) _ (c .before .before .args .from) _ _ (c .before .loop .inv .0) (search arith)
     (c .before .before .pre .0) (c .before .loop .inv .2)
 
 pub copy-spec : {M : Type 1} → statement M
@@ -38,13 +37,13 @@ copy-spec =
     Inv-loop
     μ-loop
     loop-holds
-    (search needs)
-    (search needs)
-    (search needs)
-    (search needs)
-    (search needs)
-    (search needs)
+    (search arith)
+    (search arith)
+    (search arith)
+    (search arith)
+    (search arith)
+    (search arith)
     loop-again
-    (search needs)
-    (search needs)
+    (search arith)
+    (search arith)
     returns)

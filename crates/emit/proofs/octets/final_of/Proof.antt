@@ -1,4 +1,5 @@
 -- `octets::final_of` meets its contract: one test of all fifteen.
+use native.Mathlib.Omega.{arith}
 use mathlib.Core.Path.{refl}
 use lib.Dec.{eqb}
 use lib.ListN.{getD}
@@ -7,7 +8,6 @@ use Prim.Native.Nat.{ℕ}
 use borrow.Author.Tests.{eqb-true}
 use Rattle.base.proofs.Bools.{up-to}
 use Rattle.charset.specs.Charsets.{rowOf}
-use borrow.Author.Needs.{needs}
 use Rattle.emit.proofs.octets.final_of.Statement.{statement}
 use Rattle.emit.proofs.octets.final_of.Tie as tie
 
@@ -18,4 +18,4 @@ returns : tie.Need-returns
 returns c = eqb-true _ _ (up-to 15 (λ c. eqb (getD finals c 0) (rowOf c .last)) refl (c .before .before .args .set) (c .before .before .pre))
 
 pub final-of-spec : {M : Type 1} → statement M
-final-of-spec = tie.close (tie.spec (search needs) returns)
+final-of-spec = tie.close (tie.spec (search arith) returns)

@@ -1,6 +1,5 @@
 -- `octets::on_side` meets its contract.
 use native.Mathlib.Omega.{arith}
-use borrow.Author.Needs.{needs}
 use Rattle.emit.proofs.octets.on_side.Statement.{statement}
 use Rattle.emit.proofs.octets.on_side.Tie as tie
 
@@ -11,4 +10,4 @@ returns-2 : tie.Need-returns-2
 returns-2 c = rw (c .if1 .left) (omega arith)
 
 pub on-side-spec : {M : Type 1} → statement M
-on-side-spec = tie.close (tie.spec (search needs) returns returns-2)
+on-side-spec = tie.close (tie.spec (search arith) returns returns-2)

@@ -3,7 +3,6 @@ use native.Mathlib.Omega.{arith}
 use mathlib.Core.Path.{ap}
 use lib.ListN.{length, set, length-set}
 use Rattle.emit.proofs.Stores.{written-3, written-4, written-as, designation-some, designation-one, designation-two}
-use borrow.Author.Needs.{needs}
 use Rattle.emit.proofs.octets.put_designation.Statement.{statement}
 use Rattle.emit.proofs.octets.put_designation.Tie as tie
 
@@ -63,22 +62,22 @@ pub put-designation-spec : {M : Type 1} → statement M
 put-designation-spec =
     tie.close
     (tie.spec
-    (search needs)
-    (search needs)
+    (search arith)
+    (search arith)
     slice-write-out
-    (search needs)
+    (search arith)
     slice-write-out-2
-    (search needs)
+    (search arith)
     slice-write-out-3
-    (search needs)
-    (search needs)
+    (search arith)
+    (search (length-set, arith))
     returns
-    (search needs)
+    (search arith)
     slice-write-out-4
-    (search needs)
+    (search arith)
     slice-write-out-5
-    (search needs)
+    (search arith)
     slice-write-out-6
-    (search needs)
-    (search needs)
+    (search arith)
+    (search (length-set, arith))
     returns-2)

@@ -1,6 +1,6 @@
 -- `octets::put_segment` meets its contract: two threes of octets, and the part.
+use native.Mathlib.Omega.{arith}
 use Rattle.emit.proofs.Stores.{written-as, written-both, segment-parts}
-use borrow.Author.Needs.{needs}
 use Rattle.emit.proofs.octets.put_segment.Statement.{statement}
 use Rattle.emit.proofs.octets.put_segment.Tie as tie
 
@@ -17,13 +17,13 @@ pub put-segment-spec : {M : Type 1} → statement M
 put-segment-spec =
     tie.close
     (tie.spec
-    (search needs)
-    (search needs)
-    (search needs)
-    (search needs)
-    (search needs)
-    (search needs)
-    (search needs)
-    (search needs)
-    (search needs)
+    (search arith)
+    (search arith)
+    (search arith)
+    (search arith)
+    (search arith)
+    (search arith)
+    (search arith)
+    (search arith)
+    (search arith)
     returns)

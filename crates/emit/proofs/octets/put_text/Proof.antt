@@ -4,7 +4,6 @@ use mathlib.Core.Path.{refl, sym, ap, _∙_}
 use lib.ListN.{length, length-set}
 use Rattle.emit.specs.Octets.{sideOf}
 use Rattle.emit.proofs.Stores.{written-1, written-2, written-as, single-octet, two-octets}
-use borrow.Author.Needs.{needs}
 use Rattle.emit.proofs.octets.put_text.Statement.{statement}
 use Rattle.emit.proofs.octets.put_text.Tie as tie
 
@@ -47,17 +46,17 @@ pub put-text-spec : {M : Type 1} → statement M
 put-text-spec =
     tie.close
     (tie.spec
-    (search needs)
-    (search needs)
+    (search arith)
+    (search arith)
     slice-write-out
-    (search needs)
-    (search needs)
+    (search arith)
+    (search arith)
     slice-write-out-2
-    (search needs)
-    (search needs)
+    (search arith)
+    (search (length-set, arith))
     returns
-    (search needs)
+    (search arith)
     slice-write-out-3
-    (search needs)
-    (search needs)
+    (search arith)
+    (search (length-set, arith))
     returns-2)

@@ -2,7 +2,6 @@
 use native.Mathlib.Omega.{arith}
 use lib.ListN.{length-set}
 use Rattle.emit.proofs.Stores.{written-3}
-use borrow.Author.Needs.{needs}
 use Rattle.emit.proofs.octets.put_three.Statement.{statement}
 use Rattle.emit.proofs.octets.put_three.Tie as tie
 
@@ -19,11 +18,11 @@ pub put-three-spec : {M : Type 1} → statement M
 put-three-spec =
     tie.close
     (tie.spec
-    (search needs)
-    (search needs)
+    (search arith)
+    (search arith)
     slice-write-out-2
-    (search needs)
+    (search arith)
     slice-write-out-3
-    (search needs)
-    (search needs)
+    (search arith)
+    (search (length-set, arith))
     returns)

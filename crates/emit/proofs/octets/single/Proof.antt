@@ -1,8 +1,8 @@
 -- `octets::single` meets its contract.
+use native.Mathlib.Omega.{arith}
 use Rattle.base.proofs.Ladder.{ladder}
-use borrow.Author.Needs.{needs}
 use Rattle.emit.proofs.octets.single.Statement.{statement}
 use Rattle.emit.proofs.octets.single.Tie as tie
 
 pub single-spec : {M : Type 1} → statement M
-single-spec = tie.close (tie.spec (search needs) (λ c. search ladder depth 9) (λ c. search ladder depth 9))
+single-spec = tie.close (tie.spec (search arith) (λ c. search ladder depth 9) (λ c. search ladder depth 9))

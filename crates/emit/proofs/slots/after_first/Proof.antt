@@ -4,7 +4,6 @@ use mathlib.Core.Path.{refl}
 use borrow.Author.Tests.{le-ltb, eq-eqb, ne-eqb}
 use Rattle.numbers.specs.Numbers.{placesInGL, placesInGR, afterFirst}
 use Rattle.numbers.proofs.Numbers.{bounded, first-gl, first-gr}
-use borrow.Author.Needs.{needs}
 use Rattle.emit.proofs.slots.after_first.Statement.{statement}
 use Rattle.emit.proofs.slots.after_first.Tie as tie
 
@@ -34,10 +33,10 @@ pub after-first-spec : {M : Type 1} → statement M
 after-first-spec =
     tie.close
     (tie.spec
-    (search needs)
-    (search needs)
+    (search arith)
+    (search arith)
     returns
-    (search needs)
+    (search arith)
     add-result-2
     returns-2
     returns-3

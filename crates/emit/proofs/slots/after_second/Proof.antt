@@ -4,7 +4,6 @@ use mathlib.Core.Path.{refl}
 use borrow.Author.Tests.{le-ltb, eq-eqb, ne-eqb}
 use Rattle.numbers.specs.Numbers.{placesInGL, afterSecond}
 use Rattle.numbers.proofs.Numbers.{bounded, second-gl, second-gr}
-use borrow.Author.Needs.{needs}
 use Rattle.emit.proofs.slots.after_second.Statement.{statement}
 use Rattle.emit.proofs.slots.after_second.Tie as tie
 
@@ -36,12 +35,12 @@ pub after-second-spec : {M : Type 1} → statement M
 after-second-spec =
     tie.close
     (tie.spec
-    (search needs)
-    (search needs)
+    (search arith)
+    (search arith)
     returns
     mul-result-2
     add-result-2
     returns-2
-    (search needs)
+    (search arith)
     returns-3
     returns-4)

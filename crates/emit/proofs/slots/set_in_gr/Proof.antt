@@ -1,7 +1,6 @@
 -- `numbers::set_in_gr` meets its contract, by the place.
 use native.Mathlib.Omega.{arith}
 use Rattle.numbers.proofs.Numbers.{gr-set, gr-spare}
-use borrow.Author.Needs.{needs}
 use Rattle.emit.proofs.slots.set_in_gr.Statement.{statement}
 use Rattle.emit.proofs.slots.set_in_gr.Tie as tie
 
@@ -12,4 +11,4 @@ returns-3 : tie.Need-returns-3
 returns-3 c = (gr-spare _ (c .if2 .left), omega arith)
 
 pub set-in-gr-spec : {M : Type 1} → statement M
-set-in-gr-spec = tie.close (tie.spec (λ c. search needs) (search needs) returns-2 returns-3)
+set-in-gr-spec = tie.close (tie.spec (λ c. search arith) (search arith) returns-2 returns-3)

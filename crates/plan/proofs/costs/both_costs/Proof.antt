@@ -3,39 +3,36 @@ use native.Mathlib.Omega.{arith}
 use mathlib.Core.Path.{refl}
 use Rattle.plan.proofs.Filled.{columns-as}
 use Rattle.plan.proofs.Least.{charges-as, last-surcharge, fit-charges, fit-column, lesser-both}
-use borrow.Author.Needs.{needs}
 use Rattle.plan.proofs.costs.both_costs.Statement.{statement}
 use Rattle.plan.proofs.costs.both_costs.Tie as tie
 
 lesser-costs-requires : tie.Need-lesser-costs-requires
 lesser-costs-requires c κs =
-    let pre = c .before .before .before .before .before .before .pre in
-    let last = last-surcharge (c .before .before .before .before .before .before .args .fours .now) 4 (pre .2) in
-    let charged = charges-as last (c .before .before .before .before .charges .ensures) in (
-      fit-charges _ 4 _ _ (pre .0) (pre .1) (omega (arith, pre .4 .3)) (omega arith) charged,
+    let charged = c .before .before .before .before in
+    let pre = charged .before .before .pre in (
+      fit-charges _ 4 _ _ (pre .0) (pre .1) (omega (arith, pre .4 .3)) (omega arith) (charges-as (last-surcharge _ 4 (pre .2)) (charged .charges .ensures)),
       fit-column 4 _ _ _ _ refl (pre .2) (pre .0) (pre .4 .4) refl (c .before .before .before .column .ensures),
       pre .3,
     )
 
 returns : tie.Need-returns
 returns c =
-    let args = c .before .before .before .before .before .before .before .args in
-    let pre = c .before .before .before .before .before .before .before .pre in
-    let last = last-surcharge (args .fours .now) 4 (pre .2) in
-    let charged = charges-as last (c .before .before .before .before .before .charges .ensures) in
-    let column = c .before .before .before .before .column .ensures in
+    let column = c .before .before .before .before in
+    let start = column .before .before .before in
+    let pre = start .pre in
+    let charged = charges-as (last-surcharge _ 4 (pre .2)) (column .before .charges .ensures) in
     columns-as _
-    (λ g q hg hq. lesser-both (args .x) (args .next .now) g q hg hq (pre .0) _ _ _ _ _ (pre .4) (pre .2) charged column)
+    (λ g q hg hq. lesser-both (start .args .x) (start .args .next .now) g q hg hq (pre .0) _ _ _ _ _ (pre .4) (pre .2) charged (column .column .ensures))
     (c .lesser-costs .ensures)
 
 pub both-costs-spec : {M : Type 1} → statement M
 both-costs-spec =
     tie.close
     (tie.spec
-    (search needs)
-    (search needs)
-    (search needs)
-    (search needs)
-    (search needs)
+    (search arith)
+    (search arith)
+    (search arith)
+    (search arith)
+    (search arith)
     lesser-costs-requires
     returns)

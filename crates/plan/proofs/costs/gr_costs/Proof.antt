@@ -1,8 +1,8 @@
 -- `costs::gr_costs` meets its contract: the lesser costs are the least.
+use native.Mathlib.Omega.{arith}
 use mathlib.Core.Path.{refl}
 use Rattle.plan.proofs.Filled.{columns-as}
 use Rattle.plan.proofs.Least.{fit-column, lesser-gr}
-use borrow.Author.Needs.{needs}
 use Rattle.plan.proofs.costs.gr_costs.Statement.{statement}
 use Rattle.plan.proofs.costs.gr_costs.Tie as tie
 
@@ -14,12 +14,11 @@ lesser-costs-requires c κs =
 
 returns : tie.Need-returns
 returns c =
-    let args = c .before .before .before .before .before .args in
-    let pre = c .before .before .before .before .before .pre in
-    let column = c .before .before .before .before .column .ensures in
+    let column = c .before .before .before .before in
+    let start = column .before in
     columns-as _
-    (λ g q hg hq. lesser-gr (args .x) (args .next .now) g q hg hq (pre .0) _ _ _ (pre .4) (pre .2) column)
+    (λ g q hg hq. lesser-gr (start .args .x) (start .args .next .now) g q hg hq (start .pre .0) _ _ _ (start .pre .4) (start .pre .2) (column .column .ensures))
     (c .lesser-costs .ensures)
 
 pub gr-costs-spec : {M : Type 1} → statement M
-gr-costs-spec = tie.close (tie.spec (search needs) (search needs) lesser-costs-requires returns)
+gr-costs-spec = tie.close (tie.spec (search arith) (search arith) lesser-costs-requires returns)

@@ -1,7 +1,7 @@
 -- `costs::unit_before` meets its contract.
+use native.Mathlib.Omega.{arith}
 use mathlib.Core.Path.{sym, _∙_}
 use Rattle.plan.proofs.Turns.{changes-class, turned-moved, turned-near, turned-lowered, turned-still}
-use borrow.Author.Needs.{needs}
 use Rattle.plan.proofs.costs.unit_before.Statement.{statement}
 use Rattle.plan.proofs.costs.unit_before.Tie as tie
 
@@ -13,41 +13,39 @@ costs-before-requires c κs =
 
 returns : tie.Need-returns
 returns c =
-    let args = c .before .before .before .before .before .before .args in
-    let pre = c .before .before .before .before .before .before .pre in
-    let changed = sym (c .before .before .before .before .before .changed .ensures) ∙ c .before .before .before .before .if1 .taken in
-    turned-moved _ _ (args .cur .now) _ (pre .0 .long) (c .before .before .costs-before .ensures) changed (c .if2 .taken)
+    let change = c .before .before .before .before in
+    let start = change .before .before in
+    let changed = sym (change .before .changed .ensures) ∙ change .if1 .taken in
+    turned-moved _ _ (start .args .cur .now) _ (start .pre .0 .long) (c .before .before .costs-before .ensures) changed (c .if2 .taken)
 
 lower-requires : tie.Need-lower-requires
 lower-requires c κs =
-    let args = c .before .before .before .before .before .before .before .args in
-    let pre = c .before .before .before .before .before .before .before .pre in
+    let start = c .before .before .before .before .before .before .before in
     let costs = c .before .before .before .costs-before .ensures in
-    (turned-near (args .last) _ (args .cur .now) _ (pre .0 .long) costs (pre .0 .near) (c .before .if2 .left), costs .long)
+    let pre = start .pre .0 in
+    (turned-near (start .args .last) _ (start .args .cur .now) _ (pre .long) costs (pre .near) (c .before .if2 .left), costs .long)
 
 returns-2 : tie.Need-returns-2
 returns-2 c =
-    let args = c .before .before .before .before .before .before .before .before .args in
-    let pre = c .before .before .before .before .before .before .before .before .pre in
-    let changed = sym (c .before .before .before .before .before .before .before .changed .ensures)
-    ∙ c .before .before .before .before .before .before .if1 .taken in
-    let costs = c .before .before .before .before .costs-before .ensures in
-    turned-lowered _ _ (args .cur .now) _ (pre .0 .long) costs (pre .0 .near) (c .before .before .if2 .left) _ changed
-    (pre .0 .smooth (args .x) (pre .0 .class-of) .small) (c .lower .ensures)
+    let change = c .before .before .before .before .before .before in
+    let start = change .before .before in
+    let pre = start .pre .0 in
+    let changed = sym (change .before .changed .ensures) ∙ change .if1 .taken in
+    turned-lowered _ _ (start .args .cur .now) _ (pre .long) (c .before .before .before .before .costs-before .ensures) (pre .near)
+    (c .before .before .if2 .left) _ changed (pre .smooth (start .args .x) (pre .class-of) .small) (c .lower .ensures)
 
 returns-3 : tie.Need-returns-3
 returns-3 c =
-    let pre = c .before .before .pre in
-    let same = sym (c .before .changed .ensures) ∙ c .if1 .left in
-    turned-still _ _ _ (c .before .before .args .cur .now) (pre .0 .long) same (pre .0 .low)
+    let pre = c .before .before .pre .0 in
+    turned-still _ _ _ (c .before .before .args .cur .now) (pre .long) (sym (c .before .changed .ensures) ∙ c .if1 .left) (pre .low)
 
 pub unit-before-spec : {M : Type 1} → statement M
 unit-before-spec =
     tie.close
     (tie.spec
-    (search needs)
+    (search arith)
     costs-before-requires
-    (search needs)
+    (search arith)
     returns
     lower-requires
     returns-2

@@ -1,22 +1,13 @@
 -- `table::charges` meets its contract.
+use native.Mathlib.Omega.{arith}
 use Rattle.plan.proofs.Filled.{charges-of}
-use borrow.Author.Needs.{needs}
 use Rattle.plan.proofs.table.charges.Statement.{statement}
 use Rattle.plan.proofs.table.charges.Tie as tie
 
 returns : tie.Need-returns
 returns c =
     charges-of _ _ _ _ _ _ _ (c .before .before .before .before .charge .ensures) (c .before .before .before .charge2 .ensures)
-    (c .before .before .charge3 .ensures)
-    (c .before .charge4 .ensures) (c .charge5 .ensures)
+    (c .before .before .charge3 .ensures) (c .before .charge4 .ensures) (c .charge5 .ensures)
 
 pub charges-spec : {M : Type 1} → statement M
-charges-spec =
-    tie.close
-    (tie.spec
-    (search needs)
-    (search needs)
-    (search needs)
-    (search needs)
-    (search needs)
-    returns)
+charges-spec = tie.close (tie.spec (search arith) (search arith) (search arith) (search arith) (search arith) returns)

@@ -1,23 +1,20 @@
 -- `table::column` meets its contract.
+use native.Mathlib.Omega.{arith}
 use Rattle.plan.proofs.Filled.{column-of}
-use borrow.Author.Needs.{needs}
 use Rattle.plan.proofs.table.column.Statement.{statement}
 use Rattle.plan.proofs.table.column.Tie as tie
-
-returns : tie.Need-returns
-returns c = column-of _ _
 
 pub column-spec : {M : Type 1} → statement M
 column-spec =
     tie.close
     (tie.spec
-    (search needs)
-    (search needs)
-    (search needs)
-    (search needs)
-    (search needs)
-    (search needs)
-    (search needs)
-    (search needs)
-    (search needs)
-    returns)
+    (search arith)
+    (search arith)
+    (search arith)
+    (search arith)
+    (search arith)
+    (search arith)
+    (search arith)
+    (search arith)
+    (search arith)
+    (λ c. column-of _ _))

@@ -1,6 +1,6 @@
 -- `table::gl_column` meets its contract.
+use native.Mathlib.Omega.{arith}
 use Rattle.plan.proofs.Filled.{gl-column-of}
-use borrow.Author.Needs.{needs}
 use Rattle.plan.proofs.table.gl_column.Statement.{statement}
 use Rattle.plan.proofs.table.gl_column.Tie as tie
 
@@ -13,23 +13,23 @@ pub gl-column-spec : {M : Type 1} → statement M
 gl-column-spec =
     tie.close
     (tie.spec
-    (search needs)
-    (search needs)
-    (search needs)
-    (search needs)
-    (search needs)
-    (search needs)
-    (search needs)
-    (search needs)
-    (search needs)
-    (search needs)
-    (search needs)
-    (search needs)
-    (search needs)
-    (search needs)
-    (search needs)
-    (search needs)
-    (search needs)
-    (search needs)
-    (search needs)
+    (search arith)
+    (search arith)
+    (search arith)
+    (search arith)
+    (search arith)
+    (search arith)
+    (search arith)
+    (search arith)
+    (search arith)
+    (search arith)
+    (search arith)
+    (search arith)
+    (search arith)
+    (search arith)
+    (search arith)
+    (search arith)
+    (search arith)
+    (search arith)
+    (search arith)
     returns)

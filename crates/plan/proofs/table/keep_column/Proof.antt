@@ -1,5 +1,4 @@
 -- `table::keep_column` meets its contract. The invariant: the costs of the first g rows are kept.
-use borrow.Author.Needs.{needs}
 use native.Mathlib.Omega.{arith}
 use Prim.Native.Nat.{_+_, _-_, _*_, _≤_}
 use mathlib.Core.Path.{_≡_, refl}
@@ -12,32 +11,21 @@ use Rattle.plan.proofs.table.keep_column.Tie as tie
 abbrev Inv-loop : tie.InvT-loop
 Inv-loop cur r work₀ at g₀ work g = (g ≤ 5) × (length work ≡ length work₀) × PlacesFilled (λ q. getD cur (16 * q + r) 0) at g work₀ work
 
-abbrev μ-loop : tie.MeasureT-loop
-μ-loop cur r work₀ at g₀ work g = 5 - g
-
-loop-holds : tie.Need-loop-holds Inv-loop μ-loop
-loop-holds c = (search needs, refl, filled-none _ _ _)
-
-loop-again : tie.Need-loop-again Inv-loop μ-loop
-loop-again c = (omega arith, simp length-set (c .before .before .loop .inv .1), filled-more _ _ _ _ _ _ (c .before .before .loop .inv .2) (omega arith) refl)
-
-returns : tie.Need-returns Inv-loop μ-loop
-returns c = filled-end 5 (c .before .loop .inv .2) (search needs) (search needs)
-
 pub keep-column-spec : {M : Type 1} → statement M
 keep-column-spec =
     tie.close
     (tie.spec
     Inv-loop
-    μ-loop
-    loop-holds
-    (search needs)
-    (search needs)
-    (search needs)
-    (search needs)
-    (search needs)
-    (search needs)
-    (search needs)
-    loop-again
-    (search needs)
-    returns)
+    (λ cur r work₀ at g₀ work g. 5 - g)
+    (λ c. (search arith, refl, filled-none _ _ _))
+    (search arith)
+    (search arith)
+    (search arith)
+    (search arith)
+    (search arith)
+    (search arith)
+    (search arith)
+    (λ c. let inv = c .before .before .loop .inv in
+    (omega arith, simp length-set (inv .1), filled-more _ _ _ _ _ _ (λ q h z. omega arith) (inv .2) (omega arith) refl))
+    (search arith)
+    (λ c. filled-end 5 (c .before .loop .inv .2) (search arith) (search arith)))

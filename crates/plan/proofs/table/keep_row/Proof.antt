@@ -1,5 +1,4 @@
 -- `table::keep_row` meets its contract. The invariant: the first r costs of the row are kept.
-use borrow.Author.Needs.{needs}
 use native.Mathlib.Omega.{arith}
 use Prim.Native.Nat.{_-_, _≤_}
 use mathlib.Core.Path.{_≡_, refl}
@@ -12,32 +11,20 @@ use Rattle.plan.proofs.table.keep_row.Tie as tie
 abbrev Inv-loop : tie.InvT-loop
 Inv-loop cur from work₀ at row r₀ work r = (r ≤ 16) × (length work ≡ length work₀) × PlacesFilled (λ q. getD row q 0) at r work₀ work × RowRead cur from row
 
-abbrev μ-loop : tie.MeasureT-loop
-μ-loop cur from work₀ at row r₀ work r = 16 - r
-
-loop-holds : tie.Need-loop-holds Inv-loop μ-loop
-loop-holds c = (search needs, refl, filled-none _ _ _, c .row-of .ensures)
-
-loop-again : tie.Need-loop-again Inv-loop μ-loop
-loop-again c =
-    (omega arith, simp length-set (c .before .loop .inv .1), filled-more _ _ _ _ _ _ (c .before .loop .inv .2) (omega arith) refl, c .before .loop .inv .3)
-
-returns : tie.Need-returns Inv-loop μ-loop
-returns c = filled-same (c .before .loop .inv .3 .each) (filled-end 16 (c .before .loop .inv .2) (search needs) (search needs))
-
 pub keep-row-spec : {M : Type 1} → statement M
 keep-row-spec =
     tie.close
     (tie.spec
     Inv-loop
-    μ-loop
-    (search needs)
-    loop-holds
-    (search needs)
-    (search needs)
-    (search needs)
-    (search needs)
-    (search needs)
-    loop-again
-    (search needs)
-    returns)
+    (λ cur from work₀ at row r₀ work r. 16 - r)
+    (search arith)
+    (λ c. (search arith, refl, filled-none _ _ _, c .row-of .ensures))
+    (search arith)
+    (search arith)
+    (search arith)
+    (search arith)
+    (search arith)
+    (λ c. let inv = c .before .loop .inv in
+    (omega arith, simp length-set (inv .1), filled-more _ _ _ _ _ _ (λ q h z. omega arith) (inv .2) (omega arith) refl, inv .3))
+    (search arith)
+    (λ c. filled-same (c .before .loop .inv .3 .each) (filled-end 16 (c .before .loop .inv .2) (search arith) (search arith))))
