@@ -11,3 +11,4 @@ pub mod Steps
 pub mod Loop
 pub mod Entry
 pub mod Calling
+pub mod Ending

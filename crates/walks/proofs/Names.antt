@@ -15,7 +15,9 @@ pub use prog.Routine.{Routine}
 pub use prog.Wp.{Heap, Env, Calls, Loops, WpFn, Tables}
 pub use ghost.Atoms.{Atoms, sem}
 pub use contract.Monad.{Fun, fact}
-pub use contract.Running.{givenOf}
+pub use prog.Model.{Model}
+pub use contract.Running.{GhostRules, Running, givenOf, tablesOf}
+pub use contract.Monad.{factI}
 pub use types.Kit.{drop as let-go, Given, Item, ‵, raw, given, some, later, _⊛_, ⋆, prop, runs, atRet, Sq, _$_, _∵_, !, qed, by, move, keep}
 pub use types.Kit.{use0, use1, use2, use3, split, join, pick, learn, rewrite, fsplit, fsplit3, fjoin, fjoin3, feqL, feqI, check, show, suffices, frame, await}
 pub use types.Kit.{done}
@@ -47,7 +49,7 @@ pub use denote.Exit.{yes}
 pub use denote.Triple.Entry.{onEntry}
 pub use denote.Triple.Spec.{tripleOf}
 pub use denote.Triple.Statement.{Contract, Triple}
-pub use denote.Triple.Clauses.{Lasts, lasts}
+pub use denote.Triple.Clauses.{Clauses, Lasts, lasts}
 pub use denote.Triple.Table.{cited}
 pub use denote.Triple.Walked.{says, needs, Stays, stay-none, stay-none-slice, stay-slice, stay-ref, gave-slice, walkOf, goes-none, goes-none-slice}
 pub use denote.Triple.Walked.{goes-slice, goes-ref, goes-gave-slice, Walks, ends-at, walked}
