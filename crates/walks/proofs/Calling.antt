@@ -260,9 +260,9 @@ module _ {M : Type 1} {𝓤 : URA M} {H : Heap 𝓤} {A : Atoms 𝓤} {W : Given
   pre δ = Meant 𝓤 H A W D c .pre (bound δ)
 
 module _ {M : Type 1} {𝓤 : URA M} {H : Heap 𝓤} {A : Atoms 𝓤} {K : Type 0} {W : Given 𝓤 H A} {E : Env 𝓤 H} {C : Calls 𝓤 H} {Λ : Loops 𝓤 H}
-    {q : Post 𝓤 H} {f : Name} {xs : List Operand} {d : Place} {rest : Body} {Γ : List (Item 𝓤)} {T P : Item 𝓤} {holder : Lft} {share : Share}
-    {γ : GName} {R : RattleType} {b o m : ℕ} {l : List (R .Denot)} where
-  pub lends : K → FmC 𝓤 H (W .laws) C → ent 𝓤 (mean 𝓤 H A P) (sep 𝓤 (mean 𝓤 H A P) (mean 𝓤 H A P)) → Room R m → length l ≡ m
+    {q : Post 𝓤 H} {f : Name} {xs : List Operand} {d : Place} {rest : Body} {Γ : List (Item 𝓤)} {T P : Item 𝓤} where
+  pub lends : K → FmC 𝓤 H (W .laws) C → (R : RattleType) (holder : Lft) (share : Share) (γ : GName) (b o m : ℕ) (l : List (R .Denot))
+      → ent 𝓤 (mean 𝓤 H A P) (sep 𝓤 (mean 𝓤 H A P) (mean 𝓤 H A P)) → Room R m → length l ≡ m
       → (D : Ended) (c : Clauses 𝓤 D) → Triple 𝓤 (C f) (Meant 𝓤 H A W D c) → (v : Val) (ψ : Type 0) (φ : List (R .Denot) → Type 0)
       → (L : Loan W D c (mean 𝓤 H A T) (mean 𝓤 H A P) R b o m l v ψ φ)
       → ((ν : ℕ) (δ : GName) → Opds K W (raw (sep 𝓤 (pre L ν δ) (L .tokens ν .rest)) ∷ ‵ (Open R holder (ν ∷ []) share γ b o l δ) ∷ P ∷ Γ) E xs
@@ -270,7 +270,7 @@ module _ {M : Type 1} {𝓤 : URA M} {H : Heap 𝓤} {A : Atoms 𝓤} {K : Type 
       → ((l′ : List (R .Denot)) → ψ → φ l′
       → Seq K W ((T ⊛ P) ∷ ‵ (slice-at (named 0) holder R b o γ l′ m) ∷ ‵ (flft holder share) ∷ Γ) (lands C Λ E d v rest q))
       → Seq K W ((T ⊛ P) ∷ ‵ (slice-at (named 0) holder R b o γ l m) ∷ ‵ (flft holder share) ∷ Γ) (runs C Λ E (seq (call f xs d) rest) q)
-  lends t fm twice room el D c known v ψ φ L os next =
+  lends t fm R holder share γ b o m l twice room el D c known v ψ φ L os next =
       rewrite t 1 (λ (n : ℕ). ‵ (slice-at (named 0) holder R b o γ l n)) (sym el) refl $ lft-new t tt (λ ν. move t (2 ∷ 3 ∷ []) $
       use2 W (later (some (λ (δ : GName). ‵ (slice-at (named 0) (ν ∷ []) R b o δ l (length l)) ⊛ ‵ (Open R holder (ν ∷ []) share γ b o l δ))))
       (into-loan R holder (ν ∷ []) share γ b o l 𝓤 H A W (named 0) (named 0)) $ await t tt $ pick t (λ δ. split t $

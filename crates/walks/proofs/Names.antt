@@ -17,7 +17,7 @@ pub use ghost.Atoms.{Atoms, sem}
 pub use contract.Monad.{Fun, fact}
 pub use prog.Model.{Model}
 pub use contract.Running.{GhostRules, Running, givenOf, tablesOf}
-pub use contract.Monad.{factI}
+pub use contract.Monad.{factI, fact-mono}
 pub use types.Kit.{drop as let-go, Given, Item, ‵, raw, given, some, later, _⊛_, ⋆, prop, runs, atRet, Sq, _$_, _∵_, !, qed, by, move, keep}
 pub use types.Kit.{use0, use1, use2, use3, split, join, pick, learn, rewrite, fsplit, fsplit3, fjoin, fjoin3, feqL, feqI, check, show, suffices, frame, await}
 pub use types.Kit.{done}
