@@ -11,4 +11,3 @@ pub mod Steps
 pub mod Loop
 pub mod Entry
 pub mod Calling
-pub mod Ending

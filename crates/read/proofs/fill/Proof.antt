@@ -18,8 +18,7 @@ use Rattle.base.proofs.Unit.Laws as U′
 use Rattle.walks.proofs.Body.{𝓣of, tests, holds, fails}
 use Rattle.walks.proofs.Data.{Data, number, flag, struct, Params, shared, lent, by-value}
 use Rattle.walks.proofs.Entry.{Bound, End, Walk, walk-with, cites}
-use Rattle.walks.proofs.Calling.{calls, made, made-own, counted, held, the-one, beside}
-use Rattle.walks.proofs.Ending.{ends}
+use Rattle.walks.proofs.Calling.{calls, plain, all, _&_, but, _&′_, the-one, beside, ends}
 use Rattle.walks.proofs.Loop.{Turns, rounds, loop-by}
 use Rattle.walks.proofs.Frame.{empty, full, Blocks, envOf, laid, clears, leaves}
 use Rattle.walks.proofs.Steps.{var, arg, part, sets, resets-last, lands-in, recasts, in64, past}
@@ -116,7 +115,7 @@ module _ {M : Type 1} (𝓤 : kit.URA M) (H : kit.Heap 𝓤) (𝓜 : kit.Model �
       fjoin ! $ kit.pureI ! (kit.at-slice U.the-row (x l) (vo ∷ [])) (tt, (tt, tt))
       (ap (λ (m : ℕ). sliceVal (b, o) m ∷ []) (sym same), subst (Room U.the-row) (sym same) room) $ fjoin ! $ move ! (2 ∷ 0 ∷ 1 ∷ []) $
       ends ! fill.ended params clauses y twice (beside W κ q κ′ q′) number n (refl, n-fits) (tt, (tt, (l, (tt, tt)))) (tt, (tt, (same, (tt, tt))))
-      (kit.factI 𝓤 _ (kit.emp 𝓤) (refl, e)) 2 (id⊢ 𝓤 _, (made-own W O span r is-r, (id⊢ 𝓤 _, (made-own W O number start (refl, start-fits), tt))))
+      (kit.factI 𝓤 _ (kit.emp 𝓤) (refl, e)) (id⊢ 𝓤 _ &′ plain W O span r is-r &′ but (id⊢ 𝓤 _) (plain W O number start (refl, start-fits) & all))
 
   -- ---- the loop: its variant is how many units are passed, how many may follow, the list, and what is known of them
   record Known (j m : ℕ) (l : List UnitRecord) : Type 0 where
@@ -199,15 +198,17 @@ module _ {M : Type 1} (𝓤 : kit.URA M) (H : kit.Heap 𝓤) (𝓜 : kit.Model �
         let less : g .0 < r .most = ltb→lt (g .0) (r .most) test in
         -- whether a unit of the form stands there
         calls ! fm 0 refl twice stands-at.ended (stands-at.clauses 𝓤 H A (𝓜 .mem) (𝓡 .run))
-        (cites 𝓤 H 𝓜 𝓖 𝓡 code.env code.calls-read·spans·stands-at (stands-at.Met.met 𝓤 H 𝓜 𝓖 𝓡)) (κ, tt) (q, tt) tt (the-one W κ q) (s, (r, (g .0, tt)))
-        (held vs (id⊢ 𝓤 _), (made span is-r, (counted (omega (arith, less, most-fits)), tt))) tt (kit.factI 𝓤 _ (kit.emp 𝓤) (fits, less))
+        (cites 𝓤 H 𝓜 𝓖 𝓡 code.env code.calls-read·spans·stands-at (stands-at.Met.met 𝓤 H 𝓜 𝓖 𝓡))
+        (((κ, tt), (q, tt), tt, (s, (r, (g .0, tt))), (vs ∷ [], (R′.lowered r ∷ [], (vint w64 (g .0) ∷ [], tt)))), tt) (the-one W κ q)
+        (id⊢ 𝓤 _ & plain W O span r is-r & plain W O number (g .0) (refl, omega (arith, less, most-fits)) & all) (kit.factI 𝓤 _ (kit.emp 𝓤) (fits, less))
         (stands xs r (g .0)) (λ r e. id⊢ 𝓤 _) flag (arg ! 27 refl (arg ! 25 refl (arg ! 17 refl (kit.no-more !)))) (λ is-b ok. lands-in ! 13 refl ok $
         kit.branches ! (var ! 13 refl)
         (λ yes-b.
         -- the unit
         calls ! fm 0 refl twice nth.ended (nth.clauses 𝓤 H A (𝓜 .mem) (𝓡 .run))
-        (cites 𝓤 H 𝓜 𝓖 𝓡 code.env code.calls-read·spans·nth (nth.Met.met 𝓤 H 𝓜 𝓖 𝓡)) (κ, tt) (q, tt) tt (the-one W κ q) (s, (r, (g .0, tt)))
-        (held vs (id⊢ 𝓤 _), (made span is-r, (counted (omega (arith, less, most-fits)), tt))) tt (kit.factI 𝓤 _ (kit.emp 𝓤) (fits, less))
+        (cites 𝓤 H 𝓜 𝓖 𝓡 code.env code.calls-read·spans·nth (nth.Met.met 𝓤 H 𝓜 𝓖 𝓡))
+        (((κ, tt), (q, tt), tt, (s, (r, (g .0, tt))), (vs ∷ [], (R′.lowered r ∷ [], (vint w64 (g .0) ∷ [], tt)))), tt) (the-one W κ q)
+        (id⊢ 𝓤 _ & plain W O span r is-r & plain W O number (g .0) (refl, omega (arith, less, most-fits)) & all) (kit.factI 𝓤 _ (kit.emp 𝓤) (fits, less))
         (unit g) (λ r e. id⊢ 𝓤 _) record-of (arg ! 27 refl (arg ! 25 refl (arg ! 17 refl (kit.no-more !)))) (λ is-u ok. lands-in ! 11 refl ok $
         -- its place in the list
         sets ! 9 (bin ! (var ! 21 refl) (var ! 17 refl) (record { fits = sum-fits g less })) refl (in64 (sum-fits g less)) $

@@ -17,8 +17,7 @@ use Rattle.base.proofs.Answer.Laws as N′
 use Rattle.walks.proofs.Body.{𝓣of, tests}
 use Rattle.walks.proofs.Data.{Data, number, struct, Params, shared, lent}
 use Rattle.walks.proofs.Entry.{Bound, End, Walk, walk-in, cites}
-use Rattle.walks.proofs.Calling.{calls, lends, made, counted, held, none, the-one, beside}
-use Rattle.walks.proofs.Ending.{ends}
+use Rattle.walks.proofs.Calling.{calls, lends, plain, all, _&_, but, _&′_, none, the-one, beside, ends}
 use Rattle.walks.proofs.Loop.{Turns, rounds, loop-by}
 use Rattle.walks.proofs.Frame.{empty, full, Blocks, envOf, laid, clears, leaves}
 use Rattle.walks.proofs.Steps.{var, arg, part, sets, lands-in, lands-over, recasts, behind, resliced, in64, sliced, past, front}
@@ -111,7 +110,10 @@ module _ {M : Type 1} (𝓤 : kit.URA M) (H : kit.Heap 𝓤) (𝓜 : kit.Model �
   abbrev String : kit.Item 𝓤
   String = ‵ (flft κ q) ⊛ ‵ Own
 
-  twice : kit.ent 𝓤 (kit.sem 𝓤 H A Own) (kit.sep 𝓤 (kit.sem 𝓤 H A Own) (kit.sem 𝓤 H A Own))
+  abbrev O : SProp 𝓤
+  O = kit.sem 𝓤 H A Own
+
+  twice : kit.ent 𝓤 O (kit.sep 𝓤 O O)
   twice = kit.shr-slice-copy 𝓤 H A W (named 0) κ u8 .twice s (vs ∷ [])
 
   abbrev Units : List UnitRecord → Fml
@@ -200,8 +202,9 @@ module _ {M : Type 1} (𝓤 : kit.URA M) (H : kit.Heap 𝓤) (𝓜 : kit.Model �
         -- the span at the cursor
         sets ! 7 (bin ! (var ! 21 refl) (var ! 17 refl) (i .1 .0)) refl (in64 (omega (arith, n-fits))) $
         calls ! fm 0 refl twice span-at.ended (span-at.clauses 𝓤 H A (𝓜 .mem) (𝓡 .run))
-        (cites 𝓤 H 𝓜 𝓖 𝓡 code.env code.calls-read·spans·span-at (span-at.Met.met 𝓤 H 𝓜 𝓖 𝓡)) (κ, tt) (q, tt) tt (the-one W κ q)
-        (s, (cur xs ys (i .0), (n - i .0, tt))) (held vs (id⊢ 𝓤 _), (made a-cursor (i .1 .1), (counted (omega (arith, n-fits)), tt))) tt (id⊢ 𝓤 _)
+        (cites 𝓤 H 𝓜 𝓖 𝓡 code.env code.calls-read·spans·span-at (span-at.Met.met 𝓤 H 𝓜 𝓖 𝓡))
+        (((κ, tt), (q, tt), tt, (s, (cur xs ys (i .0), (n - i .0, tt))), (vs ∷ [], (K′.lowered (cur xs ys (i .0)) ∷ [], (vint w64 (n - i .0) ∷ [], tt)))), tt)
+        (the-one W κ q) (id⊢ 𝓤 _ & plain W O a-cursor (cur xs ys (i .0)) (i .1 .1) & plain W O number (n - i .0) (refl, omega (arith, n-fits)) & all) (id⊢ 𝓤 _)
         (span (i .0)) (λ r e. id⊢ 𝓤 _) a-span (arg ! 27 refl (arg ! 19 refl (arg ! 7 refl (no-more !)))) (λ is-r ok. lands-in ! 15 refl ok $
         -- the list is borrowed again, and `fill` stores the units
         sets ! 5 (behind ! 25 refl refl) refl (tt, tt) $
@@ -209,19 +212,23 @@ module _ {M : Type 1} (𝓤 : kit.URA M) (H : kit.Heap 𝓤) (𝓜 : kit.Model �
         lends ! fm U.the-row κ′ q′ γ b o (length ys) (got xs ys (i .0)) twice room (same (i .0)) fill.ended (fill.clauses 𝓤 H A (𝓜 .mem) (𝓡 .run))
         (cites 𝓤 H 𝓜 𝓖 𝓡 code.env code.calls-read·fill (fill.Met.met 𝓤 H 𝓜 𝓖 𝓡)) (vint w64 (count (i .0)))
         (Is kit.usize (count (i .0)) (vint w64 (count (i .0)) ∷ [])) (λ l. l ≡ got xs ys (i .0 + count (i .0)))
+        (λ ν δ. (
+          (
+            (κ, (ν ∷ [], tt)),
+            (q, (fullShare, tt)),
+            tt,
+            (s, (span (i .0), (x δ (got xs ys (i .0)), (i .0, tt)))),
+            (vs ∷ [], (R′.lowered (span (i .0)) ∷ [], (vo ∷ [], (vint w64 (i .0) ∷ [], tt)))),
+          ),
+          tt,
+        ))
         (record {
-          κs = λ ν. (κ, (ν ∷ [], tt));
-          qs = (q, (fullShare, tt));
-          bounds = λ ν. tt;
-          tokens = λ ν. beside W κ q (ν ∷ []) fullShare;
-          args = λ ν δ. (s, (span (i .0), (x δ (got xs ys (i .0)), (i .0, tt))));
-          k = 2;
-          had = λ ν δ. (held vs (id⊢ 𝓤 _), (made a-span is-r, (held vo (id⊢ 𝓤 _), (counted (omega (arith, less, n-fits)), tt))));
-          ghost = λ ν δ. tt;
+          tokens = λ ν δ. beside W κ q (ν ∷ []) fullShare;
+          parts = λ ν δ. id⊢ 𝓤 _ &′ plain W O a-span (span (i .0)) is-r &′ but (id⊢ 𝓤 _) (plain W O number (i .0) (refl, omega (arith, less, n-fits)) & all);
           asked = λ ν δ. kit.factI 𝓤 _ (kit.emp 𝓤) (span-fits xs (cur xs ys (i .0)) (n - i .0), left-got (i .0) less);
-          result = λ ν. count (i .0);
-          data-of = λ ν. number;
-          tells = λ ν. (refl, λ is. is);
+          result = λ ν δ. count (i .0);
+          data-of = λ ν δ. number;
+          tells = λ ν δ. (refl, λ is. is);
           same = λ l e. ap length e ∙ same (i .0 + count (i .0));
           last = λ ν δ ws. ws .1 .1 .0;
           says = λ ν δ r ws. kit.fact-mono 𝓤 _ _ (λ e. (e .0, e .1 ∙ stored-next (i .0) less));
@@ -230,8 +237,9 @@ module _ {M : Type 1} (𝓤 : kit.URA M) (H : kit.Heap 𝓤) (𝓜 : kit.Model �
         kit.rewrite ! 1 (λ (w : List UnitRecord). ‵ (Units w)) e refl $ lands-in ! 13 refl (number .typed 𝓤 H A W (count (i .0)) is-k) $
         -- the cursor and the number move on
         calls ! fm 0 refl twice moved.ended (moved.clauses 𝓤 H A (𝓜 .mem) (𝓡 .run))
-        (cites 𝓤 H 𝓜 𝓖 𝓡 code.env code.calls-read·spans·moved (moved.Met.met 𝓤 H 𝓜 𝓖 𝓡)) tt tt tt (none W (A .lft κ q))
-        (span (i .0), (count (i .0), tt)) (made a-span is-r, (made number is-k, tt)) tt (kit.factI 𝓤 _ (kit.emp 𝓤) (place-fits (i .0)))
+        (cites 𝓤 H 𝓜 𝓖 𝓡 code.env code.calls-read·spans·moved (moved.Met.met 𝓤 H 𝓜 𝓖 𝓡))
+        ((tt, tt, tt, (span (i .0), (count (i .0), tt)), (R′.lowered (span (i .0)) ∷ [], (vint w64 (count (i .0)) ∷ [], tt))), tt) (none W (A .lft κ q))
+        (plain W O a-span (span (i .0)) is-r & plain W O number (count (i .0)) is-k & all) (kit.factI 𝓤 _ (kit.emp 𝓤) (place-fits (i .0)))
         (movedOf (span (i .0)) (count (i .0))) (λ r e. id⊢ 𝓤 _) a-cursor (arg ! 15 refl (arg ! 13 refl (no-more !))) (λ is-c ok.
         lands-over ! 19 refl ok $
         recasts ! 19 (λ (c : Cursor). (K′.lowered c)) (cursor-next xs ys (short (i .0) less) (i .0) (n - i .0) (omega (arith, less))
@@ -245,7 +253,7 @@ module _ {M : Type 1} (𝓤 : kit.URA M) (H : kit.Heap 𝓤) (𝓜 : kit.Model �
         kit.rewrite ! 1 (λ (j : ℕ). ‵ (Units (got xs ys j))) (le-antisymm (i .1 .0) (nltb→le (i .0) n over)) refl $
         kit.returns ! (kit.look ! 29 refl) $ leaves ! 3 refl refl $
         ends ! read.ended params clauses y twice (beside W κ q κ′ q′) an-answer ans is-ans (tt, (got xs ys n, tt)) (tt, (same n, tt))
-        (kit.factI 𝓤 _ (kit.emp 𝓤) (refl, filled xs ys)) 1 (id⊢ 𝓤 _, (id⊢ 𝓤 _, tt)))
+        (kit.factI 𝓤 _ (kit.emp 𝓤) (refl, filled xs ys)) (id⊢ 𝓤 _ &′ but (id⊢ 𝓤 _) all))
 
   -- ---- the code up to the loop
   walk : Walk 𝓤 H 𝓜 𝓖 𝓡 code.env code.function read.ended params clauses y
@@ -254,15 +262,16 @@ module _ {M : Type 1} (𝓤 : kit.URA M) (H : kit.Heap 𝓤) (𝓜 : kit.Model �
       move ! (0 ∷ 2 ∷ []) $ join ! $ move ! (0 ∷ 2 ∷ []) $
       sets ! 11 (of-opd ! (part ! 25 1 refl refl refl)) refl (in64 (room .0)) $
       calls ! fm 0 refl twice answer.ended (answer.clauses 𝓤 H A (𝓜 .mem) (𝓡 .run))
-      (cites 𝓤 H 𝓜 𝓖 𝓡 code.env code.calls-read·answer (answer.Met.met 𝓤 H 𝓜 𝓖 𝓡)) (κ, tt) (q, tt) tt (the-one W κ q) (s, (length ys, tt))
-      (held vs (id⊢ 𝓤 _), (counted (room .0), tt)) tt (id⊢ 𝓤 _) ans (λ r e. id⊢ 𝓤 _) an-answer (arg ! 27 refl (arg ! 11 refl (no-more !)))
+      (cites 𝓤 H 𝓜 𝓖 𝓡 code.env code.calls-read·answer (answer.Met.met 𝓤 H 𝓜 𝓖 𝓡))
+      (((κ, tt), (q, tt), tt, (s, (length ys, tt)), (vs ∷ [], (vint w64 (length ys) ∷ [], tt))), tt) (the-one W κ q)
+      (id⊢ 𝓤 _ & plain W O number (length ys) (refl, room .0) & all) (id⊢ 𝓤 _) ans (λ r e. id⊢ 𝓤 _) an-answer (arg ! 27 refl (arg ! 11 refl (no-more !)))
       (λ is-ans ok. lands-in ! 23 refl ok $
       calls ! fm 0 refl twice stored.ended (stored.clauses 𝓤 H A (𝓜 .mem) (𝓡 .run))
-      (cites 𝓤 H 𝓜 𝓖 𝓡 code.env code.calls-read·stored (stored.Met.met 𝓤 H 𝓜 𝓖 𝓡)) tt tt tt (none W (A .lft κ q)) (ans, tt)
-      (made an-answer is-ans, tt) tt (id⊢ 𝓤 _) n (λ r e. id⊢ 𝓤 _) number (arg ! 23 refl (no-more !)) (λ is-n ok. lands-in ! 21 refl ok $
+      (cites 𝓤 H 𝓜 𝓖 𝓡 code.env code.calls-read·stored (stored.Met.met 𝓤 H 𝓜 𝓖 𝓡)) ((tt, tt, tt, (ans, tt), (N′.lowered ans ∷ [], tt)), tt)
+      (none W (A .lft κ q)) (plain W O an-answer ans is-ans & all) (id⊢ 𝓤 _) n (λ r e. id⊢ 𝓤 _) number (arg ! 23 refl (no-more !)) (λ is-n ok. lands-in ! 21 refl ok $
       calls ! fm 0 refl twice first-fn.ended (first-fn.clauses 𝓤 H A (𝓜 .mem) (𝓡 .run))
-      (cites 𝓤 H 𝓜 𝓖 𝓡 code.env code.calls-cursor·Cursor·first (first-fn.Met.met 𝓤 H 𝓜 𝓖 𝓡)) tt tt tt (none W (A .lft κ q)) tt tt tt (id⊢ 𝓤 _)
-      first (λ r e. id⊢ 𝓤 _) a-cursor (no-more !) (λ is-first ok. lands-in ! 19 refl ok $
+      (cites 𝓤 H 𝓜 𝓖 𝓡 code.env code.calls-cursor·Cursor·first (first-fn.Met.met 𝓤 H 𝓜 𝓖 𝓡)) ((tt, tt, tt, tt, tt), tt) (none W (A .lft κ q))
+      all (id⊢ 𝓤 _) first (λ r e. id⊢ 𝓤 _) a-cursor (no-more !) (λ is-first ok. lands-in ! 19 refl ok $
       sets ! 17 (of-opd ! (lit ! tt)) refl (in64 (lit< tt)) $ kit.forget ! 11 refl $
       loop-by W 𝓣 (envOf (code.function .locals) bs) Post code.Mir.turn-1 code.Mir.t-7 μ (At is-ans bs) (turns is-ans bs)
       (0, (kit.zero-le, is-first)))))
