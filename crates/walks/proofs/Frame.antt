@@ -96,9 +96,10 @@ module _ {M : Type 1} {𝓤 : URA M} where
   before (suc k) [] = []
   before (suc k) (i ∷ Γ) = i ∷ before k Γ
 
-  laid-after : (E : Locals) (Δ Γ : List (Item 𝓤)) → laid E [] (Δ ++ Γ) ≡ laid E [] Δ ++ Γ
-  laid-after [] Δ Γ = refl
-  laid-after (e ∷ E) Δ Γ = laid-after E (one e empty Δ) Γ
+  laid-after : (E : Locals) (hs : List Holds) (Δ Γ : List (Item 𝓤)) → laid E hs (Δ ++ Γ) ≡ laid E hs Δ ++ Γ
+  laid-after [] hs Δ Γ = refl
+  laid-after (e ∷ E) [] Δ Γ = laid-after E [] (one e empty Δ) Γ
+  laid-after (e ∷ E) (h ∷ hs) Δ Γ = laid-after E hs (one e h Δ) Γ
 
   module _ (H : Heap 𝓤) (A : Atoms 𝓤) where
     -- the context as one assertion
@@ -129,12 +130,16 @@ module _ {M : Type 1} {𝓤 : URA M} where
         (subst (λ (Θ : List (Item 𝓤)). ent 𝓤 (∗∗ Δ) (nth 𝓤 H A (deep E zero) Δ ∗ ∗∗ Θ)) (del-deep E zero (i ∷ Γ))
         (pull 𝓤 H A (deep E zero) Δ))
 
-    -- what stands before the locals stands after them
+    swapped : (Γ Δ : List (Item 𝓤)) → ent 𝓤 (∗∗ (Γ ++ Δ)) (∗∗ (Δ ++ Γ))
+    swapped Γ Δ =
+        via 𝓤 (sep 𝓤 (∗∗ Γ) (∗∗ Δ)) (⊢++ 𝓤 H A Γ Δ) (via 𝓤 (sep 𝓤 (∗∗ Δ) (∗∗ Γ)) (comm∗ 𝓤 (∗∗ Γ) (∗∗ Δ)) (++⊢ 𝓤 H A Δ Γ))
+
+    -- what stands before the locals stands after them, and the other way round
     under : (E : Locals) (Γ : List (Item 𝓤)) → ent 𝓤 (∗∗ (Γ ++ laid E [] [])) (∗∗ (laid E [] Γ))
-    under E Γ =
-        subst (λ (Δ : List (Item 𝓤)). ent 𝓤 (∗∗ (Γ ++ laid E [] [])) (∗∗ Δ)) (sym (laid-after E [] Γ))
-        (via 𝓤 (sep 𝓤 (∗∗ Γ) (∗∗ (laid E [] []))) (⊢++ 𝓤 H A Γ (laid E [] []))
-        (via 𝓤 (sep 𝓤 (∗∗ (laid E [] [])) (∗∗ Γ)) (comm∗ 𝓤 (∗∗ Γ) (∗∗ (laid E [] []))) (++⊢ 𝓤 H A (laid E [] []) Γ)))
+    under E Γ = subst (λ (Δ : List (Item 𝓤)). ent 𝓤 (∗∗ (Γ ++ laid E [] [])) (∗∗ Δ)) (sym (laid-after E [] [] Γ)) (swapped Γ (laid E [] []))
+
+    over : (E : Locals) (hs : List Holds) (Γ : List (Item 𝓤)) → ent 𝓤 (∗∗ (laid E hs Γ)) (∗∗ (Γ ++ laid E hs []))
+    over E hs Γ = subst (λ (Δ : List (Item 𝓤)). ent 𝓤 (∗∗ Δ) (∗∗ (Γ ++ laid E hs []))) (sym (laid-after E hs [] Γ)) (swapped (laid E hs []) Γ)
 
     frees-laid : (E : Locals) (Γ : List (Item 𝓤)) (P : SProp 𝓤) → ent 𝓤 (∗∗ Γ) P → ent 𝓤 (∗∗ (laid E [] Γ)) (release 𝓤 H E P)
     frees-laid [] Γ P h = h
@@ -283,3 +288,12 @@ module _ {M : Type 1} {𝓤 : URA M} {H : Heap 𝓤} {A : Atoms 𝓤} {K : Type 
       (runs C Λ (envOf (f .locals) bs) (f .body) (atRet (envOf (f .locals) bs) Kf)))
       → Seq K W Γ (prop (WpFn 𝓤 H C Λ f vs Kf))
   enters t {Γ} C Λ f vs Kf fit k = enter t C Λ f vs Kf $ allocs-all t (f .locals) Γ (λ bs. params-all t (envOf (f .locals) bs) vs Γ (fit bs) (k bs))
+
+  -- the same, with the locals after what else is owned
+  pub enters-with : K → {Γ : List (Item 𝓤)} (C : Calls 𝓤 H) (Λ : Loops 𝓤 H) (f : Fn) (vs : List Val) (Kf : Val → SProp 𝓤)
+      → ((bs : Blocks (f .locals)) → FitAfter (envOf (f .locals) bs) vs)
+      → ((bs : Blocks (f .locals)) → Seq K W (Γ ++ laid (envOf (f .locals) bs) (empty ∷ each-full vs) [])
+      (runs C Λ (envOf (f .locals) bs) (f .body) (atRet (envOf (f .locals) bs) Kf)))
+      → Seq K W Γ (prop (WpFn 𝓤 H C Λ f vs Kf))
+  enters-with t {Γ} C Λ f vs Kf fit k =
+      enters t C Λ f vs Kf fit (λ bs. record { prf = via 𝓤 _ (over H A (envOf (f .locals) bs) (empty ∷ each-full vs) Γ) (k bs .prf) })

@@ -36,7 +36,7 @@ abbrev pub at-list : (T : RattleType) (b o : ℕ) → GName → List (T .Denot) 
 at-list T b o γ l = record { ptr = (b, o); name = γ; now = l }
 
 -- what a `&mut` of that list owns, where it has so many elements
-abbrev slice-at : Lifetime → Lft → (T : RattleType) (b o : ℕ) → GName → List (T .Denot) → ℕ → Fml
+abbrev pub slice-at : Lifetime → Lft → (T : RattleType) (b o : ℕ) → GName → List (T .Denot) → ℕ → Fml
 slice-at ℓ κ T b o γ l m = MutSlice ℓ κ T .own (at-list T b o γ l) (sliceVal (b, o) m ∷ [])
 
 module _ (T : RattleType) (holder loan : Lft) (share : Share) (γ : GName) (b o : ℕ) (l : List (T .Denot)) where
@@ -49,7 +49,7 @@ module _ (T : RattleType) (holder loan : Lft) (share : Share) (γ : GName) (b o 
     abbrev machine : List Val
     machine = sliceVal (b, o) (length l) ∷ []
 
-    lends : ent 𝓤 (sep 𝓤 (sem 𝓤 H A (MutSlice ℓ holder T .own (at-list T b o γ l) machine)) (A .lft holder share))
+    pub lends : ent 𝓤 (sep 𝓤 (sem 𝓤 H A (MutSlice ℓ holder T .own (at-list T b o γ l) machine)) (A .lft holder share))
         (H .⇛ (ex 𝓤 (λ (δ : GName). sep 𝓤 (sem 𝓤 H A (MutSlice ℓ′ loan T .own (at-list T b o δ l) machine)) (sem 𝓤 H A (Open δ)))))
     lends =
         qed W (‵ (MutSlice ℓ holder T .own (at-list T b o γ l) machine) ∷ ‵ (flft holder share) ∷ []) ∵ updating ! $
@@ -65,7 +65,7 @@ module _ (T : RattleType) (holder loan : Lft) (share : Share) (γ : GName) (b o 
         frame ! $
         move ! (2 ∷ 3 ∷ []) $ fjoin ! $ move ! (2 ∷ 0 ∷ []) $ fjoin ! $ move ! (1 ∷ 0 ∷ []) $ fjoin ! $ done !))
 
-    ends : (δ : GName) (l′ : List (T .Denot)) → Room T (length l) → length l′ ≡ length l
+    pub ends : (δ : GName) (l′ : List (T .Denot)) → Room T (length l) → length l′ ≡ length l
         → ent 𝓤 (sep 𝓤 (A .dead loan) (sep 𝓤 (sem 𝓤 H A (Open δ)) (sem 𝓤 H A (finally T δ l′))))
         (H .⇛ (sep 𝓤 (sem 𝓤 H A (MutSlice ℓ holder T .own (at-list T b o γ l′) machine)) (A .lft holder share)))
     ends δ l′ room e =

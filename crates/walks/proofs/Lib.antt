@@ -1,4 +1,5 @@
 pub mod Names
+pub mod Data
 pub mod Body
 pub mod Calls
 pub mod Locals
@@ -8,3 +9,5 @@ pub mod Lent
 pub mod Frame
 pub mod Steps
 pub mod Loop
+pub mod Entry
+pub mod Calling

@@ -2,7 +2,7 @@
 --     var, arg          the value of a local, and one more of them in a list of operands
 --     part              the value of a field of a local
 --     sets, resets      a local that is empty, or that holds something, is assigned to; `resets-last` where the assignment ends a turn
---     lands-in          what a call answers is stored to a local that is empty
+--     lands-in          what a call answers is stored to a local that is empty; `lands-over`, to one that holds something
 --     recasts           what a cell holds, written another way
 --     behind, resliced  a slice that a local holds is borrowed again, as for a call
 --     in64, sliced      a number of 64 bits, and a slice of so many elements, are values of their types
@@ -121,6 +121,10 @@ module _ {M : Type 1} {𝓤 : URA M} {H : Heap 𝓤} {A : Atoms 𝓤} {K : Type 
         pub lands-in : K → (n : ℕ) → nth 𝓤 H A n Γ ≡ vacant (spot E i) → Suits (spot E i) v
             → Step K W (put 𝓤 H A n (holding (spot E i) v) Γ) (runs C Λ E rest p) Γ (lands C Λ E (place i []) v rest p)
         lands-in t n e wt = land t (from t (stop t)) (init t n e wt)
+
+        pub lands-over : K → (n : ℕ) {u : Val} → nth 𝓤 H A n Γ ≡ holding (spot E i) u → Suits (spot E i) v
+            → Step K W (put 𝓤 H A n (holding (spot E i) v) Γ) (runs C Λ E rest p) Γ (lands C Λ E (place i []) v rest p)
+        lands-over t n e wt = land t (from t (stop t)) (store t n e wt)
 
       pub resets-last : K → (n : ℕ) {rv : RValue} {u : Val} → Rv K W Γ E rv v → nth 𝓤 H A n Γ ≡ holding (spot E i) u → Suits (spot E i) v
           → Step K W (put 𝓤 H A n (holding (spot E i) v) Γ) (prop (post 𝓤 H p next)) Γ (runs C Λ E (assign (place i []) rv) p)

@@ -1,12 +1,11 @@
 -- `by_value::read_eight` meets its contract: its code is followed by hand, for it lends a list of structs. A local array is lent as a slice to `read`,
 -- for a lifetime of the call's own, and comes back as the list of the contract of `read`.
 -- Assumes nothing.
-use Rattle.walks.proofs.Names.{_≡_, refl, ℕ, _<_, _^_, [], _∷_, List, length, replicate, URA, fullShare, named, Val, SProp, Sq, prop, ex, guard}
-use Rattle.walks.proofs.Names.{GName, Fml, ftrue, flft, Memory, Heap, Atoms, sem, Fun, givenOf, ‵, raw, _⊛_, later, _$_, _∵_, !, qed, move, keep}
-use Rattle.walks.proofs.Names.{use1, use2, split, join, fsplit, frame, await, done, lit, Is, mem, u8, RefT, sliceVal, finally, plain, yes}
+use Rattle.walks.proofs.Names.{_≡_, refl, ℕ, [], _∷_, List, length, replicate, fullShare, named, Val, SProp, Sq, prop, ex, guard, GName, Fml, ftrue}
+use Rattle.walks.proofs.Names.{flft, sem, ‵, raw, _⊛_, later, _$_, !, move, keep, let-go, use1, use2, split, join, fsplit, frame, await, done, lit, Is}
+use Rattle.walks.proofs.Names.{mem, u8, RefT, sliceVal, finally, nothing}
 use Rattle.walks.proofs.Names as kit
 use lib.Dec.{lit<}
-use contract.Running.{tablesOf}
 use denote.Array.{Array, array-vals, array-lawful, array-makes, arrayVal}
 use denote.Struct.Laws as LL
 use Rattle.base.specs.declared.Answer.{Answer}
@@ -15,9 +14,11 @@ use Rattle.base.proofs.Unit as U
 use Rattle.base.proofs.Unit.Laws as U′
 use Rattle.base.proofs.Answer as N
 use Rattle.base.proofs.Answer.Laws as N′
-use Rattle.walks.proofs.Body.{𝓣of, proved-by}
+use Rattle.walks.proofs.Body.{𝓣of}
+use Rattle.walks.proofs.Data.{Data, struct, Params, shared, by-value, stays}
+use Rattle.walks.proofs.Entry.{Bound, End, Walk, walk-in, cites}
 use Rattle.walks.proofs.Calls.{calls-ends}
-use Rattle.walks.proofs.Frame.{enters, leaves}
+use Rattle.walks.proofs.Frame.{leaves}
 use Rattle.walks.proofs.Steps.{var, arg, sets, lands-in, sliced, beside, copies, joins, fjoins}
 use Rattle.walks.proofs.Locals.{array-out, array-in}
 use Rattle.read.specs.Listing.{readAnswer, listAfter}
@@ -25,27 +26,35 @@ use Rattle.read.proofs.read as read
 use Rattle.by_value.proofs.read_eight as eight
 use Rattle.by_value.proofs.read_eight.Code as code
 
--- the contract that the proof cites
-abbrev Reads : {M : Type 1} (𝓤 : URA M) (H : Heap 𝓤) (A : Atoms 𝓤) (mem : Memory → SProp 𝓤) (run : kit.Routine → Fun 𝓤) → kit.Contract 𝓤
-Reads 𝓤 H A mem run = kit.tripleOf 𝓤 H A read.signature (read.spec 𝓤 H A mem run)
+abbrev an-answer : Data N.the-row
+an-answer = struct N.the-type N′.the-laws N′.the-plain
 
-abbrev stayed : kit.Stays (eight.ended .signature .params) (eight.ended .kept)
-stayed = (kit.stay-none-slice (0 ∷ []) tt (plain (λ _. u8)) yes, (kit.stay-none (λ _. U.the-row) yes, tt))
+abbrev params : Params (eight.ended .signature .params) (eight.ended .kept)
+params = (shared 0 tt u8, (by-value (struct U.the-type U′.the-laws U′.the-plain) (λ x f. refl), tt))
 
-module _ {M : Type 1} (𝓤 : URA M) (H : Heap 𝓤) (A : Atoms 𝓤) (W : kit.Given 𝓤 H A) (at-mem : Memory → SProp 𝓤) (run : kit.Routine → Fun 𝓤)
-    (κ : kit.Lft) (q : kit.Share) (s : RefT (List ℕ)) (mark : UnitRecord) (s-fits : length (s .now) < 2 ^ 64)
-    (is-mark : Is U.the-row mark (U′.lowered mark ∷ [])) where
+module _ {M : Type 1} (𝓤 : kit.URA M) (H : kit.Heap 𝓤) (𝓜 : kit.Model 𝓤 H) (𝓖 : kit.GhostRules 𝓤 H) (𝓡 : kit.Running 𝓤 H 𝓜)
+    (κ : kit.Lft) (q : kit.Share) (s : RefT (List ℕ)) (mark : UnitRecord) (is-mark : Is U.the-row mark (U′.lowered mark ∷ [])) where
+  abbrev A : kit.Atoms 𝓤
+  A = 𝓖 .A
+
+  abbrev W : kit.Given 𝓤 H A
+  W = kit.givenOf 𝓤 H 𝓜 𝓖
+
+  -- the contract of `read`
+  abbrev Reads : kit.Contract 𝓤
+  Reads = kit.tripleOf 𝓤 H A read.signature (read.spec 𝓤 H A (𝓜 .mem) (𝓡 .run))
+
   abbrev xs : List ℕ
   xs = s .now
 
   abbrev v : Val
   v = sliceVal (s .ptr) (length xs)
 
-  abbrev a : RefT (List ℕ) × (UnitRecord × Unit {0})
-  a = (s, (mark, tt))
+  abbrev clauses : kit.Clauses 𝓤 eight.ended
+  clauses = eight.clauses 𝓤 H A (𝓜 .mem) (𝓡 .run)
 
-  abbrev vals : List Val × (List Val × Unit {0})
-  vals = (v ∷ [], (U′.lowered mark ∷ [], tt))
+  abbrev y : Bound 𝓤 H 𝓜 𝓖 𝓡 code.env code.function eight.ended params clauses
+  y = (((κ, tt), (q, tt), tt, (s, (mark, tt)), (v ∷ [], (U′.lowered mark ∷ [], tt))), tt)
 
   -- the list that is lent, and what it becomes
   abbrev marks : List UnitRecord
@@ -61,7 +70,7 @@ module _ {M : Type 1} (𝓤 : URA M) (H : Heap 𝓤) (A : Atoms 𝓤) (W : kit.G
   ans = readAnswer xs 8
 
   abbrev Post : Val → SProp 𝓤
-  Post = kit.walkOf 𝓤 H A eight.ended stayed (eight.clauses 𝓤 H A at-mem run) .post (((κ, tt), (q, tt), tt, a, vals), tt)
+  Post = End 𝓤 H 𝓜 𝓖 𝓡 code.env code.function eight.ended params clauses y
 
   abbrev Own : Fml
   Own = kit.ShrSlice (named 0) κ u8 .own s (v ∷ [])
@@ -73,9 +82,9 @@ module _ {M : Type 1} (𝓤 : URA M) (H : Heap 𝓤) (A : Atoms 𝓤) (W : kit.G
   exits : (zs : List UnitRecord) → zs ≡ listAfter xs marks
       → Sq W (‵ (Array U.the-row 8 .own zs (low zs ∷ [])) ∷ ‵ ftrue ∷ ‵ (flft κ q) ∷ ‵ Own ∷ []) (prop (Post (low zs)))
   exits zs e =
-      kit.suffices ! _ (kit.ends-at 𝓤 H A eight.ended stayed (eight.clauses 𝓤 H A at-mem run) W (((κ, tt), (q, tt), tt, a, vals), tt) (low zs) zs
+      kit.suffices ! _ (kit.ends-at 𝓤 H A eight.ended (stays (eight.signature .params) (eight.ended .kept) params) clauses W y (low zs) zs
       (tt, (tt, tt)) (tt, (tt, tt))) $ kit.says ! e $
-      move ! (2 ∷ 1 ∷ []) $ join ! $ frame ! $ kit.nothing ! $ beside ! U.the-row (LL.makes U.the-type U′.the-plain 𝓤 H A) mark _ is-mark $
+      move ! (2 ∷ 1 ∷ []) $ join ! $ frame ! $ nothing ! $ beside ! U.the-row (LL.makes U.the-type U′.the-plain 𝓤 H A) mark _ is-mark $
       fjoins ! 1 refl $ frame ! $ done !
 
   -- ---- `read`, on the local at l for the lifetime ν
@@ -86,14 +95,13 @@ module _ {M : Type 1} (𝓤 : URA M) (H : Heap 𝓤) (A : Atoms 𝓤) (W : kit.G
     abbrev Lent : Fml
     Lent = kit.MutSlice (named 1) (ν ∷ []) U.the-row .own x (sliceVal (l, 0) 8 ∷ [])
 
-    abbrev to : Reads 𝓤 H A at-mem run .Ghost
+    abbrev to : Reads .Ghost
     to = (((κ, (ν ∷ [], tt)), (q, (fullShare, tt)), tt, (s, (x, tt)), (v ∷ [], (sliceVal (l, 0) 8 ∷ [], tt))), tt)
 
-    asks : Sq W ((‵ Own ⊛ ‵ Lent) ∷ ((‵ (flft κ q) ⊛ ‵ ftrue) ⊛ ‵ (flft (ν ∷ []) fullShare)) ∷ [])
-        (prop (Reads 𝓤 H A at-mem run .pre to))
+    asks : Sq W ((‵ Own ⊛ ‵ Lent) ∷ (‵ (flft κ q) ⊛ ‵ (flft (ν ∷ []) fullShare)) ∷ []) (prop (Reads .pre to))
     asks =
-        split ! $ kit.nothing ! $ fjoins ! 1 refl $ fjoins ! 0 refl $
-        move ! (1 ∷ []) $ split ! $ split ! $ move ! (2 ∷ 1 ∷ []) $ join ! $ joins ! 0 refl $ join ! $ frame ! $ done !
+        split ! $ nothing ! $ fjoins ! 1 refl $ fjoins ! 0 refl $
+        move ! (1 ∷ []) $ split ! $ nothing ! $ joins ! 1 refl $ joins ! 0 refl $ join ! $ frame ! $ done !
 
     -- what the contract of `read` says of its answer m and of the list after it
     abbrev Said : Answer → List UnitRecord → Type 0
@@ -107,67 +115,48 @@ module _ {M : Type 1} (𝓤 : URA M) (H : Heap 𝓤) (A : Atoms 𝓤) (W : kit.G
         kit.heard ! (Said m (ws .1 .0)) (λ e. fsplit ! $ move ! (1 ∷ []) $ fsplit ! $ fsplit ! $ keep ! (0 ∷ []) $
         kit.show ! (λ (zs : List UnitRecord). guard 𝓤 (Said m zs) (sem 𝓤 H A (finally U.the-row δ zs))) (ws .1 .0) $ kit.check ! e $ done !)
 
-  module _ (C : kit.Calls 𝓤 H) (Λ : kit.Loops 𝓤 H) (fm : kit.FmC 𝓤 H (W .laws) C)
-      (known : kit.Triple 𝓤 (C read.Symbol.name) (Reads 𝓤 H A at-mem run)) where
-    walk : kit.ent 𝓤 (kit.onEntry 𝓤 H A eight.signature (κ, tt) (q, tt) a vals)
-        (kit.WpFn 𝓤 H C Λ code.function (v ∷ U′.lowered mark ∷ []) Post)
-    walk =
-        qed W ((‵ (flft κ q) ⊛ ‵ ftrue) ∷ ‵ (kit.owns (kit.ShrSlice (named 0) κ u8 ∷ U.the-row ∷ []) a vals) ∷ []) ∵ move ! (1 ∷ []) $
-        fsplit ! $ keep ! (2 ∷ 0 ∷ []) $
-        enters ! C Λ code.function (v ∷ U′.lowered mark ∷ []) _ (λ bs.
-        (sliced s-fits, (LL.lawful U.the-type U′.the-laws 𝓤 H A W .typed mark _ is-mark .0, tt))) (λ bs.
-        let array : ℕ = bs .1 .1 .1 .0 in
-        sets ! 6 (kit.rep ! 8 (var ! 8 refl)) refl (array-lawful 𝓤 H A W U.the-row (LL.lawful U.the-type U′.the-laws 𝓤 H A W)
-        8 .typed marks _ is-marks .0) $
-        sets ! 2 (kit.addr ! (kit.from ! (kit.stop !))) refl (tt, tt) $
-        sets ! 0 (kit.agg ! (arg ! 2 refl (kit.and-then ! (lit ! tt) (kit.no-more !)))) refl (sliced (lit< tt)) $
-        -- the array is lent for a lifetime ν of the call
-        move ! (6 ∷ []) $ kit.owned ! (Array U.the-row 8) (Is (Array U.the-row 8))
-        (array-makes 𝓤 H A W U.the-row (LL.makes U.the-type U′.the-plain 𝓤 H A) 8) marks _ is-marks $ move ! (1 ∷ 0 ∷ []) $
-        use2 W (‵ (kit.cells (mem U.the-row) marks array 0)) (array-out 𝓤 H A W U.the-row 8 marks array tt v₀) $
-        kit.lft-new ! tt (λ ν. move ! (1 ∷ []) $
-        use1 W (later (kit.some (λ (δ : GName). ‵ (Lent array ν δ) ⊛ ‵ (kit.flent (ν ∷ []) (kit.Held U.the-row 8 array 0 δ)))))
-        (kit.lends-slice 𝓤 H A W U.the-row (named 1) (ν ∷ []) marks array 0 (lit< tt, lit< tt)) $ await ! tt $ kit.pick ! (λ δ. split ! $
-        -- [the slice; what comes back; the token of ν; the locals, _6 first, without the cell of _3; the token of s; what s owns]
-        move ! (17 ∷ []) $ copies ! (named 0) κ u8 s (v ∷ []) $ move ! (18 ∷ 4 ∷ []) $ join ! $ move ! (1 ∷ 3 ∷ []) $ join ! $
-        use2 W (raw (Reads 𝓤 H A at-mem run .pre (to array ν δ))) (asks array ν δ .prf) $
-        calls-ends ! fm read.ended (read.clauses 𝓤 H A at-mem run) known (to array ν δ) ans (λ (zs : List UnitRecord). zs ≡ listAfter xs marks)
-        (λ zs. finally U.the-row δ zs) (λ m ws. gives array ν δ m ws .prf) (LL.vals N.the-type N′.the-laws) (LL.tells N.the-type N′.the-laws)
-        (arg ! 12 refl (arg ! 3 refl (kit.no-more !))) (λ zs e is.
-        use1 W (‵ (flft κ q) ⊛ ‵ (flft (ν ∷ []) fullShare) ⊛ ‵ ftrue) (kit.id⊢ 𝓤 _) $
-        lands-in ! 8 refl (LL.lawful N.the-type N′.the-laws 𝓤 H A W .typed ans _ is .0) $
-        -- the lifetime is ended, and the array is back
-        split ! $ move ! (1 ∷ []) $ split ! $ kit.lft-end ! tt $ move ! (0 ∷ 5 ∷ 3 ∷ []) $
-        kit.use3 W (later (‵ (kit.Arr (mem U.the-row) 8 .lies zs array 0))) (kit.slice-back 𝓤 H A W U.the-row (ν ∷ []) δ zs 8 array 0) $ await ! tt $
-        fsplit ! $
-        kit.feqL ! (λ len.
-        use1 W (‵ (kit.fat fullShare (kit.tyArray U′.mir 8) array 0 (low zs)) ⊛ ‵ (Array U.the-row 8 .own zs (low zs ∷ [])))
-        (array-in 𝓤 H A W U.the-row 8 zs array (LL.vals U.the-type U′.the-laws) (LL.tells U.the-type U′.the-laws) len) $ split ! $
-        move ! (1 ∷ []) $ kit.peeks ! (Array U.the-row 8) (Is (Array U.the-row 8)) (kit.shows 𝓤 H A (Array U.the-row 8)) zs (low zs ∷ []) (λ is-zs.
-        move ! (1 ∷ 0 ∷ []) $
-        -- [_3; what it owns; true; the token of s; what s owns; the other locals]
-        sets ! 16 (kit.of-opd ! (var ! 0 refl)) refl
-        (array-lawful 𝓤 H A W U.the-row (LL.lawful U.the-type U′.the-laws 𝓤 H A W) 8 .typed zs _ is-zs .0) $
-        kit.returns ! (kit.look ! 16 refl) $ move ! (1 ∷ 2 ∷ 3 ∷ 4 ∷ 5 ∷ 6 ∷ 7 ∷ 8 ∷ 9 ∷ 10 ∷ 0 ∷ []) $ leaves ! 4 refl refl $
-        (exits zs e)))))))
+  walk : Walk 𝓤 H 𝓜 𝓖 𝓡 code.env code.function eight.ended params clauses y
+  walk bs =
+      -- [the token of s; what s owns; what the mark owns; the locals]
+      let array : ℕ = bs .1 .1 .1 .0 in
+      move ! (2 ∷ []) $ let-go ! $
+      sets ! 8 (kit.rep ! 8 (var ! 10 refl)) refl (array-lawful 𝓤 H A W U.the-row (LL.lawful U.the-type U′.the-laws 𝓤 H A W)
+      8 .typed marks _ is-marks .0) $
+      sets ! 4 (kit.addr ! (kit.from ! (kit.stop !))) refl (tt, tt) $
+      sets ! 2 (kit.agg ! (arg ! 4 refl (kit.and-then ! (lit ! tt) (kit.no-more !)))) refl (sliced (lit< tt)) $
+      -- the array is lent for a lifetime ν of the call
+      move ! (8 ∷ []) $ kit.owned ! (Array U.the-row 8) (Is (Array U.the-row 8))
+      (array-makes 𝓤 H A W U.the-row (LL.makes U.the-type U′.the-plain 𝓤 H A) 8) marks _ is-marks $ move ! (1 ∷ 0 ∷ []) $
+      use2 W (‵ (kit.cells (mem U.the-row) marks array 0)) (array-out 𝓤 H A W U.the-row 8 marks array tt v₀) $
+      kit.lft-new ! tt (λ ν. move ! (1 ∷ []) $
+      use1 W (later (kit.some (λ (δ : GName). ‵ (Lent array ν δ) ⊛ ‵ (kit.flent (ν ∷ []) (kit.Held U.the-row 8 array 0 δ)))))
+      (kit.lends-slice 𝓤 H A W U.the-row (named 1) (ν ∷ []) marks array 0 (lit< tt, lit< tt)) $ await ! tt $ kit.pick ! (λ δ. split ! $
+      -- [the slice; what comes back; the token of ν; the token of s; what s owns; the locals, _6 first, without the cell of _3]
+      move ! (4 ∷ []) $ copies ! (named 0) κ u8 s (v ∷ []) $ move ! (5 ∷ 4 ∷ []) $ join ! $ move ! (1 ∷ 3 ∷ []) $ join ! $
+      use2 W (raw (Reads .pre (to array ν δ))) (asks array ν δ .prf) $
+      calls-ends ! (kit.fmOf 𝓤 H (W .laws) (𝓣of 𝓤 H 𝓜 𝓖 𝓡 code.env)) read.ended (read.clauses 𝓤 H A (𝓜 .mem) (𝓡 .run))
+      (cites 𝓤 H 𝓜 𝓖 𝓡 code.env code.calls-read·read (read.Met.met 𝓤 H 𝓜 𝓖 𝓡)) (to array ν δ) ans (λ (zs : List UnitRecord). zs ≡ listAfter xs marks)
+      (λ zs. finally U.the-row δ zs) (λ m ws. gives array ν δ m ws .prf) (LL.vals N.the-type N′.the-laws) (LL.tells N.the-type N′.the-laws)
+      (arg ! 12 refl (arg ! 3 refl (kit.no-more !))) (λ zs e is.
+      use1 W (‵ (flft κ q) ⊛ ‵ (flft (ν ∷ []) fullShare) ⊛ ‵ ftrue) (kit.id⊢ 𝓤 _) $
+      lands-in ! 8 refl (an-answer .typed 𝓤 H A W ans is) $
+      -- the lifetime is ended, and the array is back
+      split ! $ move ! (1 ∷ []) $ split ! $ kit.lft-end ! tt $ move ! (0 ∷ 5 ∷ 3 ∷ []) $
+      kit.use3 W (later (‵ (kit.Arr (mem U.the-row) 8 .lies zs array 0))) (kit.slice-back 𝓤 H A W U.the-row (ν ∷ []) δ zs 8 array 0) $ await ! tt $
+      fsplit ! $
+      kit.feqL ! (λ len.
+      use1 W (‵ (kit.fat fullShare (kit.tyArray U′.mir 8) array 0 (low zs)) ⊛ ‵ (Array U.the-row 8 .own zs (low zs ∷ [])))
+      (array-in 𝓤 H A W U.the-row 8 zs array (LL.vals U.the-type U′.the-laws) (LL.tells U.the-type U′.the-laws) len) $ split ! $
+      move ! (1 ∷ []) $ kit.peeks ! (Array U.the-row 8) (Is (Array U.the-row 8)) (kit.shows 𝓤 H A (Array U.the-row 8)) zs (low zs ∷ []) (λ is-zs.
+      move ! (1 ∷ 0 ∷ []) $
+      -- [_3; what it owns; true; the token of s; what s owns; the other locals]
+      sets ! 16 (kit.of-opd ! (var ! 0 refl)) refl
+      (array-lawful 𝓤 H A W U.the-row (LL.lawful U.the-type U′.the-laws 𝓤 H A W) 8 .typed zs _ is-zs .0) $
+      kit.returns ! (kit.look ! 16 refl) $ move ! (1 ∷ 2 ∷ 3 ∷ 4 ∷ 5 ∷ 6 ∷ 7 ∷ 8 ∷ 9 ∷ 10 ∷ 0 ∷ []) $ leaves ! 4 refl refl $
+      exits zs e)))))
 
 pub read-eight-spec : {M : Type 1} → eight.Statement.statement M
-unfolding code.routine tablesOf
+unfolding code.routine
 read-eight-spec 𝓤 H 𝓜 𝓖 𝓡 =
-    let W = givenOf 𝓤 H 𝓜 𝓖 in
-    let T = 𝓣of 𝓤 H 𝓜 𝓖 𝓡 code.env in
-    let A = 𝓖 .A in
-    proved-by 𝓤 H 𝓜 𝓖 𝓡 code.env eight.Key.name code.function (code.unfolded 𝓤 H 𝓜 𝓡) eight.ended stayed
-    (eight.clauses 𝓤 H A (𝓜 .mem) (𝓡 .run)) (
-      kit.goes-none-slice 𝓤 H A W 1 (0 ∷ []) tt (plain (λ _. u8)) yes,
-      (kit.goes-none 𝓤 H A W 1 (λ _. U.the-row) yes (λ κs x f. refl), tt),
-    )
-    (λ κs. (kit.slice-vals, (LL.vals U.the-type U′.the-laws, tt)))
-    (λ κs. (kit.shr-slice-tells (named 0) (κs .0) u8, (LL.tells U.the-type U′.the-laws, tt)))
-    (λ κs qs bounds a g are. kit.via 𝓤 _ (kit.fst∗ 𝓤 _ (kit.emp 𝓤)) (walk 𝓤 H A W (𝓜 .mem) (𝓡 .run)
-    (κs .0)
-    (qs .0) (a .0) (a .1 .0) (are .0 .0 .1 .0) (are .1 .0)
-    (T .C) (T .Λ)
-    (kit.fmOf 𝓤 H (W .laws) T)
-    (kit.cited 𝓤 H (Reads 𝓤 H A (𝓜 .mem) (𝓡 .run)) 𝓜 𝓡 code.env read.Symbol.name read.Symbol.routine code.calls-read·read
-    (read.Met.met 𝓤 H 𝓜 𝓖 𝓡))))
+    walk-in 𝓤 H 𝓜 𝓖 𝓡 code.env code.function eight.ended params (eight.clauses 𝓤 H (𝓖 .A) (𝓜 .mem) (𝓡 .run)) eight.Key.name
+    (code.unfolded 𝓤 H 𝓜 𝓡) (λ κs a bs fit. fit) (λ κs qs bounds a g are. walk 𝓤 H 𝓜 𝓖 𝓡 (κs .0) (qs .0) (a .0) (a .1 .0) (are .1 .0))
