@@ -91,6 +91,7 @@ up-to-both m n f t x k h l = up-to n (f x) (up-to m (λ y. upTo n (f y)) t x h) 
 pub up-to-where : (n : ℕ) (p q : ℕ → Bool) → upTo n (λ y. implies (p y) (q y)) ≡ true → (k : ℕ) → k < n → p k ≡ true → q k ≡ true
 up-to-where n p q t k h e = implies-elim (p k) (q k) (up-to n (λ y. implies (p y) (q y)) t k h) e
 
--- for `search` and `omega`: what tests say, also where they are put together by `&&`; and what tests answer
+-- what tests of numbers say, for `omega`; for `search` also where tests are put together by `&&`; and what tests of numbers answer
+pub ruleset tested = (arith, eqb-true, eqb-false, leb-true, leb-false, ltb-true, ltb-false)
 pub ruleset from-tests = (and-left, and-right, not-true, not-false, eqb-true, eqb-false, leb-true, leb-false, ltb-true, ltb-false)
 pub ruleset to-tests = (eq-eqb, ne-eqb, le-leb, lt-leb, lt-ltb, le-ltb)

@@ -2,7 +2,7 @@
 -- its first place and the rest stays (`accepted-output`), which is the string of rule W4 (`output-chosen`, `output-one`) and
 -- is accepted and reads as the list (`output-read`). Its length stays (`output-length`). And 1 for the writing comes exactly where every
 -- string of the reading is over the limit (`over-limit`).
-use Prim.Native.Nat.{ℕ, _+_, _-_, _≤_, _<_}
+use Prim.Native.Nat.{ℕ, _<_}
 use native.Mathlib.Omega.{arith}
 use mathlib.Core.Path.{_≡_, sym, ap, ap₂, _∙_, subst}
 use mathlib.Core.List.{List, _++_}
@@ -12,7 +12,6 @@ use lib.ListN.{length, take, drop, length-append, length-drop}
 use lib.Seq.{take-append-seam}
 use lib.Dec.{eqb}
 use borrow.Author.Tests.{eqb-true, eqb-false, eq-eqb, ne-eqb}
-use Rattle.base.specs.Answers.{answer}
 use Rattle.base.specs.Limit as limit
 use Rattle.base.specs.Refusal as refusal
 use Rattle.base.specs.declared.Answer.{Answer}

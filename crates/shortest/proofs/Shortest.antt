@@ -1,6 +1,6 @@
 -- The writing of good units that keep the direction rule is accepted and reads as them (`writing-read`), no accepted string of that
 -- reading is shorter than its cost (`no-shorter`), and demand 3 holds of the answer and the output over units (`demand3`).
-use Prim.Native.Nat.{ℕ, _+_, _≤_}
+use Prim.Native.Nat.{ℕ, _≤_}
 use native.Mathlib.Omega.{arith}
 use mathlib.Core.Path.{_≡_, refl, sym, ap, _∙_, subst}
 use mathlib.Core.Bool.{Bool, true, false, cond}
