@@ -137,39 +137,38 @@ module _ (s : Sets) where
 
   -- ---- extended segments
 
-  held : (e m l n : ℕ) (t : List ℕ) → 0x30 ≤ e → e < 0x35 → 128 ≤ m → m < 256 → 128 ≤ l → l < 256 → n ≡ (m - 128) * 128 + (l - 128) → n ≤ length t
-      → segment e 0 (take n t) ≡ true → Sound s (0x1B ∷ 0x25 ∷ 0x2F ∷ e ∷ m ∷ l ∷ t) (Gives (segmentPart e n (textOctets (take n t))))
-  unfolding octets good unitAt unitOf
-  held e m l n t le ge lm gm ll gl en h g =
-      finds {p = segmentPart e n (textOctets (take n t))} (ext e (take n t)) GL (drop n t)
-      (record {
-        fit = rw (le-leb 0x30 e le, le-leb e 0x34 (omega arith), le-leb (length (take n t)) 16383 (omega (arith, count)), g);
-        shows = tt;
-        are = λ i. 0x1B ∷ 0x25 ∷ 0x2F ∷ e ∷ high i ∷ low i ∷ sym (take-append-drop n t) i;
-        size = omega (arith, count);
-        unit = refl;
-        kind = refl;
-        text = refl;
-      })
-    where
-      count : length (take n t) ≡ n
-      count = length-take-le n t h
+  module _ (e m l n : ℕ) (t : List ℕ) (le : 0x30 ≤ e) (ge : e < 0x35) (lm : 128 ≤ m) (gm : m < 256) (ll : 128 ≤ l) (gl : l < 256)
+      (en : n ≡ (m - 128) * 128 + (l - 128)) where
+    held : n ≤ length t → segment e 0 (take n t) ≡ true → Sound s (0x1B ∷ 0x25 ∷ 0x2F ∷ e ∷ m ∷ l ∷ t) (Gives (segmentPart e n (textOctets (take n t))))
+    unfolding octets good unitAt unitOf
+    held h g =
+        finds {p = segmentPart e n (textOctets (take n t))} (ext e (take n t)) GL (drop n t)
+        (record {
+          fit = rw (le-leb 0x30 e le, le-leb e 0x34 (omega arith), le-leb (length (take n t)) 16383 (omega (arith, count)), g);
+          shows = tt;
+          are = λ i. 0x1B ∷ 0x25 ∷ 0x2F ∷ e ∷ high i ∷ low i ∷ sym (take-append-drop n t) i;
+          size = omega (arith, count);
+          unit = refl;
+          kind = refl;
+          text = refl;
+        })
+      where
+        count : length (take n t) ≡ n
+        count = length-take-le n t h
 
-      high : m ≡ 128 + length (take n t) / 128
-      high = omega (arith, count)
+        high : m ≡ 128 + length (take n t) / 128
+        high = omega (arith, count)
 
-      low : l ≡ 128 + length (take n t) % 128
-      low = omega (arith, count)
+        low : l ≡ 128 + length (take n t) % 128
+        low = omega (arith, count)
 
-  sound-body : (e m l n : ℕ) (t : List ℕ) → 0x30 ≤ e → e < 0x35 → 128 ≤ m → m < 256 → 128 ≤ l → l < 256 → n ≡ (m - 128) * 128 + (l - 128)
-      → Sound s (0x1B ∷ 0x25 ∷ 0x2F ∷ e ∷ m ∷ l ∷ t) (bodyOf e n t)
-  unfolding bodyOf
-  sound-body e m l n t le ge lm gm ll gl en =
-      by (leb n (length t))
-      (λ q. let h = leb-true n (length t) q in
-      subst (Sound s (0x1B ∷ 0x25 ∷ 0x2F ∷ e ∷ m ∷ l ∷ t)) (sym (content e n (take n t) 0 (let z : n ≡ 0 + length (take n t) = omega (arith, length-take-le n t h) in z)))
-      (by (segment e 0 (take n t)) (λ g. held e m l n t le ge lm gm ll gl en h g) (λ _. no)))
-      (λ _. no)
+    sound-body : Sound s (0x1B ∷ 0x25 ∷ 0x2F ∷ e ∷ m ∷ l ∷ t) (bodyOf e n t)
+    unfolding bodyOf
+    sound-body =
+        by (leb n (length t))
+        (λ q. let h = leb-true n (length t) q in
+        rw (content e n (take n t) 0 (omega (arith, length-take-le n t h))) (by (segment e 0 (take n t)) (λ g. held h g) (λ _. no)))
+        (λ _. no)
 
   sound-lengths : (e : ℕ) (t : List ℕ) → 0x30 ≤ e → e < 0x35 → Octets t → Sound s (0x1B ∷ 0x25 ∷ 0x2F ∷ e ∷ t) (lengthsOf e t)
   unfolding lengthsOf next
