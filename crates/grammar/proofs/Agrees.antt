@@ -121,7 +121,7 @@ ends-empty (b ∷ t) at st e = go (elementOf (b ∷ t) st) refl e
     go (Found p next) q e = clash (cc)
 
 module _ (s : List ℕ) (o : Octets s) where
-  octets-from : (at : ℕ) → Octets (from at s)
+  pub octets-from : (at : ℕ) → Octets (from at s)
   unfolding from
   octets-from at i = rw (getD-drop at s i 0) (o (at + i))
 

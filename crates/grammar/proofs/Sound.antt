@@ -58,7 +58,7 @@ front : (form : ℕ) (d : Side) (x : ℕ) (t : List ℕ) → lead form d (x ∷ 
 front form GL x t = test (eqb form 3) (λ e. rw e) (λ e. rw e)
 front form GR x t = test (eqb form 3) (λ e. rw e) (λ e. test (eqb form 2) (λ f. rw (e, f)) (λ f. rw (e, f)))
 
-lead-size : (form : ℕ) (d : Side) (x : ℕ) (b : Bool) → eqb form 3 ≡ b → length (lead form d (x ∷ [])) ≡ cond b 4 3
+pub lead-size : (form : ℕ) (d : Side) (x : ℕ) (b : Bool) → eqb form 3 ≡ b → length (lead form d (x ∷ [])) ≡ cond b 4 3
 lead-size form GL x true e = rw e
 lead-size form GL x false e = rw e
 lead-size form GR x true e = rw e
