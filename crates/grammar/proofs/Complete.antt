@@ -1,7 +1,6 @@
 -- Each element of the grammar is one that the reader's definition takes.
-use Prim.Native.Nat.{ℕ, zero, suc, _+_, _*_, _-_, _/_, _%_, _≤_, _<_}
+use Prim.Native.Nat.{ℕ, _+_, _*_, _-_, _/_, _%_, _≤_, _<_}
 use native.Mathlib.Omega.{arith}
-use native.Mathlib.Nat.{not-suc-le-zero, le-of-suc-le-suc}
 use mathlib.Core.Path.{_≡_, refl, sym, ap, _∙_, subst}
 use mathlib.Core.Bool.{Bool, true, false, cond, _&&_}
 use mathlib.Core.List.{List, _∷_, _++_}
@@ -10,7 +9,7 @@ use lib.ListN.{length, length-append}
 use lib.Seq.{take-append-seam}
 use borrow.Author.Tests.{lt-ltb, le-ltb, le-leb, ne-eqb, eq-eqb}
 use Rattle.base.specs.Choice.{pick}
-use Rattle.base.proofs.Bools.{and-left, and-right, off, test, cond-by, from-tests, tested}
+use Rattle.base.proofs.Bools.{Each, _&_, each, and-left, and-right, off, test, cond-by, from-tests, tested}
 use Rattle.charset.specs.declared.Side.{Side}
 use Rattle.charset.specs.declared.Side.the-variants.{GL, GR}
 use Rattle.charset.specs.Charsets.{mayUse, allowed, formOf, fitsOf, find, setOf}
@@ -31,20 +30,6 @@ use Rattle.grammar.specs.Reading.{unitAt}
 use Rattle.grammar.proofs.Segment.{content}
 use Rattle.grammar.proofs.Good.{good-segment}
 use Rattle.grammar.proofs.Sound.{graphic-low}
-
--- a rule of the first n numbers, one by one
-abbrev Each : ℕ → (ℕ → Type 0) → Type 0
-Each zero P = Unit {0}
-Each (suc n) P = P 0 × Each n (λ c. P (suc c))
-
-infixr 20 _&_
-_&_ : {A B : Type 0} → A → B → A × B
-_&_ a b = (a, b)
-
-each : (n : ℕ) (P : ℕ → Type 0) → Each n P → (c : ℕ) → c < n → P c
-each zero P a c h = absurd (not-suc-le-zero h)
-each (suc n) P a zero h = a .0
-each (suc n) P a (suc c) h = each n (λ m. P (suc m)) (a .1) c (le-of-suc-le-suc h)
 
 module _ (s : Sets) where
   -- ---- designations
