@@ -13,6 +13,7 @@ use Rattle.base.specs.Answers.{answer, refusedAt}
 use Rattle.base.specs.Limit as limit
 use Rattle.base.specs.Refusal as refusal
 use Rattle.base.specs.declared.Answer.{Answer}
+use Rattle.base.proofs.Bools.{clash, tested}
 use Rattle.state.specs.State.{fresh}
 use Rattle.state.specs.declared.Sets.{Sets}
 use Rattle.grammar.specs.Units.{TextUnit, octets, designation}
@@ -104,20 +105,20 @@ demand3 us t₀ out r = go (ltb limit.octets n) (ltb (length out) n) refl refl
 
     go : (x y : Bool) → ltb limit.octets n ≡ x → ltb (length out) n ≡ y
         → Demand3 us out (result x y) (cond (eqb (result x y .number) refusal.accepted) (w ++ drop n out) out)
-    go true y ex ey = absurd (let l = ltb-true limit.octets n ex in omega (arith, no-shorter-accepted a, a .short))
+    go true y ex ey = absurd (omega (tested, no-shorter-accepted a, a .short))
     go false true ex ey =
         let l = ltb-true (length out) n ey in
         record {
           room = (λ e t b. omega (arith, best .least t b), λ h. refl);
           two = λ m. absurd (m refl);
-          gives = λ e. absurd (let z : _≡_ {A = ℕ} 10 0 = e in omega arith);
+          gives = λ e. clash (cc);
           needs = λ e. (w, best);
         }
     go false false ex ey =
         let l = ltb-false (length out) n ey in
         record {
-          room = (λ e. absurd (let z : _≡_ {A = ℕ} 0 10 = e in omega arith), λ h. absurd (omega (arith, h w (best .accepted), best .count)));
+          room = (λ e. clash (cc), λ h. absurd (omega (arith, h w (best .accepted), best .count)));
           two = λ m. refl;
           gives = λ e. subst (Least us n) (sym (ap (λ (m : ℕ). take m (w ++ drop n out)) (sym (best .count)) ∙ take-append-seam w (drop n out))) best;
-          needs = λ e. absurd (let z : _≡_ {A = ℕ} 0 10 = e in omega arith);
+          needs = λ e. clash (cc);
         }
