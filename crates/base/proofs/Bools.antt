@@ -107,5 +107,7 @@ each (suc n) P a (suc c) h = each n (λ m. P (suc m)) (a .1) c (le-of-suc-le-suc
 
 -- what tests of numbers say, for `omega`; for `search` also where tests are put together by `&&`; and what tests of numbers answer
 pub ruleset tested = (arith, eqb-true, eqb-false, leb-true, leb-false, ltb-true, ltb-false)
+
 pub ruleset from-tests = (and-left, and-right, not-true, not-false, eqb-true, eqb-false, leb-true, leb-false, ltb-true, ltb-false)
+
 pub ruleset to-tests = (eq-eqb, ne-eqb, le-leb, lt-leb, lt-ltb, le-ltb)

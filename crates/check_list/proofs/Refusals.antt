@@ -123,4 +123,3 @@ module _ (o : List ℕ) (e s n : ℕ) (d : Directions) where
         pub part-bad : ((p : Part) → x ≡ Gives p → ⊥) → Stops refusal.bad-segment ≡ partFault
         unfolding pick
         part-bad never = test (segment e 0 part) (λ b. absurd (never _ (rw b at by-content))) (judged false)
-
