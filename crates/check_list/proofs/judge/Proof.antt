@@ -13,15 +13,15 @@ judge-spec =
     tie.close
     (tie.spec
     (search needs)
-    (λ c. c .character .ensures ∙ kind-character _ _ _ (c .before .if1 .taken))
+    (λ c. c .character .ensures ∙ search kind-character)
     (search needs)
     (search needs)
     (λ c. let args = c .before .before .before .before .before .args in
     c .step .ensures
     ∙ ap (λ (t : Bool). stepOf t (args .unit .kind) (args .directions)) (c .before .counts-as-text .ensures)
-    ∙ kind-plain _ _ _ (c .before .before .before .if1 .left) (c .before .before .if2 .taken))
+    ∙ search kind-plain)
     (search needs)
     (search needs)
     (search needs)
-    (λ c. c .segment .ensures ∙ kind-segment _ _ _ (c .before .before .before .if3 .taken))
+    (λ c. c .segment .ensures ∙ search kind-segment)
     (λ c. kind-none _ _ _ (omega (arith, c .before .if2 .left, c .if3 .left))))

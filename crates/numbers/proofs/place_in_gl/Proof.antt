@@ -10,7 +10,7 @@ place-in-gl-spec =
     (tie.spec
     (λ c. search needs)
     (λ c. search needs)
-    (λ c. gl-none _ (c .before .before .if1 .taken) (c .before .if2 .left) (c .if3 .left))
+    (λ c. search gl-none)
     (search needs)
-    (λ c. gl-two _ (c .before .if1 .left) (c .if4 .taken))
-    (λ c. gl-other _ (c .if4 .left)))
+    (λ c. search gl-two)
+    (λ c. search gl-other))

@@ -9,7 +9,7 @@ place-in-gr-spec =
     tie.close
     (tie.spec
     (λ c. search needs)
-    (λ c. gr-none _ (c .before .if1 .taken) (c .if2 .left))
+    (λ c. search gr-none)
     (search needs)
-    (λ c. gr-most _ (c .before .if1 .left) (c .if3 .taken))
-    (λ c. gr-other _ (c .if3 .left)))
+    (λ c. search gr-most)
+    (λ c. search gr-other))

@@ -1,6 +1,6 @@
 -- `pieces::piece_at` meets its contract, element by element; an element's octets lie in the string.
 use native.Mathlib.Omega.{arith}
-use mathlib.Core.Path.{refl, sym, _∙_}
+use mathlib.Core.Path.{sym, _∙_}
 use Rattle.pieces.specs.Pieces.{pieceOf}
 use Rattle.element.proofs.Sizes.{silent, found}
 use Rattle.pieces.proofs.Step.{fits, on-past, as-piece}
@@ -14,7 +14,7 @@ piece-at-spec =
     tie.close
     (tie.spec
     (search needs)
-    (λ c. on-past _ _ _ _ (c .before .if1 .taken) (c .no-piece .ensures))
+    (λ c. search on-past)
     (search needs)
     (search needs)
     (search needs)
@@ -27,7 +27,7 @@ piece-at-spec =
     (λ c. let h = fits _ _ _ found (sym (c .before .before .before .before .element .ensures) ∙ c .before .before .e3 .given .1) in omega arith)
     (λ c. let h = fits _ _ _ found (sym (c .before .before .before .before .element .ensures) ∙ c .before .before .e3 .given .1) in omega arith)
     (search needs)
-    (λ c. as-piece _ _ _ _ _ _ (c .before .before .before .element .ensures) (c .before .enum-told .given .1) (c .no-piece2 .ensures))
-    (λ c. as-piece _ _ _ _ _ _ (c .before .before .before .before .element .ensures) (c .before .before .e .given .1) (c .no-piece3 .ensures))
-    (λ c. as-piece _ _ _ _ _ _ (c .before .before .before .element .ensures) (c .before .e2 .given .1) refl)
+    (λ c. search as-piece)
+    (λ c. search as-piece)
+    (λ c. search as-piece)
     (λ c. as-piece _ _ _ _ _ _ (c .before .before .before .before .before .element .ensures) (c .before .before .before .e3 .given .1) (cc)))

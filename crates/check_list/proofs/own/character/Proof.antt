@@ -28,4 +28,4 @@ character-spec =
     let form = ap (λ (f : ℕ). codeUsed f (args .code)) (sym (c .before .before .form-of .ensures)) in
     let used : codeUsed (formOf (args .set)) (args .code) ≡ false = form ∙ sym (c .before .code-used .ensures) ∙ c .if2 .left in
     code-unused (args .set) (args .code) (args .directions) (c .before .before .before .if1 .taken) used)
-    (λ c. set-none _ _ _ (c .if1 .left)))
+    (λ c. search set-none))

@@ -1,6 +1,7 @@
 -- `check_list::own::code_used` meets its contract, form by form.
 use mathlib.Core.Path.{sym, _∙_}
-use borrow.Author.Tests.{eq-eqb, ne-eqb, lt-leb, le-leb}
+use borrow.Author.Tests.{eq-eqb, ne-eqb}
+use Rattle.base.proofs.Bools.{to-tests}
 use Rattle.grammar.specs.Units.{codeUsed}
 use borrow.Author.Needs.{needs}
 use Rattle.check_list.proofs.own.code_used.Statement.{statement}
@@ -15,7 +16,7 @@ code-used-spec =
     (search needs)
     (λ c. simp (eq-eqb _ _ (c .before .before .before .if1 .taken), sym (c .before .before .graphic .ensures) ∙ c .before .if2 .taken) (c .graphic2 .ensures))
     (λ c. simp (eq-eqb _ _ (c .before .before .if1 .taken), sym (c .before .graphic .ensures) ∙ c .if2 .left))
-    (λ c. simp (ne-eqb _ _ (c .before .before .if1 .left), eq-eqb _ _ (c .before .if3 .taken), lt-leb _ _ (c .if4 .taken)))
-    (λ c. simp (ne-eqb _ _ (c .before .before .if1 .left), eq-eqb _ _ (c .before .if3 .taken), le-leb _ _ (c .if4 .left)))
+    (λ c. search to-tests)
+    (λ c. search to-tests)
     (search needs)
     (λ c. simp (ne-eqb _ _ (c .before .before .if1 .left), ne-eqb _ _ (c .before .if3 .left)) (c .graphic3 .ensures)))

@@ -13,11 +13,9 @@ segment-spec =
     (tie.spec
     (λ c. part-outside (c .before .before .args .segments .now) _ _ _ _ (omega (arith, c .if1 .taken)))
     (λ c. part-outside (c .before .before .before .args .segments .now) _ _ _ _ (omega (arith, c .before .if1 .left, c .if2 .taken)))
-    (λ c. part-low (c .before .before .before .before .args .segments .now) _ _ _ _ (c .before .before .if1 .left) (c .before .if2 .left) (c .if3 .taken))
-    (λ c. part-high (c .before .before .before .before .before .args .segments .now) _ _ _ _ (c .before .before .before .if1 .left) (c .before .before .if2 .left)
-    (c .before .if3 .left) (c .if4 .taken))
-    (λ c. part-many (c .before .before .before .before .before .before .args .segments .now) _ _ _ _ (c .before .before .before .before .if1 .left)
-    (c .before .before .before .if2 .left) (c .before .before .if3 .left) (c .before .if4 .left) (c .if5 .taken))
+    (λ c. search part-low)
+    (λ c. search part-high)
+    (λ c. search part-many)
     (search needs)
     (search needs)
     (search needs)
@@ -32,8 +30,4 @@ segment-spec =
     (c .before .content .result) _ (c .before .before .name-end .ensures) (c .before .content .ensures)
     (λ p q. ⊎-elim (λ z. omega (arith, z)) (⊎-elim (λ z. omega (arith, z)) (λ z. omega (arith, z))) (rw q at (c .match .keys2))))
     (search needs)
-    (λ c. let few = c .before .before .before .before .before .before .before in
-    c .step .ensures
-    ∙ part-found (few .before .before .before .before .before .before .args .segments .now) _ _ _ _ (few .before .before .before .before .if1 .left)
-    (few .before .before .before .if2 .left) (few .before .before .if3 .left) (few .before .if4 .left) (few .if5 .left)
-    _ _ (c .before .before .before .before .before .name-end .ensures) (c .before .before .before .before .content .ensures) _ (c .before .before .shape .given .1)))
+    (λ c. c .step .ensures ∙ search part-found))
