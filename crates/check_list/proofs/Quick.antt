@@ -2,7 +2,7 @@
 -- direction. A space by its kind; a character since the bounds of its set's octets are those of the codes that the set uses.
 use Prim.Native.Nat.{ℕ, _+_, _-_, _*_, _/_, _%_, _≤_, _<_}
 use native.Mathlib.Omega.{arith}
-use mathlib.Core.Path.{_≡_, refl, sym, ap, subst, _∙_}
+use mathlib.Core.Path.{_≡_, refl, sym, ap, _∙_}
 use mathlib.Core.Bool.{true, false}
 use mathlib.Core.List.{List}
 use lib.Dec.{eqb, leb, ltb}
@@ -53,8 +53,8 @@ within c k e =
 bounded : (c k t m : ℕ) → Within c k → isDouble c ≡ t → wider c ≡ m
     → ((k % 256 + 223 + m) % 256 ≤ 0x5D + 2 * m) × ((k / 256 + 256 - 0x21 * t) % 256 ≤ 0x5D * t) × (k < 0x10000)
 bounded c k t m w et em = (
-  subst (λ (m : ℕ). (k % 256 + 223 + m) % 256 ≤ 0x5D + 2 * m) em (w .low),
-  subst (λ (t : ℕ). (k / 256 + 256 - 0x21 * t) % 256 ≤ 0x5D * t) et (w .high),
+  rw em at (w .low),
+  rw et at (w .high),
   w .whole,
 )
 

@@ -4,7 +4,7 @@
 use Prim.Native.Nat.{ℕ, zero, suc, _+_, _<_}
 use native.Mathlib.Omega.{arith}
 use mathlib.Core.Path.{_≡_, refl, sym, ap, ap₂, _∙_, subst}
-use mathlib.Core.Bool.{Bool, true, false, cond, _&&_}
+use mathlib.Core.Bool.{Bool, _&&_}
 use mathlib.Core.List.{List, [], _∷_}
 use mathlib.Core.Option.{Option, none, some}
 use mathlib.Core.Logic.{_↔_, _⊎_, inl, inr}
@@ -20,7 +20,6 @@ use Rattle.state.specs.declared.directions.Directions.{Directions}
 use Rattle.state.specs.declared.directions.Step.{Step}
 use Rattle.state.specs.declared.directions.Step.the-variants.{Goes, Stops}
 use Rattle.grammar.specs.Units.{TextUnit, char, space, control, ext, good}
-use Rattle.grammar.specs.Reading.{direct}
 use Rattle.grammar.specs.Records.{unitRead}
 use Rattle.shortest.specs.Records.{own, fault, Finding, fine, faulty, onStep, checkRecords}
 use Rattle.shortest.specs.Offence.{stepTo, directionsAfter, noRecord, faultAt, FirstFrom, FirstOffends, NoneFrom, NoneOffends, Number}
@@ -112,11 +111,7 @@ ruled-pick b h k = pick-by Ruled b (λ _. h) (λ _. k)
 
 ruled : (x : Bool) (kind : ℕ) (d : Directions) → Ruled (stepOf x kind d)
 unfolding stepOf writtenOf begunOf deeperOf revertedOf
-ruled x kind d =
-    let eight : Ruled (Stops refusal.direction) = stops (inl refl) in
-    let deeper : (way : ℕ) → Ruled (deeperOf way d) = λ way. ruled-pick _ goes (stops (inr refl)) in
-    let begun : (way : ℕ) → Ruled (begunOf way d) = λ way. ruled-pick _ (deeper way) (ruled-pick _ eight (deeper way)) in
-    ruled-pick _ (ruled-pick _ (ruled-pick _ eight goes) goes) (ruled-pick _ (begun 0) (ruled-pick _ (begun 1) (ruled-pick _ (ruled-pick _ eight goes) goes)))
+ruled x kind d = search (ruled-pick, goes, stops, inl, inr) depth 9
 
 own-number : (u : TextUnit) → Number (own u)
 own-number (char c k) = inl refl
@@ -125,19 +120,10 @@ own-number (control x) = inl refl
 own-number (ext e xs) = cond-by Number (leb 0x30 e && leb e 0x34) (λ _. inr (inl refl)) (λ _. inl refl)
 
 pub numbers : (x : Option TextUnit) (d : Directions) (n : ℕ) → fault x d ≡ Stops n → Number n
-numbers none d n e =
-    let q : refusal.bad-unit ≡ n = cc in
-    inl (sym q)
-numbers (some u) d n e = go (good u) e
+numbers none d n e = inl (cc)
+numbers (some u) d n e =
+    test (good u) (λ g. step (ruled _ _ d) (rw g at e)) (λ g. subst Number (let q : own u ≡ n = cc (rw g at e) in q) (own-number u))
   where
-    step : (x : Step) → Ruled x → x ≡ Stops n → Number n
-    step (Goes next) r e = clash (cc)
-    step (Stops m) (stops r) e =
-        let q : m ≡ n = cc in
-        subst Number q (inr (inr r))
-
-    go : (b : Bool) → cond b (direct d u) (Stops (own u)) ≡ Stops n → Number n
-    go true e = step (direct d u) (ruled _ _ d) e
-    go false e =
-        let q : own u ≡ n = cc in
-        subst Number q (own-number u)
+    step : {x : Step} → Ruled x → x ≡ Stops n → Number n
+    step goes e = clash (cc)
+    step (stops {n = m} r) e = subst Number (let q : m ≡ n = cc in q) (inr (inr r))
