@@ -1,16 +1,20 @@
 -- What tests say that were put together: by `&&`, by `||`, by a choice, and over the first n numbers, which antt computes (`up-to`).
 use Prim.Native.Nat.{ℕ, zero, suc, _<_}
 use native.Mathlib.Omega.{arith}
-use native.Mathlib.Nat.{not-suc-le-zero}
+use native.Mathlib.Nat.{not-suc-le-zero, le-of-suc-le-suc}
 use mathlib.Core.Path.{_≡_, refl, sym, subst}
 use mathlib.Core.Bool.{Bool, true, false, cond, _&&_, _||_, not, false≢true, true≢false}
 use mathlib.Core.Logic.{_⊎_, inl, inr}
 use lib.Dec.{eqb}
-use borrow.Author.Tests.{eqb-true, eqb-false}
+use borrow.Author.Tests.{eqb-true, eqb-false, leb-true, leb-false, ltb-true, ltb-false, eq-eqb, ne-eqb, le-leb, lt-leb, lt-ltb, le-ltb, not-true, not-false}
 use Rattle.base.specs.Choice.{pick}
 
 pub off : {A : Type 0} → false ≡ true → A
 off e = absurd (false≢true e)
+
+-- for `clash (cc)`: two constructors are never equal
+pub clash : {A : Type 0} → _≡_ {A = ℕ} 0 1 → A
+clash e = absurd (omega arith)
 
 -- by a test: where it holds, and where it does not
 pub test : {P : Type 0} (b : Bool) → (b ≡ true → P) → (b ≡ false → P) → P
@@ -79,3 +83,31 @@ up-to zero f t k h = absurd (not-suc-le-zero h)
 up-to (suc n) f t k h =
     test (eqb k n) (λ e. subst (λ (m : ℕ). f m ≡ true) (sym (eqb-true k n e)) (and-left (f n) (upTo n f) t))
     (λ e. let ne : k ≡ n → ⊥ = eqb-false k n e in up-to n f (and-right (f n) (upTo n f) t) k (omega arith))
+
+-- a test of each pair of numbers below m and n, and one of those below n for which another test holds
+pub up-to-both : (m n : ℕ) (f : ℕ → ℕ → Bool) → upTo m (λ x. upTo n (f x)) ≡ true → (x k : ℕ) → x < m → k < n → f x k ≡ true
+up-to-both m n f t x k h l = up-to n (f x) (up-to m (λ y. upTo n (f y)) t x h) k l
+
+pub up-to-where : (n : ℕ) (p q : ℕ → Bool) → upTo n (λ y. implies (p y) (q y)) ≡ true → (k : ℕ) → k < n → p k ≡ true → q k ≡ true
+up-to-where n p q t k h e = implies-elim (p k) (q k) (up-to n (λ y. implies (p y) (q y)) t k h) e
+
+-- a rule of the first n numbers, one by one
+abbrev pub Each : ℕ → (ℕ → Type 0) → Type 0
+Each zero P = Unit {0}
+Each (suc n) P = P 0 × Each n (λ c. P (suc c))
+
+infixr 20 _&_
+pub _&_ : {A B : Type 0} → A → B → A × B
+_&_ a b = (a, b)
+
+pub each : (n : ℕ) (P : ℕ → Type 0) → Each n P → (c : ℕ) → c < n → P c
+each zero P a c h = absurd (not-suc-le-zero h)
+each (suc n) P a zero h = a .0
+each (suc n) P a (suc c) h = each n (λ m. P (suc m)) (a .1) c (le-of-suc-le-suc h)
+
+-- what tests of numbers say, for `omega`; for `search` also where tests are put together by `&&`; and what tests of numbers answer
+pub ruleset tested = (arith, eqb-true, eqb-false, leb-true, leb-false, ltb-true, ltb-false)
+
+pub ruleset from-tests = (and-left, and-right, not-true, not-false, eqb-true, eqb-false, leb-true, leb-false, ltb-true, ltb-false)
+
+pub ruleset to-tests = (eq-eqb, ne-eqb, le-leb, lt-leb, lt-ltb, le-ltb)

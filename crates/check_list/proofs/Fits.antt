@@ -1,21 +1,21 @@
 -- A record that is not refused fits a row, and the row's unit is the record's.
-use Prim.Native.Nat.{ℕ, _+_, _-_, _*_, _/_, _%_, _≤_, _<_}
+use Prim.Native.Nat.{ℕ, _+_, _-_, _/_, _%_, _≤_, _<_}
 use native.Mathlib.Omega.{arith}
 use mathlib.Core.Path.{_≡_, refl, sym, ap, ap₂, _∙_, subst}
-use mathlib.Core.Bool.{Bool, true, false, cond, _&&_}
+use mathlib.Core.Bool.{true}
 use mathlib.Core.List.{List}
-use mathlib.Core.Option.{none, some, Option·none-ne-some, Option·some-injective}
-use lib.Dec.{eqb, leb, ltb}
+use mathlib.Core.Option.{some, Option·some-injective}
+use lib.Dec.{eqb, ltb}
 use lib.ListN.{length, set, take, drop}
-use borrow.Author.Tests.{eqb-true, eqb-false, ne-eqb, lt-ltb, le-ltb, lt-leb, ltb-true, ltb-false, leb-true}
+use borrow.Author.Tests.{eqb-true, eqb-false, ne-eqb, lt-ltb, ltb-true, ltb-false, leb-true}
 use Rattle.base.specs.Choice.{pick}
 use Rattle.base.specs.Kind as kind
 use Rattle.base.specs.declared.Unit.{Unit as UnitRecord}
-use Rattle.base.proofs.Bools.{and-left, and-right}
+use Rattle.base.proofs.Bools.{off, clash, test, from-tests}
 use Rattle.charset.specs.Charsets.{formOf}
 use Rattle.charset.proofs.Laws.{narrow-form, wide-form}
 use Rattle.grammar.specs.Units.{TextUnit, char, space, control, ext, controlOf, unitOf, codeUsed, segment, good}
-use Rattle.grammar.proofs.Good.{one-code, two-code, GoodSegment, good-segment}
+use Rattle.grammar.proofs.Good.{one-code, two-code, good-segment}
 use Rattle.grammar.specs.Records.{readable, unitRead}
 use Rattle.rows.specs.Rows.{countOf, textTagged, unitTagged, tagOf, numberOf}
 use Rattle.rows.proofs.Units.{unit-text, unit-segment, unit-mark, mark-of-kind}
@@ -34,103 +34,75 @@ tagged o r u t n et en e = ap₂ (λ (x y : ℕ). unitTagged o x (y / 256) (y % 
 
 -- a kind that is no segment's
 no-segment : (r : UnitRecord) (k : ℕ) → r .kind ≡ k → k < kind.segment → Stowable r
-no-segment r k e h = record { one-of-eight = omega arith; low = λ q. absurd (omega arith); high = λ q. absurd (omega arith); few = λ q. absurd (omega arith) }
+no-segment r k e h = omega arith
 
-module _ (o : List ℕ) (r : UnitRecord) (u : TextUnit) (g : good u ≡ true) where
-  fits-character : r .kind ≡ kind.character → char (r .set) (r .code) ≡ u → Fits o r u
+module _ (o : List ℕ) (r : UnitRecord) where
+  abbrev xs : List ℕ
+  xs = take (r .length) (drop (r .start) o)
+
+  fits-character : r .kind ≡ kind.character → good (char (r .set) (r .code)) ≡ true → Fits o r (char (r .set) (r .code))
   unfolding tagOf numberOf pick good textTagged
-  fits-character q s =
+  fits-character q g =
       record {
-        unit = tagged o r u (r .set) (r .code) (rw q) (rw q)
-            (unit-text o (r .set) (r .code / 256) (r .code % 256) (r .start) (omega (arith, below)) ∙ text (ltb (r .set) 12) refl);
+        unit = tagged o r _ (r .set) (r .code) (rw q) (rw q)
+            (unit-text o (r .set) (r .code / 256) (r .code % 256) (r .start) (omega (arith, below)) ∙ text);
         stowable = no-segment r 0 q (omega arith);
       }
     where
-      g′ : (ltb (r .set) 15 && codeUsed (formOf (r .set)) (r .code)) ≡ true
-      g′ = subst (λ (x : TextUnit). good x ≡ true) (sym s) g
-
       below : r .set < 15
-      below = ltb-true (r .set) 15 (and-left (ltb (r .set) 15) (codeUsed (formOf (r .set)) (r .code)) g′)
+      below = search from-tests
 
       used : codeUsed (formOf (r .set)) (r .code) ≡ true
-      used = and-right (ltb (r .set) 15) (codeUsed (formOf (r .set)) (r .code)) g′
+      used = search from-tests
 
-      text : (b : Bool) → ltb (r .set) 12 ≡ b → textTagged (r .set) (r .code / 256) (r .code % 256) ≡ u
-      text true p =
-          let l = one-code (formOf (r .set)) (r .code) (narrow-form (r .set) (ltb-true (r .set) 12 p)) used in
-          rw p (ap (char (r .set)) (let z : r .code % 256 % 128 ≡ r .code = omega arith in z) ∙ s)
-      text false p =
-          let l = two-code (formOf (r .set)) (r .code) (wide-form (r .set) (ltb-false (r .set) 12 p) below) used in
-          rw (p, lt-ltb (r .set) 15 below)
-          (ap (char (r .set)) (let z : r .code / 256 % 128 * 256 + r .code % 256 % 128 ≡ r .code = omega (arith, l .0, l .1) in z) ∙ s)
+      text : textTagged (r .set) (r .code / 256) (r .code % 256) ≡ char (r .set) (r .code)
+      text =
+          test (ltb (r .set) 12)
+          (λ p. let l = one-code (formOf (r .set)) (r .code) (narrow-form (r .set) (ltb-true _ _ p)) used in rw p (ap (char (r .set)) (omega arith)))
+          (λ p. let l = two-code (formOf (r .set)) (r .code) (wide-form (r .set) (ltb-false _ _ p) below) used in
+          rw (p, lt-ltb (r .set) 15 below) (ap (char (r .set)) (omega (arith, l))))
 
   -- kinds 1 to 6
   fits-plain : (k : ℕ) (v : TextUnit) → r .kind ≡ k → k < kind.segment → tagOf r ≡ 14 + k
-      → unitTagged o (14 + k) (numberOf r / 256) (numberOf r % 256) (r .start) ≡ v → v ≡ u → Fits o r u
-  fits-plain k v q h t w s = record { unit = tagged o r u (14 + k) (numberOf r) t refl (w ∙ s); stowable = no-segment r k q h }
+      → unitTagged o (14 + k) (numberOf r / 256) (numberOf r % 256) (r .start) ≡ v → Fits o r v
+  fits-plain k v q h t w = record { unit = tagged o r v (14 + k) (numberOf r) t refl w; stowable = no-segment r k q h }
 
-  fits-segment : r .kind ≡ kind.segment → r .start + r .length ≤ length o → ext (r .code) (take (r .length) (drop (r .start) o)) ≡ u → Fits o r u
-  unfolding tagOf numberOf pick good
-  fits-segment q p s =
+  fits-segment : r .kind ≡ kind.segment → r .start + r .length ≤ length o → good (ext (r .code) xs) ≡ true → Fits o r (ext (r .code) xs)
+  unfolding tagOf numberOf pick
+  fits-segment q p g =
+      let e = good-segment (r .code) xs g in
+      let many : length xs ≡ r .length = simp (lib.ListN.length-take, lib.ListN.length-drop) (omega arith) in
+      let few : r .length ≤ 16383 = omega (arith, e .few) in
+      let code : 27 + (r .code - 27) ≡ r .code = omega (arith, e .low) in
+      let count : countOf (r .length / 256) (r .length % 256) ≡ r .length = omega (arith, few) in
       record {
-        unit = tagged o r u (r .code - 27) (r .length) (rw q) (rw q) unit;
-        stowable = record { one-of-eight = omega arith; low = λ _. lo; high = λ _. hi; few = λ _. few };
+        unit = tagged o r _ (r .code - 27) (r .length) (rw q) (rw q)
+            (unit-segment o (r .code - 27) (r .length / 256) (r .length % 256) (r .start) (omega (arith, e .low)) (omega (arith, e .high))
+            ∙ ap₂ (λ (m n : ℕ). ext m (take n (drop (r .start) o))) code count);
+        stowable = record { one-of-eight = omega arith; low = λ _. e .low; high = λ _. e .high; few = λ _. few };
       }
-    where
-      xs : List ℕ
-      xs = take (r .length) (drop (r .start) o)
 
-      good-one : GoodSegment (r .code) xs
-      good-one = good-segment (r .code) xs (subst (λ (x : TextUnit). good x ≡ true) (sym s) g)
+  -- kinds 2 to 6
+  fits-control : (r .kind ≡ 0 → ⊥) → (r .kind ≡ 1 → ⊥) → r .kind < 7 → Fits o r (control (controlOf (r .kind)))
+  unfolding tagOf pick
+  fits-control n m h =
+      fits-plain (r .kind) (control (controlOf (r .kind))) refl h (rw (ne-eqb (r .kind) 0 n, ne-eqb (r .kind) 7 (λ e. omega arith)))
+      (unit-mark o (14 + r .kind) (numberOf r / 256) (numberOf r % 256) (r .start) (omega arith) (λ l k. omega arith) ∙ mark-of-kind (r .kind))
 
-      lo : 0x30 ≤ r .code
-      lo = good-one .low
+  by-kind : readable o r ≡ true → good (unitOf (r .kind) (r .set) (r .code) xs) ≡ true → Fits o r (unitOf (r .kind) (r .set) (r .code) xs)
+  unfolding readable unitOf tagOf pick unitTagged textTagged
+  by-kind h g =
+      test (eqb (r .kind) 0) (λ a. rw a (fits-character (eqb-true _ _ a) (rw a at g)))
+      (λ a. test (eqb (r .kind) 1) (λ b. let q = eqb-true (r .kind) 1 b in rw (a, b) (fits-plain 1 space q (omega arith) (rw q) refl))
+      (λ b. test (ltb (r .kind) 7) (λ c. rw (a, b, c) (fits-control (eqb-false _ _ a) (eqb-false _ _ b) (ltb-true _ _ c)))
+      (λ c. test (eqb (r .kind) 7) (λ d. rw (a, b, c) (fits-segment (eqb-true _ _ d) (leb-true _ _ (rw d at h)) (rw (a, b, c) at g)))
+      (λ d. off (rw (d, c) at h)))))
 
-      hi : r .code ≤ 0x34
-      hi = good-one .high
-
-      count : length xs ≡ r .length
-      count = simp (lib.ListN.length-take, lib.ListN.length-drop) (omega arith)
-
-      few : r .length ≤ 16383
-      few = omega (arith, good-one .few, count)
-
-      unit : unitTagged o (r .code - 27) (r .length / 256) (r .length % 256) (r .start) ≡ u
-      unit =
-          unit-segment o (r .code - 27) (r .length / 256) (r .length % 256) (r .start) (omega (arith, lo)) (omega (arith, hi))
-          ∙ ap₂ (λ (m n : ℕ). ext m (take n (drop (r .start) o)))
-          (let z : 27 + (r .code - 27) ≡ r .code = omega (arith, lo) in z)
-          (let z : countOf (r .length / 256) (r .length % 256) ≡ r .length = omega (arith, few) in z)
-          ∙ s
-
+module _ (o : List ℕ) (r : UnitRecord) (u : TextUnit) (g : good u ≡ true) where
   pub fits : unitRead o r ≡ some u → Fits o r u
-  unfolding unitRead readable unitOf tagOf numberOf pick unitTagged textTagged
-  fits e = start (readable o r) refl e
-    where
-      xs : List ℕ
-      xs = take (r .length) (drop (r .start) o)
-
-      -- kinds 2 to 6
-      fits-control : (r .kind ≡ 0 → ⊥) → (r .kind ≡ 1 → ⊥) → r .kind < 7 → control (controlOf (r .kind)) ≡ u → Fits o r u
-      fits-control n m h s =
-          fits-plain (r .kind) (control (controlOf (r .kind))) refl h
-          (rw (ne-eqb (r .kind) 0 n, ne-eqb (r .kind) 7 (λ e. omega arith)))
-          (unit-mark o (14 + r .kind) (numberOf r / 256) (numberOf r % 256) (r .start) (omega arith) (λ l k. omega arith) ∙ mark-of-kind (r .kind))
-          s
-
-      last : (b : Bool) → eqb (r .kind) 7 ≡ b → 7 ≤ r .kind → cond b (leb (r .start + r .length) (length o)) (ltb (r .kind) 7) ≡ true
-          → ext (r .code) xs ≡ u → Fits o r u
-      last true q n h s = fits-segment (eqb-true (r .kind) 7 q) (leb-true (r .start + r .length) (length o) h) s
-      last false q n h s = absurd (let l = ltb-true (r .kind) 7 h in omega arith)
-
-      go : (b0 b1 b2 : Bool) → eqb (r .kind) 0 ≡ b0 → eqb (r .kind) 1 ≡ b1 → ltb (r .kind) 7 ≡ b2 → readable o r ≡ true
-          → cond b0 (char (r .set) (r .code)) (cond b1 space (cond b2 (control (controlOf (r .kind))) (ext (r .code) xs))) ≡ u → Fits o r u
-      go true b1 b2 q0 q1 q2 h s = fits-character (eqb-true (r .kind) 0 q0) s
-      go false true b2 q0 q1 q2 h s = let q = eqb-true (r .kind) 1 q1 in fits-plain 1 space q (omega arith) (rw q) refl s
-      go false false true q0 q1 q2 h s = fits-control (eqb-false (r .kind) 0 q0) (eqb-false (r .kind) 1 q1) (ltb-true (r .kind) 7 q2) s
-      go false false false q0 q1 q2 h s = last (eqb (r .kind) 7) refl (ltb-false (r .kind) 7 q2) h s
-
-      start : (b : Bool) → readable o r ≡ b → cond b (some (unitOf (r .kind) (r .set) (r .code) xs)) none ≡ some u → Fits o r u
-      start false q s = absurd (Option·none-ne-some u s)
-      start true q s =
-          go (eqb (r .kind) 0) (eqb (r .kind) 1) (ltb (r .kind) 7) refl refl refl q (Option·some-injective (unitOf (r .kind) (r .set) (r .code) xs) u s)
+  unfolding unitRead
+  fits e =
+      test (readable o r)
+      (λ q. let s = Option·some-injective (unitOf (r .kind) (r .set) (r .code) (xs o r)) u (rw q at e) in
+      subst (Fits o r) s (by-kind o r q (subst (λ (v : TextUnit). good v ≡ true) (sym s) g)))
+      (λ q. clash (cc (rw q at e)))

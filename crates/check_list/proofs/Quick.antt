@@ -2,15 +2,15 @@
 -- direction. A space by its kind; a character since the bounds of its set's octets are those of the codes that the set uses.
 use Prim.Native.Nat.{ℕ, _+_, _-_, _*_, _/_, _%_, _≤_, _<_}
 use native.Mathlib.Omega.{arith}
-use mathlib.Core.Path.{_≡_, refl, sym, ap, subst, _∙_}
-use mathlib.Core.Bool.{Bool, true, false, false≢true}
+use mathlib.Core.Path.{_≡_, refl, sym, ap, _∙_}
+use mathlib.Core.Bool.{true, false}
 use mathlib.Core.List.{List}
 use lib.Dec.{eqb, leb, ltb}
-use borrow.Author.Tests.{eqb-true, eqb-false, leb-true, leb-false, le-leb, ltb-true, ltb-false, lt-ltb, le-ltb}
+use borrow.Author.Tests.{eqb-true, le-leb, lt-ltb, le-ltb}
 use Rattle.base.specs.Choice.{pick}
 use Rattle.base.specs.Kind as kind
 use Rattle.base.specs.declared.Unit.{Unit as UnitRecord}
-use Rattle.base.proofs.Bools.{pick-last}
+use Rattle.base.proofs.Bools.{off, test, pick-last, from-tests, tested}
 use Rattle.charset.specs.Charsets.{no-set, formOf}
 use Rattle.charset.proofs.Laws.{formRule, form-rule}
 use Rattle.text.specs.Text.{graphicOf}
@@ -47,40 +47,27 @@ within c k e =
     let a = pick-last (leb 0x10000 k) _ e in
     let b = pick-last (leb no-set c) _ (a .1) in
     let d = pick-last (ltb (0x5D + 2 * wider c) (lowFrom c k)) _ (b .1) in
-    record {
-      whole = leb-false 0x10000 k (a .0);
-      set = leb-false no-set c (b .0);
-      low = ltb-false (0x5D + 2 * wider c) (lowFrom c k) (d .0);
-      high = leb-true (highFrom c k) (0x5D * isDouble c) (d .1);
-    }
+    search from-tests
 
 -- by the form of the set
 bounded : (c k t m : ℕ) → Within c k → isDouble c ≡ t → wider c ≡ m
     → ((k % 256 + 223 + m) % 256 ≤ 0x5D + 2 * m) × ((k / 256 + 256 - 0x21 * t) % 256 ≤ 0x5D * t) × (k < 0x10000)
 bounded c k t m w et em = (
-  subst (λ (m : ℕ). (k % 256 + 223 + m) % 256 ≤ 0x5D + 2 * m) em (w .low),
-  subst (λ (t : ℕ). (k / 256 + 256 - 0x21 * t) % 256 ≤ 0x5D * t) et (w .high),
+  rw em at (w .low),
+  rw et at (w .high),
   w .whole,
 )
 
 code-used : (c k : ℕ) → Within c k → codeUsed (formOf c) k ≡ true
 unfolding formRule codeUsed pick
-code-used c k w = rw (← form-rule c) (go (ltb c 3) refl (ltb c 12) refl)
-  where
-    go : (s : Bool) → ltb c 3 ≡ s → (t : Bool) → ltb c 12 ≡ t → codeUsed (formRule c) k ≡ true
-    go true p t q =
-        let h = ltb-true c 3 p in
-        let b = bounded c k 0 0 w (omega (arith, h)) (omega (arith, h)) in
-        rw p (graphic k (omega (arith, b)) (omega (arith, b)))
-    go false p true q =
-        let h = ltb-false c 3 p in
-        let l = ltb-true c 12 q in
-        let b = bounded c k 0 1 w (omega (arith, l)) (omega (arith, h, l)) in
-        rw (p, q, le-leb 0x20 k (omega (arith, b)), le-leb k 0x7F (omega (arith, b)))
-    go false p false q =
-        let l = ltb-false c 12 q in
-        let b = bounded c k 1 0 w (omega (arith, l, w .set)) (omega (arith, l, w .set)) in
-        rw (p, q, lt-ltb c 15 (w .set), graphic (k / 256) (omega (arith, b)) (omega (arith, b)), graphic (k % 256) (omega (arith, b)) (omega (arith, b)))
+code-used c k w =
+    rw (← form-rule c)
+    (test (ltb c 3)
+    (λ p. let b = bounded c k 0 0 w (omega tested) (omega tested) in rw p (graphic k (omega (arith, b)) (omega (arith, b))))
+    (λ p. test (ltb c 12)
+    (λ q. let b = bounded c k 0 1 w (omega tested) (omega tested) in rw (p, q, le-leb 0x20 k (omega (arith, b)), le-leb k 0x7F (omega (arith, b))))
+    (λ q. let b = bounded c k 1 0 w (omega (tested, w .set)) (omega (tested, w .set)) in
+    rw (p, q, lt-ltb c 15 (w .set), graphic (k / 256) (omega (arith, b)) (omega (arith, b)), graphic (k % 256) (omega (arith, b)) (omega (arith, b))))))
 
 -- ---- the directions
 
@@ -100,30 +87,19 @@ text-goes k d h e = rw (lt-ltb k 2 h) (settled-written d e)
 -- it has a row: it is no segment
 pub plain-stowable : (r : UnitRecord) → plainOf r ≡ true → Stowable r
 unfolding plainOf pick
-plain-stowable r e = go (leb (r .kind) 1) refl
-  where
-    go : (t : Bool) → leb (r .kind) 1 ≡ t → Stowable r
-    go true p =
-        let l = leb-true (r .kind) 1 p in
-        record { one-of-eight = omega arith; low = λ z. absurd (omega arith); high = λ z. absurd (omega arith); few = λ z. absurd (omega arith) }
-    go false p = absurd (false≢true (rw p at e))
+plain-stowable r e = test (leb (r .kind) 1) (λ p. omega tested) (λ p. off (rw p at e))
 
 pub plain-goes : (o : List ℕ) (r : UnitRecord) (d : Directions) → settledByText d ≡ true → plainOf r ≡ true → fault (unitRead o r) d ≡ Goes d
 unfolding plainOf setBy codeBy pick
-plain-goes o r d s e = go (leb (r .kind) 1) refl (eqb (r .kind) 1) refl
-  where
-    go : (t : Bool) → leb (r .kind) 1 ≡ t → (u : Bool) → eqb (r .kind) 1 ≡ u → fault (unitRead o r) d ≡ Goes d
-    go true p true q =
-        let k = eqb-true (r .kind) 1 q in
-        sym (kind-plain o r d (λ z. omega arith) (omega arith)) ∙ text-goes (r .kind) d (omega arith) s
-    go true p false q =
-        let l = leb-true (r .kind) 1 p in
-        let n = eqb-false (r .kind) 1 q in
-        let k : r .kind ≡ kind.character = omega arith in
-        let w = within (r .set) (r .code) (rw (p, q) at e) in
-        sym (kind-character o r d k) ∙ sym (code-fits (r .set) (r .code) d (w .set) (code-used (r .set) (r .code) w))
-        ∙ text-goes kind.character d (omega arith) s
-    go false p u q = absurd (false≢true (rw p at e))
+plain-goes o r d s e =
+    test (leb (r .kind) 1)
+    (λ p. test (eqb (r .kind) 1)
+    (λ q. let k = eqb-true (r .kind) 1 q in
+    sym (kind-plain o r d (λ z. omega arith) (omega arith)) ∙ text-goes (r .kind) d (omega arith) s)
+    (λ q. let w = within (r .set) (r .code) (rw (p, q) at e) in
+    sym (kind-character o r d (omega tested)) ∙ sym (code-fits (r .set) (r .code) d (w .set) (code-used (r .set) (r .code) w))
+    ∙ text-goes kind.character d (omega arith) s))
+    (λ p. off (rw p at e))
 
 -- ---- a turn
 
@@ -131,10 +107,10 @@ plain-goes o r d s e = go (leb (r .kind) 1) refl (eqb (r .kind) 1) refl
 pub quick-goes : (o : List ℕ) (r : UnitRecord) (i : ℕ) (p : Progress) → quickAfter p ≡ true → plainOf r ≡ true → turnOf o r i p ≡ p
 unfolding turnOf
 quick-goes o r i (Fine d) s e = ap (λ (t : Step). onFault t i) (plain-goes o r d s e)
-quick-goes o r i (Faulty n j) s e = absurd (false≢true s)
+quick-goes o r i (Faulty n j) s e = off s
 
 -- and stands in its row
 pub quick-room : (p : Progress) (r : UnitRecord) (i : ℕ) (w : List ℕ) → quickAfter p ≡ true → roomAfter p r i w ≡ withRecord w i r
 unfolding roomAfter
 quick-room (Fine d) r i w s = refl
-quick-room (Faulty n j) r i w s = absurd (false≢true s)
+quick-room (Faulty n j) r i w s = off s

@@ -11,6 +11,7 @@ use Rattle.state.specs.declared.directions.Directions.{Directions}
 use Rattle.state.specs.declared.directions.Step.{Step}
 use Rattle.state.specs.declared.directions.Step.the-variants.{Goes, Stops}
 use Rattle.base.specs.Choice.{pick}
+use Rattle.base.proofs.Bools.{clash, test, pick-by}
 use Rattle.grammar.specs.Records.{unitRead}
 use Rattle.shortest.specs.Records.{fault}
 use Rattle.rows.specs.Rows.{withRecord}
@@ -20,11 +21,13 @@ use Rattle.check_list.specs.Plain.{settledByText}
 use Rattle.check_list.specs.Turn.{onFault, turnOf, roomAfter, quickAfter, quickUntil}
 use Rattle.check_list.specs.declared.Progress.{Progress}
 use Rattle.check_list.specs.declared.Progress.the-variants.{Fine, Faulty}
-use Rattle.check_list.proofs.Refusals.{judged-good}
+use Rattle.shortest.proofs.Bad.{bad-stops, not-bad}
 use Rattle.check_list.proofs.Fits.{fits}
 
 pub stowable : (o : List ℕ) (r : UnitRecord) (d next : Directions) → fault (unitRead o r) d ≡ Goes next → Stowable r
-stowable o r d next e = let j = judged-good o r d next e in fits o r (j .unit) (j .fit) (j .read) .stowable
+stowable o r d next e =
+    let j = not-bad o r (λ n b. clash (cc (bad-stops o r d b))) d in
+    fits o r (j .0) (j .2) (j .1) .stowable
 
 -- the test of a record that can stand in a row
 module _ (r : UnitRecord) where
@@ -110,16 +113,8 @@ module _ (p : Progress) (from n : ℕ) where
 
   pub until-quick : from < quickUntil p from n → quickAfter p ≡ true
   unfolding quickUntil pick
-  until-quick h = go (quickAfter p) refl
-    where
-      go : (b : Bool) → quickAfter p ≡ b → quickAfter p ≡ true
-      go true e = e
-      go false e = absurd (let z : from < from = rw e at h in omega arith)
+  until-quick h = test (quickAfter p) (λ e. e) (λ e. absurd (let z : from < from = rw e at h in omega arith))
 
   pub until-most : from ≤ n → quickUntil p from n ≤ n
-  unfolding quickUntil pick
-  until-most h = go (quickAfter p)
-    where
-      go : (b : Bool) → pick b n from ≤ n
-      go true = omega arith
-      go false = h
+  unfolding quickUntil
+  until-most h = pick-by (λ m. m ≤ n) (quickAfter p) (λ _. omega arith) (λ _. h)

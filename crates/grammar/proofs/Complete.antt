@@ -1,16 +1,15 @@
 -- Each element of the grammar is one that the reader's definition takes.
-use Prim.Native.Nat.{ℕ, zero, suc, _+_, _*_, _-_, _/_, _%_, _≤_, _<_}
+use Prim.Native.Nat.{ℕ, _+_, _*_, _-_, _/_, _%_, _≤_, _<_}
 use native.Mathlib.Omega.{arith}
-use native.Mathlib.Nat.{not-suc-le-zero, le-of-suc-le-suc}
 use mathlib.Core.Path.{_≡_, refl, sym, ap, _∙_, subst}
-use mathlib.Core.Bool.{Bool, true, false, cond, _&&_, true≢false}
+use mathlib.Core.Bool.{Bool, true, false, cond, _&&_}
 use mathlib.Core.List.{List, _∷_, _++_}
 use lib.Dec.{eqb, leb, ltb}
 use lib.ListN.{length, length-append}
 use lib.Seq.{take-append-seam}
-use borrow.Author.Tests.{eqb-true, leb-true, lt-ltb, le-ltb, le-leb, ne-eqb, eq-eqb}
+use borrow.Author.Tests.{lt-ltb, le-ltb, le-leb, ne-eqb, eq-eqb}
 use Rattle.base.specs.Choice.{pick}
-use Rattle.base.proofs.Bools.{and-left, and-right, off}
+use Rattle.base.proofs.Bools.{Each, _&_, each, and-left, and-right, off, test, cond-by, from-tests, tested}
 use Rattle.charset.specs.declared.Side.{Side}
 use Rattle.charset.specs.declared.Side.the-variants.{GL, GR}
 use Rattle.charset.specs.Charsets.{mayUse, allowed, formOf, fitsOf, find, setOf}
@@ -25,26 +24,12 @@ use Rattle.element.specs.Element.{shapeOf}
 use Rattle.state.specs.declared.Sets.{Sets}
 use Rattle.state.specs.declared.elements.Part.{Part}
 use Rattle.state.specs.declared.elements.Shape.the-variants.{Designates, Gives}
-use Rattle.grammar.specs.Units.{TextUnit, char, space, control, tab, newline, ltr, rtl, revert, ext, kindOf, controlOctets, textOctets, counts, unitOf, wide, top, shown, octets, designation, codeUsed, segment, good}
+use Rattle.grammar.specs.Units.{TextUnit, char, space, control, tab, newline, ltr, rtl, revert, ext, kindOf, controlOctets, textOctets, counts, unitOf, wide, top, shown, octets, designation, codeUsed, good}
 use Rattle.grammar.specs.Grammar.{Shows, Legal}
 use Rattle.grammar.specs.Reading.{unitAt}
 use Rattle.grammar.proofs.Segment.{content}
-use Rattle.grammar.proofs.Good.{GoodSegment, good-segment}
+use Rattle.grammar.proofs.Good.{good-segment}
 use Rattle.grammar.proofs.Sound.{graphic-low}
-
--- a rule of the first n numbers, one by one
-abbrev Each : ℕ → (ℕ → Type 0) → Type 0
-Each zero P = Unit {0}
-Each (suc n) P = P 0 × Each n (λ c. P (suc c))
-
-infixr 20 _&_
-_&_ : {A B : Type 0} → A → B → A × B
-_&_ a b = (a, b)
-
-each : (n : ℕ) (P : ℕ → Type 0) → Each n P → (c : ℕ) → c < n → P c
-each zero P a c h = absurd (not-suc-le-zero h)
-each (suc n) P a zero h = a .0
-each (suc n) P a (suc c) h = each n (λ m. P (suc m)) (a .1) c (le-of-suc-le-suc h)
 
 module _ (s : Sets) where
   -- ---- designations
@@ -121,59 +106,43 @@ module _ (s : Sets) where
       go : (x y : Bool) → eqb (formOf c) 3 ≡ x → eqb (formOf c) 2 ≡ y
           → cond x (graphicOf (k / 256) && graphicOf (k % 256)) (cond y (leb 0x20 k && leb k 0x7F) (graphicOf k)) ≡ true
           → shapeOf (shown x (top d) k ++ t) s ≡ Gives (part 0 c k 0 (cond x 2 1) true)
-      go true true p q u = absurd (let z = eqb-true (formOf c) 3 p in let w = eqb-true (formOf c) 2 q in omega arith)
+      go true true p q u = absurd (omega tested)
       go true false p q u =
-          let g = and-left (graphicOf (k / 256)) (graphicOf (k % 256)) u in
-          let h = and-right (graphicOf (k / 256)) (graphicOf (k % 256)) u in
+          let g = and-left (graphicOf (k / 256)) _ u in
+          let h = and-right (graphicOf (k / 256)) _ u in
           let a = graphic-low (k / 256) g in
           let b = graphic-low (k % 256) h in
-          let m : (top d + k / 256) % 128 ≡ k / 256 = top-mod d (k / 256) (omega arith) in
-          let n : (top d + k % 256) % 128 ≡ k % 256 = top-mod d (k % 256) (omega arith) in
+          let m = top-mod d (k / 256) (omega arith) in
+          let n = top-mod d (k % 256) (omega arith) in
           let z : k / 256 * 256 + k % 256 ≡ k = omega arith in
           first-octet l d c (k / 256) ((top d + k % 256) ∷ t) e (omega arith) (omega arith) (λ _. a)
           ∙ rw (q, m, n, g, h, p, eq-eqb ((top d + k % 256) / 128) ((top d + k / 256) / 128) (top-div d (k % 256) (k / 256) (omega arith) (omega arith)))
           (ap (λ (j : ℕ). Gives (part 0 c j 0 2 true)) z)
       go false true p q u =
-          let a = leb-true 0x20 k (and-left (leb 0x20 k) (leb k 0x7F) u) in
-          let b = leb-true k 0x7F (and-right (leb 0x20 k) (leb k 0x7F) u) in
-          first-octet l d c k t e a b (λ r. absurd (true≢false (sym q ∙ r)))
-          ∙ rw (q, top-mod d k b)
+          let b : k ≤ 0x7F = search from-tests in
+          first-octet l d c k t e (search from-tests) b (λ r. off (sym r ∙ q)) ∙ rw (q, top-mod d k b)
       go false false p q u =
           let a = graphic-low k u in
-          first-octet l d c k t e (omega arith) (omega arith) (λ _. a)
-          ∙ rw (q, top-mod d k (omega arith), u, p)
+          first-octet l d c k t e (omega arith) (omega arith) (λ _. a) ∙ rw (q, top-mod d k (omega arith), u, p)
 
   -- ---- extended segments
 
   starts-ext : (e : ℕ) (xs t : List ℕ) → good (ext e xs) ≡ true → shapeOf (octets GL (ext e xs) ++ t) s ≡ Gives (segmentPart e (length xs) (textOctets xs))
   unfolding octets good shapeOf escapeOf extendedOf lengthsOf bodyOf next pick
   starts-ext e xs t g =
+      let h = good-segment e xs g in
+      let n : (128 + length xs / 128 - 128) * 128 + (128 + length xs % 128 - 128) ≡ length xs = omega arith in
       rw (
-        le-ltb e 0x30 g₁,
-        lt-ltb e 0x35 (omega (arith, g₂)),
+        le-ltb e 0x30 (h .low),
+        lt-ltb e 0x35 (omega (arith, h .high)),
         le-ltb (128 + length xs / 128) 0x80 (omega arith),
         le-ltb (128 + length xs % 128) 0x80 (omega arith),
         n,
         le-leb (length xs) (length (xs ++ t)) (omega (arith, length-append xs t)),
         take-append-seam xs t,
-        content e (length xs) xs 0 (let z : length xs ≡ 0 + length xs = omega arith in z),
-        g₄,
+        content e (length xs) xs 0 (omega arith),
+        h .content,
       )
-    where
-      h : GoodSegment e xs
-      h = good-segment e xs g
-
-      g₁ : 0x30 ≤ e
-      g₁ = h .low
-
-      g₂ : e ≤ 0x34
-      g₂ = h .high
-
-      g₄ : segment e 0 xs ≡ true
-      g₄ = h .content
-
-      n : (128 + length xs / 128 - 128) * 128 + (128 + length xs % 128 - 128) ≡ length xs
-      n = omega arith
 
 -- ---- the part of a unit
 
@@ -190,7 +159,7 @@ partOf u = part (kindOf u) (fields u .0) (fields u .1) (fields u .2) (fields u .
 pub starts-unit : (s : Sets) (l : Legal s) (u : TextUnit) (d : Side) (t : List ℕ) → good u ≡ true → Shows u d s
     → shapeOf (octets d u ++ t) s ≡ Gives (partOf u)
 unfolding good octets wide shapeOf csiOf beginOf textOf next pick
-starts-unit s l (char c k) d t g h = starts-char s l d c k t (and-right (ltb c 15) (codeUsed (formOf c) k) g) h
+starts-unit s l (char c k) d t g h = starts-char s l d c k t (and-right (ltb c 15) _ g) h
 starts-unit s l space d t g h = rw h
 starts-unit s l (control tab) d t g h = refl
 starts-unit s l (control newline) d t g h = refl
@@ -201,21 +170,13 @@ starts-unit s l (ext e xs) d t g h = starts-ext s e xs t g
 
 pub part-size : (u : TextUnit) (d : Side) → length (octets d u) ≡ partOf u .skip + partOf u .octets
 unfolding octets
-part-size (char c k) d = go (wide c)
-  where
-    go : (b : Bool) → length (shown b (top d) k) ≡ 0 + cond b 2 1
-    go true = refl
-    go false = refl
+part-size (char c k) d = test (wide c) (λ e. rw e) (λ e. rw e)
 part-size space d = refl
 part-size (control x) d = omega arith
 part-size (ext e xs) d = omega arith
 
 pub part-some : (u : TextUnit) → 1 ≤ partOf u .skip + partOf u .octets
-part-some (char c k) = go (wide c)
-  where
-    go : (b : Bool) → 1 ≤ 0 + cond b 2 1
-    go true = omega arith
-    go false = omega arith
+part-some (char c k) = cond-by (λ n. 1 ≤ 0 + n) (wide c) (λ _. omega arith) (λ _. omega arith)
 part-some space = omega arith
 part-some (control tab) = omega arith
 part-some (control newline) = omega arith

@@ -1,10 +1,11 @@
 -- The elements of a string, one at a time.
-use Prim.Native.Nat.{ℕ, zero, suc, _+_, _-_, _≤_, _<_}
+use Prim.Native.Nat.{ℕ, zero, suc, _+_, _-_, _≤_}
 use native.Mathlib.Omega.{arith}
 use native.Mathlib.Nat.{not-suc-le-zero}
-use mathlib.Core.Path.{_≡_, refl, ap, ap₂, sym, _∙_}
+use mathlib.Core.Path.{_≡_, refl, ap, sym, _∙_}
 use mathlib.Core.List.{List, [], _∷_}
 use lib.ListN.{length, drop}
+use Rattle.base.proofs.Bools.{clash}
 use Rattle.element.specs.Element.{elementOf, shapeOf, directedOf}
 use Rattle.element.proofs.Sizes.{Passed, silent, found, element-size, of-passed}
 use Rattle.state.specs.declared.State.{State}
@@ -43,6 +44,11 @@ rest b t (suc k) at st h g =
     let d : at + 1 + k ≡ at + suc k = omega arith in
     rw e (elements-drop t k (at + 1) st (omega arith) ∙ ap (λ (n : ℕ). elements (drop k t) 0 n st) d)
 
+-- nothing is passed where no octet is left
+pub none-passed : {e : Element} {k : ℕ} {next : State} → Passed e k next → End ≡ e → ⊥
+none-passed silent h = clash (cc)
+none-passed found h = clash (cc)
+
 module _ (at : ℕ) (st : State) where
   pub elements-end : (t : List ℕ) → elementOf t st ≡ End → elements t 0 at st ≡ end-at at
   unfolding elements onward
@@ -51,20 +57,8 @@ module _ (at : ℕ) (st : State) where
 
   pub elements-refused : (t : List ℕ) {n o : ℕ} → elementOf t st ≡ Refused n o → elements t 0 at st ≡ refused-at at n o
   unfolding elements onward
-  elements-refused [] {n} {o} e =
-      let h : End ≡ Refused n o = sym (at-nothing st) ∙ e in
-      let z : _≡_ {A = ℕ} 0 1 = cc in
-      absurd (omega arith)
+  elements-refused [] e = clash (cc (at-nothing st))
   elements-refused (b ∷ t) e = rw e
-
-  -- nothing is passed where no octet is left
-  none-passed : {e : Element} {k : ℕ} {next : State} → Passed e k next → End ≡ e → ⊥
-  none-passed (silent {k} {next}) h =
-      let z : _≡_ {A = ℕ} 0 1 = cc in
-      omega arith
-  none-passed (found {p} {next}) h =
-      let z : _≡_ {A = ℕ} 0 1 = cc in
-      omega arith
 
   onward-passed : (b : ℕ) (t : List ℕ) {e : Element} {k : ℕ} {next : State} → Passed e k next → 1 ≤ k → k ≤ suc (length t)
       → onward at e (λ j after. elements t j (at + 1) after) ≡ next-at at e (elements (drop k (b ∷ t)) 0 (at + k) next)

@@ -6,8 +6,7 @@ use mathlib.Core.Bool.{Bool, true, false, cond, _&&_}
 use mathlib.Core.List.{List}
 use lib.Dec.{eqb, leb}
 use lib.ListN.{length}
-use borrow.Author.Tests.{leb-true}
-use Rattle.base.proofs.Bools.{and-left, and-right}
+use Rattle.base.proofs.Bools.{from-tests}
 use Rattle.charset.specs.Charsets.{form-96, form-94x94}
 use Rattle.text.specs.Text.{graphicOf}
 use Rattle.grammar.specs.Units.{ext, codeUsed, segment, mostOfSegment, good}
@@ -18,15 +17,15 @@ unfolding codeUsed
 one-code f k n u = go (eqb f form-96) (rw n at u)
   where
     go : (b : Bool) → cond b (leb 0x20 k && leb k 0x7F) (graphicOf k) ≡ true → k ≤ 0x7F
-    go true v = leb-true k 0x7F (and-right (leb 0x20 k) (leb k 0x7F) v)
+    go true v = search from-tests
     go false v = let a = graphic-low k v in omega arith
 
 pub two-code : (f k : ℕ) → eqb f form-94x94 ≡ true → codeUsed f k ≡ true → (k / 256 ≤ 0x7F) × (k % 256 ≤ 0x7F)
 unfolding codeUsed
 two-code f k n u =
     let v : (graphicOf (k / 256) && graphicOf (k % 256)) ≡ true = rw n at u in
-    let a = graphic-low (k / 256) (and-left (graphicOf (k / 256)) (graphicOf (k % 256)) v) in
-    let b = graphic-low (k % 256) (and-right (graphicOf (k / 256)) (graphicOf (k % 256)) v) in
+    let a = graphic-low (k / 256) (search from-tests) in
+    let b = graphic-low (k % 256) (search from-tests) in
     (omega arith, omega arith)
 
 pub record GoodSegment (e : ℕ) (xs : List ℕ) : Type 0 where
@@ -37,12 +36,4 @@ pub record GoodSegment (e : ℕ) (xs : List ℕ) : Type 0 where
 
 pub good-segment : (e : ℕ) (xs : List ℕ) → good (ext e xs) ≡ true → GoodSegment e xs
 unfolding good
-good-segment e xs g =
-    let h = and-left (leb 0x30 e && leb e 0x34 && leb (length xs) mostOfSegment) (segment e 0 xs) g in
-    let d = and-left (leb 0x30 e && leb e 0x34) (leb (length xs) mostOfSegment) h in
-    record {
-      low = leb-true 0x30 e (and-left (leb 0x30 e) (leb e 0x34) d);
-      high = leb-true e 0x34 (and-right (leb 0x30 e) (leb e 0x34) d);
-      few = leb-true (length xs) mostOfSegment (and-right (leb 0x30 e && leb e 0x34) (leb (length xs) mostOfSegment) h);
-      content = and-right (leb 0x30 e && leb e 0x34 && leb (length xs) mostOfSegment) (segment e 0 xs) g;
-    }
+good-segment e xs g = search from-tests

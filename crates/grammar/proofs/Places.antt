@@ -1,15 +1,15 @@
 -- The elements of a string from a place on, one at a time: each has an octet at least and no more than are left, its unit's fields that
 -- mean nothing are 0, a refusal has a number above 0, a state that is fit stays fit, and the elements after it are those of the place
 -- after it (`ahead-from`). What is shown of all elements of a string goes by induction on `Ahead`.
-use Prim.Native.Nat.{ℕ, zero, suc, _+_, _-_, _≤_, _<_}
+use Prim.Native.Nat.{ℕ, zero, suc, _+_, _-_, _≤_}
 use native.Mathlib.Omega.{arith}
-use mathlib.Core.Path.{_≡_, refl, ap, sym, _∙_, subst}
-use mathlib.Core.Bool.{Bool, true, false}
-use mathlib.Core.List.{List, [], _∷_}
+use mathlib.Core.Path.{_≡_, refl, ap, sym, _∙_}
+use mathlib.Core.List.{List}
 use lib.Dec.{ltb}
 use lib.ListN.{length}
-use borrow.Author.Tests.{ltb-true, ltb-false}
+use borrow.Author.Tests.{ltb-false}
 use Rattle.base.specs.Choice.{from}
+use Rattle.base.proofs.Bools.{clash, test, tested}
 use Rattle.base.proofs.Ladder.{from-end, from-from, from-length}
 use Rattle.element.specs.Element.{elementOf}
 use Rattle.element.specs.Meant.{MeantPart}
@@ -44,20 +44,12 @@ module _ (s : List ℕ) (at : ℕ) (st : State) (e : Element) (is : e ≡ elemen
   pub at-refused : {n o : ℕ} → e ≡ Refused n o → ahead s at st ≡ refused-at at n o
   at-refused k = elements-refused at st (from at s) (sym is ∙ k)
 
-  -- where an octet is left
-  refused-inside : {n o : ℕ} → e ≡ Refused n o → (b : Bool) → ltb at (length s) ≡ b → at < length s
-  refused-inside k true h = ltb-true at (length s) h
-  refused-inside {n} {o} k false h =
-      let g : End ≡ Refused n o = sym (ap (λ (t : List ℕ). elementOf t st) (from-end s at (ltb-false at (length s) h)) ∙ at-nothing st) ∙ (sym is ∙ k) in
-      let z : _≡_ {A = ℕ} 0 1 = cc in
-      absurd (omega arith)
-
   -- the place of a refusal
   pub refused-within : {n o : ℕ} → e ≡ Refused n o → at + o ≤ length s
-  refused-within {n} {o} k =
-      let h : at < length s = refused-inside k (ltb at (length s)) refl in
+  refused-within k =
       let g = of-refused (rw k at sized) in
-      omega (arith, g .1)
+      test (ltb at (length s)) (λ h. omega (tested, g .1))
+      (λ h. clash (cc (ap (λ (t : List ℕ). elementOf t st) (from-end s at (ltb-false _ _ h)), at-nothing st)))
 
   pub refused-number : {n o : ℕ} → e ≡ Refused n o → 1 ≤ n
   refused-number k = of-refused (rw k at sized) .0
@@ -92,24 +84,24 @@ onward : (s : List ℕ) (at : ℕ) (st : State)
     → (e : Element) → e ≡ elementOf (from at s) st → Ahead s at st (ahead s at st)
 onward s at st after End i =
     let e = at-end s at st End i refl in
-    subst (Ahead s at st) (sym e) (ends e)
+    rw e (ends e)
 onward s at st after (Refused r o) i =
     let e = at-refused s at st (Refused r o) i refl in
-    subst (Ahead s at st) (sym e) (stops (refused-number s at st (Refused r o) i refl) e)
+    rw e (stops (refused-number s at st (Refused r o) i refl) e)
 onward s at st after (Silent k next) i =
     let e = at-passed s at st (Silent k next) i silent refl in
     let t = step-passed s at st (Silent k next) i silent refl in
-    subst (Ahead s at st) (sym e) (passes t e (after _ k next t))
+    rw e (passes t e (after _ k next t))
 onward s at st after (Found p next) i =
     let e = at-passed s at st (Found p next) i found refl in
     let t = step-passed s at st (Found p next) i found refl in
-    subst (Ahead s at st) (sym e) (reads t (found-meant s at st (Found p next) i refl) e (after _ (size p) next t))
+    rw e (reads t (found-meant s at st (Found p next) i refl) e (after _ (size p) next t))
 
 -- n bounds the octets that are left
 go : (n : ℕ) (s : List ℕ) (at : ℕ) (st : State) → length s - at ≤ n → Ahead s at st (ahead s at st)
 go zero s at st h =
     let e : ahead s at st ≡ end-at at = past s at st (omega arith) in
-    subst (Ahead s at st) (sym e) (ends e)
+    rw e (ends e)
 go (suc n) s at st h =
     onward s at st (λ _ k next t. go n s (at + k) next (omega (arith, t .some, t .fits))) (elementOf (from at s) st) refl
 

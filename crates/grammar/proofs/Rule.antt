@@ -1,17 +1,16 @@
 -- The direction rule by steps is that over counts of marks and text (`Lawful`): the directions after a list of units keep what the counts of marks and
 -- of text say (`Like`), and a unit may follow exactly where its step goes on (`After`).
-use Prim.Native.Nat.{ℕ, _+_, _-_, _≤_, _<_}
+use Prim.Native.Nat.{ℕ, _+_, _≤_, _<_}
 use native.Mathlib.Omega.{arith}
 use mathlib.Core.Path.{_≡_, refl}
 use mathlib.Core.Bool.{Bool, true, false, true≢false}
 use mathlib.Core.List.{List, [], _∷_}
-use mathlib.Core.Logic.{_↔_, _⊎_, inl, inr, ⊎-elim}
+use mathlib.Core.Logic.{_↔_, inl, inr, ⊎-elim}
 use lib.Dec.{eqb, ltb}
-use borrow.Author.Tests.{eqb-true, eqb-false, ltb-true, ltb-false}
 use Rattle.base.specs.Choice.{pick}
 use Rattle.state.specs.Directions.{directions, undirected, writtenOf, deeperOf, begunOf, revertedOf, stepOf}
 use Rattle.base.specs.Limit as limit
-use Rattle.base.proofs.Bools.{off, pick-by}
+use Rattle.base.proofs.Bools.{off, pick-by, tested}
 use Rattle.state.specs.declared.directions.Directions.{Directions}
 use Rattle.state.specs.declared.directions.Step.{Step}
 use Rattle.state.specs.declared.directions.Step.the-variants.{Goes, Stops}
@@ -61,18 +60,15 @@ module _ (d : Directions) (b r t : ℕ) (l : Like d b r t) where
   written =
       by (d .marked)
       (λ m. by (eqb (d .depth) 0)
-      (λ e. stops (⊎-elim (λ z. omega (arith, l .marks m)) (λ z. let q = eqb-true (d .depth) 0 e in omega (arith, l .open-now))))
-      (λ e. goes (inr (let q : d .depth ≡ 0 → ⊥ = eqb-false (d .depth) 0 e in omega (arith, l .open-now))) after-text))
+      (λ e. stops (⊎-elim (λ z. omega (arith, l .marks m)) (λ z. omega (tested, l .open-now))))
+      (λ e. goes (inr (omega (tested, l .open-now))) after-text))
       (λ m. goes (inl (l .no-marks m)) after-text)
 
   deeper : (way : ℕ) → After (b < r + limit.depth) (b + 1) r t (deeperOf way d)
   unfolding deeperOf
   deeper way =
       by (ltb (d .depth) limit.depth)
-      (λ e. let q = ltb-true (d .depth) limit.depth e in
-      goes (omega (arith, l .open-now))
-      (after-mark (omega (arith, l .open-now)) (omega arith)))
-      (λ e. let q = ltb-false (d .depth) limit.depth e in stops (λ o. omega (arith, l .open-now)))
+      (λ e. goes (omega (tested, l .open-now)) (after-mark (omega (arith, l .open-now)) (omega arith))) (λ e. stops (λ o. omega (tested, l .open-now)))
 
   begun : (way : ℕ) → After (BeginMay b r t) (b + 1) r t (begunOf way d)
   unfolding begunOf
@@ -86,10 +82,8 @@ module _ (d : Directions) (b r t : ℕ) (l : Like d b r t) where
   unfolding revertedOf
   reverted =
       by (eqb (d .depth) 0)
-      (λ e. let q = eqb-true (d .depth) 0 e in stops (λ o. omega (arith, l .open-now)))
-      (λ e. let q : d .depth ≡ 0 → ⊥ = eqb-false (d .depth) 0 e in
-      goes (omega (arith, l .open-now))
-      (after-mark (omega (arith, l .open-now)) (omega arith)))
+      (λ e. stops (λ o. omega (tested, l .open-now)))
+      (λ e. goes (omega (tested, l .open-now)) (after-mark (omega (tested, l .open-now)) (omega arith)))
 
 abbrev Same : List TextUnit → Directions → ℕ → ℕ → ℕ → Type 0
 Same us d b r t = (directed us d ≡ true) ↔ Lawful us b r t

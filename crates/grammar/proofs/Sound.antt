@@ -3,21 +3,20 @@
 use Prim.Native.Nat.{ℕ, suc, _+_, _*_, _-_, _/_, _%_, _≤_, _<_}
 use native.Mathlib.Omega.{arith}
 use mathlib.Core.Path.{_≡_, refl, sym, ap, ap₂, _∙_, subst}
-use mathlib.Core.Bool.{Bool, true, false, cond, _&&_}
+use mathlib.Core.Bool.{Bool, true, false, cond}
 use mathlib.Core.List.{List, [], _∷_, _++_}
 use lib.Dec.{eqb, leb, ltb}
 use lib.ListN.{length, take, drop, take-append-drop}
 use lib.Seq.{length-take-le}
 use borrow.Author.Tests.{eqb-true, ltb-true, ltb-false, leb-true, lt-ltb, le-leb}
 use Rattle.base.specs.Choice.{pick}
-use Rattle.base.proofs.Bools.{pick-last}
+use Rattle.base.proofs.Bools.{test, pick-by, pick-last, tested}
 use Rattle.charset.specs.declared.Side.{Side}
 use Rattle.charset.specs.declared.Side.the-variants.{GL, GR}
 use Rattle.charset.specs.Charsets.{Named, rowOf, formOf, allowed, setOf}
 use Rattle.charset.proofs.Laws.{set-named, allowed-below}
 use Rattle.state.specs.State.{Standing, on, get}
-use Rattle.state.specs.Directions.{countsAsText}
-use Rattle.state.specs.Elements.{part, next}
+use Rattle.state.specs.Elements.{part, unit, next}
 use Rattle.text.specs.Text.{graphicOf, oneOctetOf, twoOctetsOf, secondOctetOf, characterOf, textOf}
 use Rattle.control.specs.Escape.{intermediatesOf, designatesOf, designationOf, multiOctetOf, escapeOf}
 use Rattle.segment.specs.Segment.{segmentPart, bodyOf, lengthsOf, extendedOf}
@@ -56,28 +55,14 @@ pub data Sound (s : Sets) (w : List ℕ) : Shape → Type 0 where
 -- ---- octets before a final, and codes
 
 front : (form : ℕ) (d : Side) (x : ℕ) (t : List ℕ) → lead form d (x ∷ t) ≡ lead form d (x ∷ []) ++ t
-front form GL x t = go (eqb form 3)
-  where
-    go : (a : Bool) → cond a (0x1B ∷ 0x24 ∷ 0x28 ∷ x ∷ t) (0x1B ∷ 0x28 ∷ x ∷ t) ≡ cond a (0x1B ∷ 0x24 ∷ 0x28 ∷ x ∷ []) (0x1B ∷ 0x28 ∷ x ∷ []) ++ t
-    go true = refl
-    go false = refl
-front form GR x t = go (eqb form 3) (eqb form 2)
-  where
-    go : (a b : Bool) → cond a (0x1B ∷ 0x24 ∷ 0x29 ∷ x ∷ t) (cond b (0x1B ∷ 0x2D ∷ x ∷ t) (0x1B ∷ 0x29 ∷ x ∷ t))
-        ≡ cond a (0x1B ∷ 0x24 ∷ 0x29 ∷ x ∷ []) (cond b (0x1B ∷ 0x2D ∷ x ∷ []) (0x1B ∷ 0x29 ∷ x ∷ [])) ++ t
-    go true b = refl
-    go false true = refl
-    go false false = refl
+front form GL x t = test (eqb form 3) (λ e. rw e) (λ e. rw e)
+front form GR x t = test (eqb form 3) (λ e. rw e) (λ e. test (eqb form 2) (λ f. rw (e, f)) (λ f. rw (e, f)))
 
 pub lead-size : (form : ℕ) (d : Side) (x : ℕ) (b : Bool) → eqb form 3 ≡ b → length (lead form d (x ∷ [])) ≡ cond b 4 3
 lead-size form GL x true e = rw e
 lead-size form GL x false e = rw e
 lead-size form GR x true e = rw e
-lead-size form GR x false e = rw e (go (eqb form 2))
-  where
-    go : (b : Bool) → length (cond b (0x1B ∷ 0x2D ∷ x ∷ []) (0x1B ∷ 0x29 ∷ x ∷ [])) ≡ 3
-    go true = refl
-    go false = refl
+lead-size form GR x false e = test (eqb form 2) (λ f. rw (e, f)) (λ f. rw (e, f))
 
 change : (form : ℕ) (d : Side) (x : ℕ) (t : List ℕ) → Named (rowOf (setOf form d x)) form d x → (b : Bool) → eqb form 3 ≡ b
     → Changed (lead form d (x ∷ t)) (cond b 4 3) (on d (setOf form d x)) t
@@ -99,34 +84,27 @@ module _ (s : Sets) where
   no : {w : List ℕ} {n : ℕ} → Sound s w (Refuses (suc n) 0)
   no {n = n} = refuses {n = suc n} (omega arith)
 
-  test : {w : List ℕ} {x y : Shape} (b : Bool) → (b ≡ true → Sound s w x) → (b ≡ false → Sound s w y) → Sound s w (pick b x y)
-  unfolding pick
-  test true f g = f refl
-  test false f g = g refl
+  by : {w : List ℕ} {x y : Shape} (b : Bool) → (b ≡ true → Sound s w x) → (b ≡ false → Sound s w y) → Sound s w (pick b x y)
+  by {w} b f g = pick-by (Sound s w) b f g
 
-  -- a unit whose octets do not depend on the side
-  plain : {w : List ℕ} {p : Part} (u : TextUnit) (t : List ℕ) → w ≡ octets GL u ++ t → length (octets GL u) ≡ p .skip + p .octets → unitAt p w ≡ u
-      → good u ≡ true → Shows u GL s → p .kind ≡ kindOf u → p .text ≡ counts u → Sound s w (Gives p)
-  plain u t e l r g h k x = finds u GL t (record { fit = g; shows = h; are = e; size = l; unit = r; kind = k; text = x })
+  -- an octet x that may be n
+  is : {a b : Shape} (w : ℕ → List ℕ) (x n : ℕ) → Sound s (w n) a → Sound s (w x) b → Sound s (w x) (pick (eqb x n) a b)
+  is {a} w x n f g = by (eqb x n) (λ e. subst (λ (y : ℕ). Sound s (w y) a) (sym (eqb-true x n e)) f) (λ _. g)
 
   -- ---- direction marks
 
-  sound-begin : (u : TextUnit) (kind y : ℕ) (t : List ℕ) → octets GL u ≡ 0x9B ∷ y ∷ 0x5D ∷ [] → ((xs : List ℕ) → unitOf kind 0 0 xs ≡ u) → good u ≡ true
-      → Shows u GL s → kind ≡ kindOf u → countsAsText kind 0 ≡ counts u → Sound s (0x9B ∷ y ∷ t) (beginOf kind t)
-  unfolding beginOf next unitAt
-  sound-begin u kind y [] o r g h k x = no
-  sound-begin u kind y (z ∷ t) o r g h k x =
-      test (eqb z 0x5D)
-      (λ e. plain {p = part kind 0 0 0 3 (countsAsText kind 0)} u t (ap (λ (a : ℕ). 0x9B ∷ y ∷ a ∷ t) (eqb-true z 0x5D e) ∙ ap (λ (q : List ℕ). q ++ t) (sym o)) (ap length o) (r _) g h k x)
-      (λ _. no)
+  sound-begin : (kind y : ℕ) (t : List ℕ) → ((t : List ℕ) → Sound s (0x9B ∷ y ∷ 0x5D ∷ t) (unit kind 0 0 3)) → Sound s (0x9B ∷ y ∷ t) (beginOf kind t)
+  unfolding beginOf next
+  sound-begin kind y [] f = no
+  sound-begin kind y (z ∷ t) f = is (λ z. 0x9B ∷ y ∷ z ∷ t) z 0x5D (f t) no
 
   sound-csi : (t : List ℕ) → Sound s (0x9B ∷ t) (csiOf t)
   unfolding csiOf next octets good unitOf unitAt
   sound-csi [] = no
   sound-csi (x ∷ t) =
-      test (eqb x 0x5D) (λ e. plain {p = part 6 0 0 0 2 false} (control revert) t (ap (λ (y : ℕ). 0x9B ∷ y ∷ t) (eqb-true x 0x5D e)) refl refl refl tt refl refl)
-      (λ _. test (eqb x 0x31) (λ e. rw (eqb-true x 0x31 e) (sound-begin (control ltr) 4 0x31 t refl (λ _. refl) refl tt refl refl))
-      (λ _. test (eqb x 0x32) (λ e. rw (eqb-true x 0x32 e) (sound-begin (control rtl) 5 0x32 t refl (λ _. refl) refl tt refl refl)) (λ _. no)))
+      is (λ x. 0x9B ∷ x ∷ t) x 0x5D (finds (control revert) GL t (search))
+      (is (λ x. 0x9B ∷ x ∷ t) x 0x31 (sound-begin 4 0x31 t (λ t. finds (control ltr) GL t (search)))
+      (is (λ x. 0x9B ∷ x ∷ t) x 0x32 (sound-begin 5 0x32 t (λ t. finds (control rtl) GL t (search))) no))
 
   -- ---- designations
 
@@ -134,88 +112,93 @@ module _ (s : Sets) where
   unfolding intermediatesOf
   sound-intermediates [] = no
   sound-intermediates (b ∷ t) =
-      test _ (λ _. no) (λ _. test _ (λ _. sound-intermediates t) (λ _. test _ (λ _. no) (λ _. test _ (λ _. no) (λ _. no))))
+      by _ (λ _. no) (λ _. by _ (λ _. sound-intermediates t) (λ _. by _ (λ _. no) (λ _. by _ (λ _. no) (λ _. no))))
 
   sound-named : (form : ℕ) (d : Side) (x : ℕ) (t : List ℕ) → Sound s (lead form d (x ∷ t)) (designatesOf form d (setOf form d x))
   unfolding designatesOf
   sound-named form d x t =
-      test _
+      by _
       (λ e. let n = set-named form d x (ltb-true (setOf form d x) 15 e) in
-      test _ (λ k. designates d (setOf form d x) t (change form d x t n true k)) (λ k. designates d (setOf form d x) t (change form d x t n false k)))
+      by _ (λ k. designates d (setOf form d x) t (change form d x t n true k)) (λ k. designates d (setOf form d x) t (change form d x t n false k)))
       (λ _. no)
 
   sound-designation : (form : ℕ) (d : Side) (t : List ℕ) → Sound s (lead form d t) (designationOf form d t)
   unfolding designationOf next
   sound-designation form d [] = no
   sound-designation form d (x ∷ t) =
-      test _ (λ _. no)
-      (λ _. test _ (λ _. sound-intermediates t) (λ _. test _ (λ _. no) (λ _. test _ (λ _. sound-named form d x t) (λ _. no))))
+      by _ (λ _. no)
+      (λ _. by _ (λ _. sound-intermediates t) (λ _. by _ (λ _. no) (λ _. by _ (λ _. sound-named form d x t) (λ _. no))))
 
   sound-multi-octet : (t : List ℕ) → Sound s (0x1B ∷ 0x24 ∷ t) (multiOctetOf t)
   unfolding multiOctetOf next
   sound-multi-octet [] = no
   sound-multi-octet (x ∷ t) =
-      test (eqb x 0x28) (λ e. rw (eqb-true x 0x28 e) (sound-designation 3 GL t))
-      (λ _. test (eqb x 0x29) (λ e. rw (eqb-true x 0x29 e) (sound-designation 3 GR t)) (λ _. no))
+      is (λ x. 0x1B ∷ 0x24 ∷ x ∷ t) x 0x28 (sound-designation 3 GL t) (is (λ x. 0x1B ∷ 0x24 ∷ x ∷ t) x 0x29 (sound-designation 3 GR t) no)
 
   -- ---- extended segments
 
-  held : (e m l n : ℕ) (t : List ℕ) → 0x30 ≤ e → e < 0x35 → 128 ≤ m → m < 256 → 128 ≤ l → l < 256 → n ≡ (m - 128) * 128 + (l - 128) → n ≤ length t
-      → segment e 0 (take n t) ≡ true → Sound s (0x1B ∷ 0x25 ∷ 0x2F ∷ e ∷ m ∷ l ∷ t) (Gives (segmentPart e n (textOctets (take n t))))
-  unfolding octets good unitAt unitOf
-  held e m l n t le ge lm gm ll gl en h g =
-      plain {p = segmentPart e n (textOctets (take n t))} (ext e (take n t)) (drop n t)
-      (λ i. 0x1B ∷ 0x25 ∷ 0x2F ∷ e ∷ high i ∷ low i ∷ sym (take-append-drop n t) i)
-      (omega (arith, count)) refl
-      (rw (le-leb 0x30 e le, le-leb e 0x34 (omega arith), le-leb (length (take n t)) 16383 (omega (arith, count)), g)) tt refl refl
-    where
-      count : length (take n t) ≡ n
-      count = length-take-le n t h
+  module _ (e m l n : ℕ) (t : List ℕ) (le : 0x30 ≤ e) (ge : e < 0x35) (lm : 128 ≤ m) (gm : m < 256) (ll : 128 ≤ l) (gl : l < 256)
+      (en : n ≡ (m - 128) * 128 + (l - 128)) where
+    held : n ≤ length t → segment e 0 (take n t) ≡ true → Sound s (0x1B ∷ 0x25 ∷ 0x2F ∷ e ∷ m ∷ l ∷ t) (Gives (segmentPart e n (textOctets (take n t))))
+    unfolding octets good unitAt unitOf
+    held h g =
+        finds {p = segmentPart e n (textOctets (take n t))} (ext e (take n t)) GL (drop n t)
+        (record {
+          fit = rw (le-leb 0x30 e le, le-leb e 0x34 (omega arith), le-leb (length (take n t)) 16383 (omega (arith, count)), g);
+          shows = tt;
+          are = λ i. 0x1B ∷ 0x25 ∷ 0x2F ∷ e ∷ high i ∷ low i ∷ sym (take-append-drop n t) i;
+          size = omega (arith, count);
+          unit = refl;
+          kind = refl;
+          text = refl;
+        })
+      where
+        count : length (take n t) ≡ n
+        count = length-take-le n t h
 
-      high : m ≡ 128 + length (take n t) / 128
-      high = omega (arith, count)
+        high : m ≡ 128 + length (take n t) / 128
+        high = omega (arith, count)
 
-      low : l ≡ 128 + length (take n t) % 128
-      low = omega (arith, count)
+        low : l ≡ 128 + length (take n t) % 128
+        low = omega (arith, count)
 
-  sound-body : (e m l n : ℕ) (t : List ℕ) → 0x30 ≤ e → e < 0x35 → 128 ≤ m → m < 256 → 128 ≤ l → l < 256 → n ≡ (m - 128) * 128 + (l - 128)
-      → Sound s (0x1B ∷ 0x25 ∷ 0x2F ∷ e ∷ m ∷ l ∷ t) (bodyOf e n t)
-  unfolding bodyOf
-  sound-body e m l n t le ge lm gm ll gl en =
-      test (leb n (length t))
-      (λ q. let h = leb-true n (length t) q in
-      subst (Sound s (0x1B ∷ 0x25 ∷ 0x2F ∷ e ∷ m ∷ l ∷ t)) (sym (content e n (take n t) 0 (let z : n ≡ 0 + length (take n t) = omega (arith, length-take-le n t h) in z)))
-      (test (segment e 0 (take n t)) (λ g. held e m l n t le ge lm gm ll gl en h g) (λ _. no)))
-      (λ _. no)
+    sound-body : Sound s (0x1B ∷ 0x25 ∷ 0x2F ∷ e ∷ m ∷ l ∷ t) (bodyOf e n t)
+    unfolding bodyOf
+    sound-body =
+        by (leb n (length t))
+        (λ q. let h = leb-true n (length t) q in
+        rw (content e n (take n t) 0 (omega (arith, length-take-le n t h))) (by (segment e 0 (take n t)) (λ g. held h g) (λ _. no)))
+        (λ _. no)
 
   sound-lengths : (e : ℕ) (t : List ℕ) → 0x30 ≤ e → e < 0x35 → Octets t → Sound s (0x1B ∷ 0x25 ∷ 0x2F ∷ e ∷ t) (lengthsOf e t)
   unfolding lengthsOf next
   sound-lengths e [] le ge o = no
-  sound-lengths e (m ∷ []) le ge o = test _ (λ _. no) (λ _. no)
+  sound-lengths e (m ∷ []) le ge o = by _ (λ _. no) (λ _. no)
   sound-lengths e (m ∷ l ∷ t) le ge o =
-      test (ltb m 0x80) (λ _. no)
-      (λ p. test (ltb l 0x80) (λ _. no) (λ q. sound-body e m l ((m - 128) * 128 + (l - 128)) t le ge (ltb-false m 0x80 p) (o 0) (ltb-false l 0x80 q) (o 1) refl))
+      by (ltb m 0x80) (λ _. no)
+      (λ p. by (ltb l 0x80) (λ _. no) (λ q. sound-body e m l ((m - 128) * 128 + (l - 128)) t le ge (ltb-false m 0x80 p) (o 0) (ltb-false l 0x80 q) (o 1) refl))
 
   sound-extended : (t : List ℕ) → Octets t → Sound s (0x1B ∷ 0x25 ∷ t) (extendedOf t)
   unfolding extendedOf next
   sound-extended [] o = no
-  sound-extended (x ∷ []) o = test _ (λ _. no) (λ _. no)
+  sound-extended (x ∷ []) o = by _ (λ _. no) (λ _. no)
   sound-extended (x ∷ e ∷ t) o =
-      test (eqb x 0x2F)
-      (λ q. rw (eqb-true x 0x2F q)
-      (test (ltb e 0x30) (λ _. no) (λ p. test (ltb e 0x35) (λ r. sound-lengths e t (ltb-false e 0x30 p) (ltb-true e 0x35 r) (λ i. o (suc (suc i)))) (λ _. no))))
-      (λ _. no)
+      is (λ x. 0x1B ∷ 0x25 ∷ x ∷ e ∷ t) x 0x2F
+      (by (ltb e 0x30) (λ _. no)
+      (λ p. by (ltb e 0x35) (λ r. sound-lengths e t (ltb-false e 0x30 p) (ltb-true e 0x35 r) (λ i. o (suc (suc i)))) (λ _. no)))
+      no
 
   sound-escape : (t : List ℕ) → Octets t → Sound s (0x1B ∷ t) (escapeOf t)
   unfolding escapeOf next
   sound-escape [] o = no
   sound-escape (x ∷ t) o =
-      test (eqb x 0x28) (λ e. rw (eqb-true x 0x28 e) (sound-designation 1 GL t))
-      (λ _. test (eqb x 0x29) (λ e. rw (eqb-true x 0x29 e) (sound-designation 1 GR t))
-      (λ _. test (eqb x 0x2D) (λ e. rw (eqb-true x 0x2D e) (sound-designation 2 GR t))
-      (λ _. test (eqb x 0x24) (λ e. rw (eqb-true x 0x24 e) (sound-multi-octet t))
-      (λ _. test (eqb x 0x25) (λ e. rw (eqb-true x 0x25 e) (sound-extended t (λ i. o (suc i))))
-      (λ _. test (eqb x 0x23) (λ _. no) (λ _. no))))))
+      at 0x28 (sound-designation 1 GL t)
+      (at 0x29 (sound-designation 1 GR t)
+      (at 0x2D (sound-designation 2 GR t)
+      (at 0x24 (sound-multi-octet t) (at 0x25 (sound-extended t (λ i. o (suc i))) (by _ (λ _. no) (λ _. no))))))
+    where
+      at : {a b : Shape} (n : ℕ) → Sound s (0x1B ∷ n ∷ t) a → Sound s (0x1B ∷ x ∷ t) b → Sound s (0x1B ∷ x ∷ t) (pick (eqb x n) a b)
+      at n f g = is (λ x. 0x1B ∷ x ∷ t) x n f g
 
   -- ---- characters and spaces
 
@@ -249,40 +232,34 @@ module _ (s : Sets) where
     unfolding secondOctetOf next
     sound-second [] n u = no
     sound-second (y ∷ t) n u =
-        test (eqb (y / 128) (b / 128)) (λ e. test (graphicOf (y % 128)) (λ v. two y t n u (eqb-true (y / 128) (b / 128) e) v) (λ _. no)) (λ _. no)
+        by (eqb (y / 128) (b / 128)) (λ e. by (graphicOf (y % 128)) (λ v. two y t n u (eqb-true (y / 128) (b / 128) e) v) (λ _. no)) (λ _. no)
 
     sound-character : (t : List ℕ) → Sound s (b ∷ t) (characterOf c b t)
     unfolding characterOf codeUsed
     sound-character t =
-        test (eqb (formOf c) 2)
+        by (eqb (formOf c) 2)
         (λ e. one t (ap (λ (f : ℕ). eqb f 3) (eqb-true (formOf c) 2 e)) (rw (eqb-true (formOf c) 2 e, le-leb 0x20 (b % 128) low, le-leb (b % 128) 0x7F (omega arith))))
-        (λ m. test (graphicOf (b % 128))
-        (λ u. test (eqb (formOf c) 3) (λ n. sound-second t n u) (λ n. one t n (rw (n, m, u)))) (λ _. no))
+        (λ m. by (graphicOf (b % 128))
+        (λ u. by (eqb (formOf c) 3) (λ n. sound-second t n u) (λ n. one t n (rw (n, m, u)))) (λ _. no))
 
   module _ (l : Legal s) where
     sound-text : (b : ℕ) (t : List ℕ) → 0x20 ≤ b → b < 256 → (0x80 ≤ b → 0xA0 ≤ b) → Sound s (b ∷ t) (textOf b t s)
     unfolding textOf octets good wide unitAt unitOf
     sound-text b t h o r =
-        test (eqb b 0x20)
-        (λ e. test (eqb (formOf (s .gl)) 3) (λ _. no)
-        (λ n. plain {p = part 1 0 0 0 1 true} space t (ap (λ (x : ℕ). x ∷ t) (eqb-true b 0x20 e)) refl refl refl n refl refl))
-        (λ _. test (ltb b 0x80)
-        (λ p. let q = ltb-true b 0x80 p in
-        sound-character GL (s .gl) b refl (allowed-below GL (s .gl) (l .left)) (omega arith) (omega arith) o t)
-        (λ p. let q = ltb-false b 0x80 p in
-        let z = r q in
+        is (λ x. x ∷ t) b 0x20 (by (eqb (formOf (s .gl)) 3) (λ _. no) (λ n. finds space GL t (search)))
+        (by (ltb b 0x80)
+        (λ p. sound-character GL (s .gl) b refl (allowed-below GL (s .gl) (l .left)) (omega tested) (omega tested) o t)
+        (λ p. let q = r (ltb-false b 0x80 p) in
         sound-character GR (s .gr) b refl (allowed-below GR (s .gr) (l .right)) (omega arith) (omega arith) o t))
 
     pub sound : (b : ℕ) (t : List ℕ) → Octets (b ∷ t) → Sound s (b ∷ t) (shapeOf (b ∷ t) s)
     unfolding shapeOf octets good unitAt unitOf
     sound b t o =
-        test (eqb b 0x1B) (λ e. rw (eqb-true b 0x1B e) (sound-escape t (λ i. o (suc i))))
-        (λ _. test (eqb b 0x9B) (λ e. rw (eqb-true b 0x9B e) (sound-csi t))
-        (λ _. test (eqb b 0x09) (λ e. plain {p = part 2 0 0 0 1 false} (control tab) t (ap (λ (x : ℕ). x ∷ t) (eqb-true b 0x09 e)) refl refl refl tt refl refl)
-        (λ _. test (eqb b 0x0A) (λ e. plain {p = part 3 0 0 0 1 false} (control newline) t (ap (λ (x : ℕ). x ∷ t) (eqb-true b 0x0A e)) refl refl refl tt refl refl)
-        (λ _. test (ltb b 0x20) (λ _. no)
-        (λ g. test (eqb b 0x7F) (λ _. no)
-        (λ _. test (ltb b 0x80)
-        (λ p. sound-text b t (ltb-false b 0x20 g) (o 0) (λ h. absurd (let q = ltb-true b 0x80 p in omega arith)))
-        (λ _. test (ltb b 0xA0) (λ _. no)
-        (λ p. sound-text b t (ltb-false b 0x20 g) (o 0) (λ _. ltb-false b 0xA0 p)))))))))
+        is (λ x. x ∷ t) b 0x1B (sound-escape t (λ i. o (suc i)))
+        (is (λ x. x ∷ t) b 0x9B (sound-csi t)
+        (is (λ x. x ∷ t) b 0x09 (finds (control tab) GL t (search))
+        (is (λ x. x ∷ t) b 0x0A (finds (control newline) GL t (search))
+        (by (ltb b 0x20) (λ _. no)
+        (λ g. by (eqb b 0x7F) (λ _. no)
+        (λ _. by (ltb b 0x80) (λ p. sound-text b t (ltb-false b 0x20 g) (o 0) (λ h. absurd (omega tested)))
+        (λ _. by (ltb b 0xA0) (λ _. no) (λ p. sound-text b t (ltb-false b 0x20 g) (o 0) (λ _. ltb-false b 0xA0 p)))))))))

@@ -1,6 +1,6 @@
 -- The choice by number is the writer's choice: shown by one computed test of all 17 classes and 80 numbers, from which the laws follow.
-use mathlib.Core.Path.{_≡_, refl, sym, ap, ap₂, _∙_, subst}
-use mathlib.Core.Bool.{Bool, true, false, cond, _||_, _&&_, not, false≢true, Bool·beq}
+use mathlib.Core.Path.{_≡_, refl, sym, ap, ap₂, _∙_}
+use mathlib.Core.Bool.{Bool, true, false, cond, _||_, _&&_, not, Bool·beq}
 use mathlib.Core.List.{List}
 use mathlib.Core.Option.{Option, none, some}
 use Prim.Native.Nat.{ℕ, _+_, _-_, _≤_, _<_}
@@ -8,15 +8,15 @@ use native.Mathlib.Omega.{arith}
 use lib.ListN.{length, getD, List·getD-eq-default}
 use lib.Dec.{eqb, leb, ltb}
 use borrow.Author.Tests.{eqb-true, eq-eqb, ne-eqb, ltb-true, ltb-false, lt-ltb, le-ltb, leb-true, leb-false, le-leb, lt-leb}
-use Rattle.base.proofs.Bools.{and-left, and-right, implies, implies-elim, or-none, up-to, upTo}
+use Rattle.base.proofs.Bools.{off, test, implies, implies-elim, or-none, up-to, upTo, up-to-both, up-to-where, from-tests}
 use Rattle.charset.specs.declared.Side.{Side}
 use Rattle.charset.specs.declared.Side.the-variants.{GL, GR}
 use Rattle.charset.specs.Charsets.{allowed, mayUse, formOf}
-use Rattle.state.specs.State.{Standing, sets, put}
+use Rattle.state.specs.State.{Standing, on, sets, put}
 use Rattle.state.specs.declared.Sets.{Sets}
 use Rattle.grammar.specs.Units.{designation}
 use Rattle.shortest.specs.Writing.{Need, free, either, stands, met, price, least, choose, after, used}
-use Rattle.shortest.proofs.Needs.{Steady}
+use Rattle.shortest.proofs.Needs.{Steady, least-chosen}
 use Rattle.numbers.specs.Numbers.{setsInGL, setsInGR, numbered, withGL, withGR, needOfClass, priceOfClass, placesInGL, placesInGR, afterFirst}
 use Rattle.numbers.specs.Numbers.{afterSecond, chosenBy, afterChoice, surcharge, change, sideAt}
 
@@ -40,36 +40,24 @@ sameSets a b = eqb (a .gl) (b .gl) && eqb (a .gr) (b .gr)
 
 sameSide-eq : (a b : Side) → sameSide a b ≡ true → a ≡ b
 sameSide-eq GL GL e = refl
-sameSide-eq GL GR e = absurd (false≢true e)
-sameSide-eq GR GL e = absurd (false≢true e)
+sameSide-eq GL GR e = off e
+sameSide-eq GR GL e = off e
 sameSide-eq GR GR e = refl
 
 pub sameStanding-eq : (a b : Standing) → sameStanding a b ≡ true → a ≡ b
-sameStanding-eq a b e = λ i. record { side = side i; set = set i }
-  where
-    side : a .side ≡ b .side
-    side = sameSide-eq (a .side) (b .side) (and-left (sameSide (a .side) (b .side)) (eqb (a .set) (b .set)) e)
-
-    set : a .set ≡ b .set
-    set = eqb-true (a .set) (b .set) (and-right (sameSide (a .side) (b .side)) (eqb (a .set) (b .set)) e)
+sameStanding-eq a b e = ap₂ on (search (from-tests, sameSide-eq)) (search from-tests)
 
 isStanding-eq : (o : Option Standing) (p : Standing) → isStanding o p ≡ true → o ≡ some p
-isStanding-eq none p e = absurd (false≢true e)
+isStanding-eq none p e = off e
 isStanding-eq (some q) p e = ap some (sameStanding-eq q p e)
 
 sameSets-eq : (a b : Sets) → sameSets a b ≡ true → a ≡ b
-sameSets-eq a b e = λ i. sets (gl i) (gr i)
-  where
-    gl : a .gl ≡ b .gl
-    gl = eqb-true (a .gl) (b .gl) (and-left (eqb (a .gl) (b .gl)) (eqb (a .gr) (b .gr)) e)
-
-    gr : a .gr ≡ b .gr
-    gr = eqb-true (a .gr) (b .gr) (and-right (eqb (a .gl) (b .gl)) (eqb (a .gr) (b .gr)) e)
+sameSets-eq a b e = ap₂ sets (search from-tests) (search from-tests)
 
 pub beq-eq : (a b : Bool) → Bool·beq a b ≡ true → a ≡ b
 beq-eq true true e = refl
-beq-eq true false e = absurd (false≢true e)
-beq-eq false true e = absurd (false≢true e)
+beq-eq true false e = off e
+beq-eq false true e = off e
 beq-eq false false e = refl
 
 -- ---- the test of all classes and numbers
@@ -82,40 +70,20 @@ record Reaches (x k j : ℕ) (p : Standing) : Type 0 where
   below : j < 80
   changed : eqb j k ≡ false → change k j ≡ some p
 
-abbrev stateTest : ℕ → ℕ → Standing → Bool
-stateTest k j p = sameSets (numbered j) (put p (numbered k)) && Bool·beq (eqb j k) (stands p (numbered k))
-
-abbrev costTest : ℕ → ℕ → Standing → Bool
-costTest x j p = eqb (price p) (priceOfClass x) && ltb j 80
-
 abbrev reaches : ℕ → ℕ → ℕ → Standing → Bool
-reaches x k j p = (stateTest k j p && costTest x j p) && implies (not (eqb j k)) (isStanding (change k j) p)
+reaches x k j p =
+    (sameSets (numbered j) (put p (numbered k)) && Bool·beq (eqb j k) (stands p (numbered k)))
+    && (eqb (price p) (priceOfClass x) && ltb j 80) && implies (not (eqb j k)) (isStanding (change k j) p)
 
 reaches-all : (x k j : ℕ) (p : Standing) → reaches x k j p ≡ true → Reaches x k j p
 reaches-all x k j p e =
     record {
-      state =
-          sameSets-eq (numbered j) (put p (numbered k))
-          (and-left (sameSets (numbered j) (put p (numbered k))) (Bool·beq (eqb j k) (stands p (numbered k))) first);
-      stays =
-          beq-eq (eqb j k) (stands p (numbered k))
-          (and-right (sameSets (numbered j) (put p (numbered k))) (Bool·beq (eqb j k) (stands p (numbered k))) first);
-      cost = eqb-true (price p) (priceOfClass x) (and-left (eqb (price p) (priceOfClass x)) (ltb j 80) second);
-      below = ltb-true j 80 (and-right (eqb (price p) (priceOfClass x)) (ltb j 80) second);
-      changed = λ n. isStanding-eq (change k j) p (implies-elim (not (eqb j k)) (isStanding (change k j) p) third (ap not n));
+      state = search (from-tests, sameSets-eq);
+      stays = search (from-tests, beq-eq);
+      cost = search from-tests;
+      below = search from-tests;
+      changed = λ n. isStanding-eq _ _ (implies-elim (not (eqb j k)) (isStanding (change k j) p) (search from-tests) (ap not n));
     }
-  where
-    both : (stateTest k j p && costTest x j p) ≡ true
-    both = and-left (stateTest k j p && costTest x j p) (implies (not (eqb j k)) (isStanding (change k j) p)) e
-
-    first : stateTest k j p ≡ true
-    first = and-left (stateTest k j p) (costTest x j p) both
-
-    second : costTest x j p ≡ true
-    second = and-right (stateTest k j p) (costTest x j p) both
-
-    third : implies (not (eqb j k)) (isStanding (change k j) p) ≡ true
-    third = and-right (stateTest k j p && costTest x j p) (implies (not (eqb j k)) (isStanding (change k j) p)) e
 
 abbrev reached : Need → ℕ → ℕ → Bool
 reached free x k = eqb (afterFirst x k) k && eqb (afterSecond x k) k
@@ -126,8 +94,7 @@ unfolding needOfClass afterFirst afterSecond priceOfClass change numbered price 
 all-reached = refl
 
 reached-at : (x k : ℕ) → x < 17 → k < 80 → reached (needOfClass x) x k ≡ true
-reached-at x k hx hk =
-    up-to 80 (λ m. reached (needOfClass x) x m) (up-to 17 (λ y. upTo 80 (λ m. reached (needOfClass y) y m)) all-reached x hx) k hk
+reached-at x k = up-to-both 17 80 (λ y m. reached (needOfClass y) y m) all-reached x k
 
 -- what it says of a need: the two numbers are k itself, or each is reached
 data Served (x k : ℕ) : Need → Type 0 where
@@ -135,12 +102,8 @@ data Served (x k : ℕ) : Need → Type 0 where
   needs-one : {a b : Standing} → Reaches x k (afterFirst x k) a → Reaches x k (afterSecond x k) b → Served x k (either a b)
 
 served-by : (n : Need) (x k : ℕ) → reached n x k ≡ true → Served x k n
-served-by free x k e =
-    needs-none (eqb-true (afterFirst x k) k (and-left (eqb (afterFirst x k) k) (eqb (afterSecond x k) k) e))
-    (eqb-true (afterSecond x k) k (and-right (eqb (afterFirst x k) k) (eqb (afterSecond x k) k) e))
-served-by (either a b) x k e =
-    needs-one (reaches-all x k (afterFirst x k) a (and-left (reaches x k (afterFirst x k) a) (reaches x k (afterSecond x k) b) e))
-    (reaches-all x k (afterSecond x k) b (and-right (reaches x k (afterFirst x k) a) (reaches x k (afterSecond x k) b) e))
+served-by free x k e = search (from-tests, needs-none)
+served-by (either a b) x k e = search (from-tests, needs-one, reaches-all)
 
 served : (x k : ℕ) → x < 17 → k < 80 → Served x k (needOfClass x)
 served x k hx hk = served-by (needOfClass x) x k (reached-at x k hx hk)
@@ -159,9 +122,28 @@ unfolding change
 unchanged k = rw (eq-eqb k k refl)
 
 module _ (f : Sets → ℕ) (h : ℕ → ℕ) (agree : (j : ℕ) → j < 80 → h j ≡ f (numbered j)) (x k : ℕ) (hk : k < 80) where
+  -- nothing is designated, or p is, which leads to number j
+  choice-none : (n : Need) → choose n f (numbered k) ≡ none → Choice n f x k k (h k)
+  choice-none n e =
+      record {
+        state = rw e;
+        cost = rw (eq-eqb k k refl) (omega (arith, agree k hk, rw e at (least-chosen n f (numbered k))));
+        below = hk;
+        changed = rw e (unchanged k);
+      }
+
+  choice-some : (n : Need) (j : ℕ) (p : Standing) → Reaches x k j p → eqb j k ≡ false → choose n f (numbered k) ≡ some p → Choice n f x k j (h j)
+  choice-some n j p r d e =
+      record {
+        state = rw e (r .state);
+        cost = rw d (omega (arith, r .cost, agree j (r .below), ap f (r .state), rw e at (least-chosen n f (numbered k))));
+        below = r .below;
+        changed = rw e (r .changed d);
+      }
+
   choice-either : (a b : Standing) → Reaches x k (afterFirst x k) a → Reaches x k (afterSecond x k) b
       → Choice (either a b) f x k (afterChoice x k h) (h (afterChoice x k h))
-  unfolding chosenBy choose least met
+  unfolding chosenBy choose met
   choice-either a b ra rb = go (eqb (afterFirst x k) k || eqb (afterSecond x k) k) refl (leb (h (afterFirst x k)) (h (afterSecond x k))) refl
     where
       ha : h (afterFirst x k) ≡ f (put a (numbered k))
@@ -172,37 +154,19 @@ module _ (f : Sets → ℕ) (h : ℕ → ℕ) (agree : (j : ℕ) → j < 80 → 
 
       go : (m : Bool) → (eqb (afterFirst x k) k || eqb (afterSecond x k) k) ≡ m → (t : Bool) → leb (h (afterFirst x k)) (h (afterSecond x k)) ≡ t
           → Choice (either a b) f x k (cond m k (cond t (afterFirst x k) (afterSecond x k))) (h (cond m k (cond t (afterFirst x k) (afterSecond x k))))
-      go true em t et =
-          let e : (stands a (numbered k) || stands b (numbered k)) ≡ true = rw (ra .stays, rb .stays) at em in
-          record { state = rw e; cost = rw (e, eq-eqb k k refl) (omega (arith, agree k hk)); below = hk; changed = rw e (unchanged k) }
+      go true em t et = choice-none (either a b) (rw (rw (ra .stays, rb .stays) at em))
       go false em true et =
-          let e : (stands a (numbered k) || stands b (numbered k)) ≡ false = rw (ra .stays, rb .stays) at em in
-          let n = or-none (eqb (afterFirst x k) k) (eqb (afterSecond x k) k) em .0 in
-          let le : h (afterFirst x k) ≤ h (afterSecond x k) = leb-true (h (afterFirst x k)) (h (afterSecond x k)) et in
-          let l = le-leb (price a + f (put a (numbered k))) (price b + f (put b (numbered k))) (omega (arith, ra .cost, rb .cost, ha, hb)) in
-          record {
-            state = rw (e, l) (ra .state);
-            cost = rw (e, n) (omega (arith, ra .cost, rb .cost, ha, hb));
-            below = ra .below;
-            changed = rw (e, l) (ra .changed n);
-          }
+          let l = le-leb (price a + f (put a (numbered k))) (price b + f (put b (numbered k)))
+          (omega (arith, ra .cost, rb .cost, ha, hb, leb-true)) in
+          choice-some (either a b) _ a ra (or-none (eqb (afterFirst x k) k) _ em .0) (rw (rw (ra .stays, rb .stays) at em, l))
       go false em false et =
-          let e : (stands a (numbered k) || stands b (numbered k)) ≡ false = rw (ra .stays, rb .stays) at em in
-          let n = or-none (eqb (afterFirst x k) k) (eqb (afterSecond x k) k) em .1 in
-          let le : h (afterSecond x k) < h (afterFirst x k) = leb-false (h (afterFirst x k)) (h (afterSecond x k)) et in
-          let l = lt-leb (price a + f (put a (numbered k))) (price b + f (put b (numbered k))) (omega (arith, ra .cost, rb .cost, ha, hb)) in
-          record {
-            state = rw (e, l) (rb .state);
-            cost = rw (e, n) (omega (arith, ra .cost, rb .cost, ha, hb));
-            below = rb .below;
-            changed = rw (e, l) (rb .changed n);
-          }
+          let l = lt-leb (price a + f (put a (numbered k))) (price b + f (put b (numbered k)))
+          (omega (arith, ra .cost, rb .cost, ha, hb, leb-false)) in
+          choice-some (either a b) _ b rb (or-none (eqb (afterFirst x k) k) _ em .1) (rw (rw (ra .stays, rb .stays) at em, l))
 
   choice-of : {n : Need} → Served x k n → Choice n f x k (afterChoice x k h) (h (afterChoice x k h))
-  unfolding chosenBy choose least
-  choice-of (needs-none e e′) =
-      let b = eq-eqb (afterFirst x k) k e in
-      record { state = rw b; cost = rw (b, eq-eqb k k refl) (omega (arith, agree k hk)); below = rw b hk; changed = rw b (unchanged k) }
+  unfolding chosenBy choose
+  choice-of (needs-none e e′) = rw (eq-eqb (afterFirst x k) k e) (choice-none free refl)
   choice-of (needs-one {a} {b} ra rb) = choice-either a b ra rb
 
   pub choice-at : x < 17 → Choice (needOfClass x) f x k (afterChoice x k h) (h (afterChoice x k h))
@@ -232,11 +196,9 @@ steady-at f st x k hx hk = served-steady f st x k (served x k hx hk)
 
 -- costs less a base choose alike
 leb-base : (b u v : ℕ) → leb (b + u) (b + v) ≡ leb u v
-leb-base b u v = go (leb u v) refl
-  where
-    go : (t : Bool) → leb u v ≡ t → leb (b + u) (b + v) ≡ t
-    go true e = le-leb (b + u) (b + v) (let l = leb-true u v e in omega arith)
-    go false e = lt-leb (b + u) (b + v) (let l = leb-false u v e in omega arith)
+leb-base b u v =
+    test (leb u v) (λ e. rw e (le-leb (b + u) (b + v) (omega (arith, leb-true u v e))))
+    (λ e. rw e (lt-leb (b + u) (b + v) (omega (arith, leb-false u v e))))
 
 pub chosen-base : (x k b u v u′ v′ : ℕ) → b + u ≡ u′ → b + v ≡ v′ → chosenBy x k u v ≡ chosenBy x k u′ v′
 unfolding chosenBy
@@ -251,9 +213,7 @@ unfolding afterFirst afterSecond
 all-single = refl
 
 pub single : (x k : ℕ) → x < 12 → k < 80 → afterFirst x k ≡ afterSecond x k
-single x k hx hk =
-    eqb-true (afterFirst x k) (afterSecond x k)
-    (up-to 80 (λ m. eqb (afterFirst x m) (afterSecond x m)) (up-to 12 (λ y. upTo 80 (λ m. eqb (afterFirst y m) (afterSecond y m))) all-single x hx) k hk)
+single x k hx hk = eqb-true _ _ (up-to-both 12 80 (λ y m. eqb (afterFirst y m) (afterSecond y m)) all-single x k hx hk)
 
 cond-same : (t : Bool) (a : ℕ) → cond t a a ≡ a
 cond-same true a = refl
@@ -277,39 +237,29 @@ chosen-free k u v u′ v′ = rw (eq-eqb k k refl)
 
 -- a bound of all entries of a list of numbers
 pub bounded : (l : List ℕ) (b : ℕ) → upTo (length l) (λ i. leb (getD l i 0) b) ≡ true → (i : ℕ) → getD l i 0 ≤ b
-bounded l b t i = go (ltb i (length l)) refl
-  where
-    go : (q : Bool) → ltb i (length l) ≡ q → getD l i 0 ≤ b
-    go true e = leb-true (getD l i 0) b (up-to (length l) (λ j. leb (getD l j 0) b) t i (ltb-true i (length l) e))
-    go false e = let d : getD l i 0 ≡ 0 = List·getD-eq-default l 0 (ltb-false i (length l) e) in omega arith
+bounded l b t i =
+    test (ltb i (length l)) (λ e. leb-true _ _ (up-to (length l) (λ j. leb (getD l j 0) b) t i (ltb-true _ _ e)))
+    (λ e. omega (arith, List·getD-eq-default l 0 (ltb-false _ _ e)))
 
--- a list that is a sum from a place on
-from-place : (l : List ℕ) (a n b c : ℕ) → upTo n (λ y. eqb (a + y + b - c) (getD l (a + y) 0)) ≡ true → (x : ℕ) → a ≤ x → x < a + n → x + b - c ≡ getD l x 0
-from-place l a n b c t x h k =
-    let e : a + (x - a) ≡ x = omega arith in
-    subst (λ (y : ℕ). y + b - c ≡ getD l y 0) e
-    (eqb-true (a + (x - a) + b - c) (getD l (a + (x - a)) 0) (up-to n (λ y. eqb (a + y + b - c) (getD l (a + y) 0)) t (x - a) (omega arith)))
+-- what stands at the places below n of a list for which a test holds
+in-table : (l : List ℕ) (n : ℕ) (p : ℕ → Bool) (v : ℕ → ℕ) → upTo n (λ y. implies (p y) (eqb (v y) (getD l y 0))) ≡ true
+    → (x : ℕ) → x < n → p x ≡ true → v x ≡ getD l x 0
+in-table l n p v t x h e = eqb-true _ _ (up-to-where n p (λ y. eqb (v y) (getD l y 0)) t x h e)
 
 pub gl-none : (x : ℕ) → x < 12 → (x ≡ 0 → ⊥) → (x ≡ 2 → ⊥) → 5 ≡ getD placesInGL x 0
-gl-none x h a b =
-    eqb-true 5 (getD placesInGL x 0)
-    (implies-elim (not (eqb x 0) && not (eqb x 2)) (eqb 5 (getD placesInGL x 0))
-    (up-to 12 (λ y. implies (not (eqb y 0) && not (eqb y 2)) (eqb 5 (getD placesInGL y 0))) refl x h) (rw (ne-eqb x 0 a, ne-eqb x 2 b)))
+gl-none x h a b = in-table placesInGL 12 (λ y. not (eqb y 0) && not (eqb y 2)) (λ _. 5) refl x h (rw (ne-eqb x 0 a, ne-eqb x 2 b))
 
 pub gl-two : (x : ℕ) → 12 ≤ x → x < 15 → x - 10 ≡ getD placesInGL x 0
-gl-two x h k = let e : x - 10 ≡ x + 0 - 10 = omega arith in e ∙ from-place placesInGL 12 3 0 10 refl x h k
+gl-two x h k = in-table placesInGL 15 (leb 12) (λ y. y - 10) refl x k (le-leb 12 x h)
 
 pub gl-other : (x : ℕ) → 15 ≤ x → 0 ≡ getD placesInGL x 0
 gl-other x h = sym (List·getD-eq-default placesInGL 0 h)
 
 pub gr-none : (x : ℕ) → x < 3 → (x ≡ 1 → ⊥) → 13 ≡ getD placesInGR x 0
-gr-none x h a =
-    eqb-true 13 (getD placesInGR x 0)
-    (implies-elim (not (eqb x 1)) (eqb 13 (getD placesInGR x 0))
-    (up-to 3 (λ y. implies (not (eqb y 1)) (eqb 13 (getD placesInGR y 0))) refl x h) (rw (ne-eqb x 1 a)))
+gr-none x h a = in-table placesInGR 3 (λ y. not (eqb y 1)) (λ _. 13) refl x h (rw (ne-eqb x 1 a))
 
 pub gr-most : (x : ℕ) → 3 ≤ x → x < 15 → x - 2 ≡ getD placesInGR x 0
-gr-most x h k = let e : x - 2 ≡ x + 0 - 2 = omega arith in e ∙ from-place placesInGR 3 12 0 2 refl x h k
+gr-most x h k = in-table placesInGR 15 (leb 3) (λ y. y - 2) refl x k (le-leb 3 x h)
 
 pub gr-other : (x : ℕ) → 15 ≤ x → 0 ≡ getD placesInGR x 0
 gr-other x h = sym (List·getD-eq-default placesInGR 0 h)
@@ -318,19 +268,19 @@ gr-other x h = sym (List·getD-eq-default placesInGR 0 h)
 module _ (x l r k : ℕ) (el : l ≡ getD placesInGL x 0) (er : r ≡ getD placesInGR x 0) where
   pub first-gl : x < 15 → l < 5 → withGL l k ≡ afterFirst x k
   unfolding afterFirst
-  first-gl h m = ap (λ (n : ℕ). withGL n k) el ∙ rw (lt-ltb x 15 h, lt-ltb (getD placesInGL x 0) 5 (subst (λ (n : ℕ). n < 5) el m))
+  first-gl h m = rw (lt-ltb x 15, ← el, lt-ltb l 5)
 
   pub first-gr : x < 15 → 5 ≤ l → withGR r k ≡ afterFirst x k
   unfolding afterFirst
-  first-gr h m = ap (λ (n : ℕ). withGR n k) er ∙ rw (lt-ltb x 15 h, le-ltb (getD placesInGL x 0) 5 (subst (λ (n : ℕ). 5 ≤ n) el m))
+  first-gr h m = rw (lt-ltb x 15, ← el, ← er, le-ltb l 5)
 
   pub second-gr : x < 15 → r < 13 → withGR r k ≡ afterSecond x k
   unfolding afterSecond
-  second-gr h m = ap (λ (n : ℕ). withGR n k) er ∙ rw (lt-ltb x 15 h, lt-ltb (getD placesInGR x 0) 13 (subst (λ (n : ℕ). n < 13) er m))
+  second-gr h m = rw (lt-ltb x 15, ← er, lt-ltb r 13)
 
   pub second-gl : x < 15 → 13 ≤ r → withGL l k ≡ afterSecond x k
   unfolding afterSecond
-  second-gl h m = ap (λ (n : ℕ). withGL n k) el ∙ rw (lt-ltb x 15 h, le-ltb (getD placesInGR x 0) 13 (subst (λ (n : ℕ). 13 ≤ n) er m))
+  second-gl h m = rw (lt-ltb x 15, ← el, ← er, le-ltb r 13)
 
 pub first-space : (k : ℕ) → withGL 0 k ≡ afterFirst 15 k
 unfolding afterFirst
@@ -344,35 +294,29 @@ second-space k = refl
 pub price-both : (x l r : ℕ) → x < 15 → l ≡ getD placesInGL x 0 → r ≡ getD placesInGR x 0 → l < 5 → r < 13 → priceOfClass x ≡ 4
 unfolding priceOfClass
 price-both x l r h el er a b =
-    eqb-true (priceOfClass x) 4
-    (implies-elim (ltb (getD placesInGL x 0) 5 && ltb (getD placesInGR x 0) 13) (eqb (priceOfClass x) 4)
-    (up-to 15 (λ y. implies (ltb (getD placesInGL y 0) 5 && ltb (getD placesInGR y 0) 13) (eqb (priceOfClass y) 4)) refl x h)
-    (rw (← el, ← er, lt-ltb l 5 a, lt-ltb r 13 b)))
+    eqb-true _ _
+    (up-to-where 15 (λ y. ltb (getD placesInGL y 0) 5 && ltb (getD placesInGR y 0) 13) (λ y. eqb (priceOfClass y) 4) refl x h
+    (rw (← el, ← er, lt-ltb l 5, lt-ltb r 13)))
 
 pub price-gl : (x l r : ℕ) → x < 15 → l ≡ getD placesInGL x 0 → r ≡ getD placesInGR x 0 → 13 ≤ r → (priceOfClass x ≡ 3) × (l < 5)
 unfolding priceOfClass
 price-gl x l r h el er b =
-    let t = implies-elim (not (ltb (getD placesInGR x 0) 13)) (eqb (priceOfClass x) 3 && ltb (getD placesInGL x 0) 5)
-    (up-to 15 (λ y. implies (not (ltb (getD placesInGR y 0) 13)) (eqb (priceOfClass y) 3 && ltb (getD placesInGL y 0) 5)) refl x h)
-    (rw (← er, le-ltb r 13 b)) in (
-      eqb-true (priceOfClass x) 3 (and-left (eqb (priceOfClass x) 3) (ltb (getD placesInGL x 0) 5) t),
-      subst (λ (m : ℕ). m < 5) (sym el) (ltb-true (getD placesInGL x 0) 5 (and-right (eqb (priceOfClass x) 3) (ltb (getD placesInGL x 0) 5) t)),
-    )
+    let t = up-to-where 15 (λ y. not (ltb (getD placesInGR y 0) 13)) (λ y. eqb (priceOfClass y) 3 && ltb (getD placesInGL y 0) 5) refl x h
+    (rw (← er, le-ltb r 13)) in
+    (search from-tests, rw el (search from-tests))
 
 pub price-gr : (x l : ℕ) → x < 15 → l ≡ getD placesInGL x 0 → 5 ≤ l → priceOfClass x ≡ 3
 unfolding priceOfClass
 price-gr x l h el b =
-    eqb-true (priceOfClass x) 3
-    (implies-elim (not (ltb (getD placesInGL x 0) 5)) (eqb (priceOfClass x) 3)
-    (up-to 15 (λ y. implies (not (ltb (getD placesInGL y 0) 5)) (eqb (priceOfClass y) 3)) refl x h)
-    (rw (← el, le-ltb l 5 b)))
+    eqb-true _ _
+    (up-to-where 15 (λ y. not (ltb (getD placesInGL y 0) 5)) (λ y. eqb (priceOfClass y) 3) refl x h (rw (← el, le-ltb l 5)))
 
 -- the set at a place
 pub gl-set : (g : ℕ) → g < 5 → (g ≡ 0 → ⊥) → (g ≡ 1 → ⊥) → g + 10 ≡ getD setsInGL g 0
-gl-set g h a b = let e : g + 10 ≡ g + 10 - 0 = omega arith in e ∙ from-place setsInGL 2 3 10 0 refl g (omega arith) h
+gl-set g h a b = in-table setsInGL 5 (leb 2) (λ y. y + 10) refl g h (le-leb 2 g (omega arith))
 
 pub gr-set : (r : ℕ) → r < 13 → (r ≡ 0 → ⊥) → r + 2 ≡ getD setsInGR r 0
-gr-set r h a = let e : r + 2 ≡ r + 2 - 0 = omega arith in e ∙ from-place setsInGR 1 12 2 0 refl r (omega arith) h
+gr-set r h a = in-table setsInGR 13 (leb 1) (λ y. y + 2) refl r h (le-leb 1 r (omega arith))
 
 pub gr-spare : (r : ℕ) → 13 ≤ r → 0 ≡ getD setsInGR r 0
 gr-spare r h = sym (List·getD-eq-default setsInGR 0 h)
@@ -388,7 +332,4 @@ all-sided = refl
 
 -- where a character's need is met, it is written on the side found by number
 pub used-side : (x j : ℕ) → x < 15 → j < 80 → met (needOfClass x) (numbered j) ≡ true → used (needOfClass x) (numbered j) ≡ sideAt x j
-used-side x j hx hj m =
-    sameSide-eq (used (needOfClass x) (numbered j)) (sideAt x j)
-    (implies-elim (met (needOfClass x) (numbered j)) (sameSide (used (needOfClass x) (numbered j)) (sideAt x j))
-    (up-to 80 (λ k. sided x k) (up-to 15 (λ y. upTo 80 (λ k. sided y k)) all-sided x hx) j hj) m)
+used-side x j hx hj m = sameSide-eq _ _ (implies-elim (met (needOfClass x) (numbered j)) _ (up-to-both 15 80 sided all-sided x j hx hj) m)

@@ -5,33 +5,32 @@ use Prim.Native.Nat.{ℕ, zero, suc, _+_, _-_, _≤_, _<_, zero-le}
 use native.Mathlib.Omega.{arith}
 use native.Mathlib.Nat.{not-suc-le-zero}
 use mathlib.Core.Path.{_≡_, refl, ap, sym, _∙_}
-use mathlib.Core.Bool.{Bool, true, false, false≢true}
+use mathlib.Core.Bool.{true}
 use mathlib.Core.List.{List, [], _∷_, _++_}
 use lib.Dec.{eqb, ltb}
 use lib.ListN.{length, getD}
 use lib.Seq.{getD-drop}
-use borrow.Author.Tests.{ltb-true, ltb-false, lt-ltb, le-ltb, eqb-true}
+use borrow.Author.Tests.{ltb-true, lt-ltb, le-ltb}
 use Rattle.base.specs.Choice.{pick, from}
 use Rattle.base.specs.Kind as kind
+use Rattle.base.proofs.Bools.{off, test, pick-by, tested}
 use Rattle.charset.specs.declared.Side.{Side}
 use Rattle.element.specs.Element.{elementOf, shapeOf, directedOf}
 use Rattle.element.proofs.Sizes.{silent, found}
 use Rattle.grammar.specs.Grammar.{Legal}
 use Rattle.grammar.specs.Reading.{Elements, size, Octets}
 use Rattle.grammar.specs.Units.{TextUnit, kindOf, octets}
-use Rattle.grammar.proofs.Places.{ahead, at-end, at-refused, at-passed}
+use Rattle.grammar.proofs.Places.{at-end, at-refused, at-passed}
 use Rattle.grammar.proofs.Sound.{Shown, sound}
-use Rattle.grammar.proofs.Agrees.{Right, refused, passed, read, right, fresh-legal, put-legal}
-use Rattle.state.specs.Directions.{inForceOf}
+use Rattle.grammar.proofs.Agrees.{Right, refused, passed, read, right, fresh-legal, put-legal, octets-from}
 use Rattle.state.specs.State.{on, fresh}
 use Rattle.state.specs.declared.State.{State}
 use Rattle.state.specs.declared.elements.Part.{Part}
 use Rattle.state.specs.declared.elements.Element.{Element}
 use Rattle.state.specs.declared.elements.Element.the-variants.{End, Refused, Silent, Found}
-use Rattle.pieces.specs.PieceKind as pieceKind
-use Rattle.pieces.specs.Pieces.{noPiece, sideKindOf, pieceKindOf, pieceOf, isRun, sameRunOf, longer, joined, piecesOf, stateAt}
+use Rattle.pieces.specs.Pieces.{noPiece, sideKindOf, pieceKindOf, pieceOf, isRun, longer, joined, piecesOf, stateAt, sameRunOf}
 use Rattle.pieces.specs.declared.Piece.{Piece}
-use Rattle.pieces.proofs.Joined.{Followed, same, over, other, followed, joined-by}
+use Rattle.pieces.proofs.Joined.{same-kind}
 use Rattle.pieces.specs.Partition.{EndToEnd, none, more, Apart, nothing, alone, before, OneSided, Same, stateFrom, InForce, Each, empty, with-first}
 use Rattle.pieces.proofs.Partition.{tiled}
 use Rattle.pieces.proofs.Step.{Step, stops, goes, step, elementAt, rest, fits}
@@ -43,50 +42,39 @@ like : (p q : Piece) (qs : List Piece) → p .kind ≡ q .kind → Apart (q ∷ 
 like p q [] e h = alone
 like p q (r ∷ rs) e (before f h) = before {p = p} {q = r} (rw e f) h
 
-joined-apart-by : (p q : Piece) (qs : List Piece) → Followed (p .kind) (q .kind) → Apart (q ∷ qs) → Apart (joined p (q ∷ qs))
-unfolding pick
-joined-apart-by p q qs (same r i f g) h = rw (joined-by p q qs true f) (like (longer p q) q qs i h)
-joined-apart-by p q qs (over r f g) h = rw (joined-by p q qs false f) (before f h)
-joined-apart-by p q qs (other r f g) h = rw (joined-by p q qs false f) (before f h)
-
 joined-keeps-apart : (p : Piece) (ps : List Piece) → Apart ps → Apart (joined p ps)
 unfolding joined
 joined-keeps-apart p [] h = alone
-joined-keeps-apart p (q ∷ qs) h = joined-apart-by p q qs (followed (p .kind) (q .kind)) h
+joined-keeps-apart p (q ∷ qs) h =
+    pick-by Apart (sameRunOf (p .kind) (q .kind)) (λ e. like (longer p q) q qs (same-kind _ _ e) h) (λ e. before e h)
 
 -- what two neighbours of one run have, the run has too
-module _ (P : Piece → Type 0) (join : (p q : Piece) → p .start < p .end → q .start ≡ p .end → q .start < q .end → p .kind ≡ q .kind → P p → P q → P (longer p q)) where
-  each-by : {e : ℕ} (p q : Piece) (qs : List Piece) → p .start < p .end → P p → Followed (p .kind) (q .kind) → EndToEnd (p .end) e (q ∷ qs) → Each P (q ∷ qs) → Each P (joined p (q ∷ qs))
-  unfolding pick
-  each-by p q qs n f (same r i x g) (more b l t) (with-first h k) = rw (joined-by p q qs true x) (with-first (join p q n b (omega arith) i f h) k)
-  each-by p q qs n f (over r x g) t h = rw (joined-by p q qs false x) (with-first f h)
-  each-by p q qs n f (other r x g) t h = rw (joined-by p q qs false x) (with-first f h)
+abbrev Joins : (Piece → Type 0) → Type 0
+Joins P = (p q : Piece) → p .start < p .end → q .start ≡ p .end → q .start < q .end → p .kind ≡ q .kind → P p → P q → P (longer p q)
 
-  joined-each : {e : ℕ} (p : Piece) (ps : List Piece) → p .start < p .end → P p → EndToEnd (p .end) e ps → Each P ps → Each P (joined p ps)
-  unfolding joined
-  joined-each p [] n f t h = with-first f empty
-  joined-each p (q ∷ qs) n f t h = each-by p q qs n f (followed (p .kind) (q .kind)) t h
+joined-each : (P : Piece → Type 0) → Joins P → {e : ℕ} (p : Piece) (ps : List Piece) → p .start < p .end → P p → EndToEnd (p .end) e ps → Each P ps
+    → Each P (joined p ps)
+unfolding joined
+joined-each P join p [] n f t h = with-first f empty
+joined-each P join p (q ∷ qs) n f (more b l t) (with-first h k) =
+    pick-by (Each P) (sameRunOf (p .kind) (q .kind)) (λ e. with-first (join p q n b (omega arith) (same-kind _ _ e) f h) k)
+    (λ e. with-first f (with-first h k))
 
 -- a piece that is a run is that of a character or a space, on the side of its first octet
-run-kind-by : (k z : ℕ) (t u v w x : Bool) → eqb k kind.character ≡ t → eqb k kind.space ≡ u
-    → isRun (pick t z (pick u z (pick v pieceKind.tab (pick w pieceKind.newline (pick x pieceKind.segment pieceKind.control))))) ≡ true
-    → (k < 2) × (pick t z (pick u z (pick v pieceKind.tab (pick w pieceKind.newline (pick x pieceKind.segment pieceKind.control)))) ≡ z)
-unfolding pick
-run-kind-by k z true u v w x e f r = (let i = eqb-true k 0 e in omega arith, refl)
-run-kind-by k z false true v w x e f r = (let i = eqb-true k 1 f in omega arith, refl)
-run-kind-by k z false false true w x e f r = absurd (false≢true r)
-run-kind-by k z false false false true x e f r = absurd (false≢true r)
-run-kind-by k z false false false false true e f r = absurd (false≢true r)
-run-kind-by k z false false false false false e f r = absurd (false≢true r)
-
 pub run-kind : (k b : ℕ) → isRun (pieceKindOf k b) ≡ true → (k < 2) × (pieceKindOf k b ≡ sideKindOf b)
-unfolding pieceKindOf
-run-kind k b r = run-kind-by k (sideKindOf b) (eqb k kind.character) (eqb k kind.space) (eqb k kind.tab) (eqb k kind.newline) (eqb k kind.segment) refl refl r
+unfolding pieceKindOf pick
+run-kind k b r =
+    test (eqb k kind.character) (λ e. (omega tested, rw e))
+    (λ e. test (eqb k kind.space) (λ f. (omega tested, rw (e, f)))
+    (λ f. test (eqb k kind.tab) (λ g. off (rw (e, f, g) at r))
+    (λ g. test (eqb k kind.newline) (λ h. off (rw (e, f, g, h) at r))
+    (λ h. test (eqb k kind.segment) (λ i. off (rw (e, f, g, h, i) at r)) (λ i. off (rw (e, f, g, h, i) at r))))))
 
 module _ (s : List ℕ) where
   -- the octets of a unit at a place
   found-side : (at : ℕ) (st : State) (w : List ℕ) {p : Part} (u : TextUnit) (d : Side) (t : List ℕ) → from at s ≡ w → Shown (st .sets) w p u d t
-      → isRun (pieceKindOf (p .kind) (getD s at 0)) ≡ true → (i : ℕ) → at ≤ i → i < at + size p → sideKindOf (getD s i 0) ≡ pieceKindOf (p .kind) (getD s at 0)
+      → isRun (pieceKindOf (p .kind) (getD s at 0)) ≡ true → (i : ℕ) → at ≤ i → i < at + size p
+      → sideKindOf (getD s i 0) ≡ pieceKindOf (p .kind) (getD s at 0)
   unfolding from
   found-side at st w {p} u d t is h r i a b =
       let k = run-kind (p .kind) (getD s at 0) r in
@@ -107,12 +95,12 @@ module _ (s : List ℕ) where
     legal : Legal (q .state .sets)
 
   nothing-good : (at : ℕ) (st : State) → Good st (noPiece at)
-  nothing-good at st = record { sided = λ r i a b. absurd (omega arith); steady = λ r. absurd (false≢true r); legal = fresh-legal }
+  nothing-good at st = record { sided = λ r i a b. absurd (omega arith); steady = off; legal = fresh-legal }
 
   good-by : (at : ℕ) (st : State) (w : List ℕ) → from at s ≡ w → Legal (st .sets) → {e : Element} → Right st w e → Good st (pieceOf s at e)
   unfolding pieceOf
   good-by at st w is l (refused h) = nothing-good at st
-  good-by at st w is l (passed {k} d c t h) = record { sided = λ r i a b. absurd (false≢true r); steady = λ r. absurd (false≢true r); legal = put-legal (on d c) (st .sets) (h .may) l }
+  good-by at st w is l (passed d c t h) = record { sided = λ r i a b. off r; steady = off; legal = put-legal (on d c) (st .sets) (h .may) l }
   good-by at st w is l (read {p} {next} u d t h e) =
       record {
         sided = λ r i a b. found-side at st w u d t is h r i a b;
@@ -129,7 +117,9 @@ module _ (s : List ℕ) where
   StateLater at st q = (i : ℕ) → q .end ≤ i → stateFrom s at st i ≡ stateFrom s (q .end) (q .state) i
 
   abbrev pub StateAfter : ℕ → State → Piece → Type 0
-  StateAfter at st q = (i : ℕ) → (q .end ≡ at → ⊥) → (i < q .end → stateFrom s at st i ≡ st) × (q .end ≤ i → stateFrom s at st i ≡ stateFrom s (q .end) (q .state) i)
+  StateAfter at st q =
+      (i : ℕ) → (q .end ≡ at → ⊥)
+      → (i < q .end → stateFrom s at st i ≡ st) × (q .end ≤ i → stateFrom s at st i ≡ stateFrom s (q .end) (q .state) i)
 
   -- an element of k octets
   past : (at : ℕ) (st next : State) (k i : ℕ) → stateFrom s at st i ≡ pick (ltb i (at + k)) st (stateFrom s (at + k) next i)
@@ -158,48 +148,38 @@ module _ (s : List ℕ) where
 
   -- ---- what is in force in a run
 
-  first-in-force : (at : ℕ) (st : State) (q : Piece) → (isRun (q .kind) ≡ true → Same st (q .state)) → StateBefore at st q → StateLater at st q → InForce s at st q
-  first-in-force at st q g f h r i x y = by (ltb i (q .end)) refl
-    where
-      by : (t : Bool) → ltb i (q .end) ≡ t → Same (stateFrom s at st i) (q .state)
-      by true m = rw (f i (ltb-true i (q .end) m)) (g r)
-      by false m =
-          let z : i ≡ q .end = let w = ltb-false i (q .end) m in omega arith in
-          let e : stateFrom s at st i ≡ q .state = h i (omega arith) ∙ (ap (λ (j : ℕ). stateFrom s (q .end) (q .state) j) z ∙ first-state (q .end) (q .state) (elementAt s (q .end) (q .state)) refl) in
-          rw e (record { sets = refl; way = refl })
+  first-in-force : (at : ℕ) (st : State) (q : Piece) → (isRun (q .kind) ≡ true → Same st (q .state)) → StateBefore at st q → StateLater at st q
+      → InForce s at st q
+  first-in-force at st q g f h r i x y =
+      test (ltb i (q .end)) (λ m. rw (f i (ltb-true _ _ m)) (g r))
+      (λ m. let z : i ≡ q .end = omega tested in
+      rw (h i (omega arith), z, first-state (q .end) (q .state) (elementAt s (q .end) (q .state)) refl) (record { sets = refl; way = refl }))
 
-  longer-in-force : (at : ℕ) (st : State) (p q : Piece) → p .start < p .end → q .start ≡ p .end → q .start < q .end → p .kind ≡ q .kind → InForce s at st p → InForce s at st q → InForce s at st (longer p q)
-  longer-in-force at st p q n b l e f g r i x y = by (ltb i (p .end)) refl
-    where
-      by : (t : Bool) → ltb i (p .end) ≡ t → Same (stateFrom s at st i) (p .state)
-      by true m = f r i x (let z = ltb-true i (p .end) m in omega arith)
-      by false m =
-          let here = g (rw e at r) i (let z = ltb-false i (p .end) m in omega arith) y in
-          let start = g (rw e at r) (q .start) (omega arith) (omega arith) in
-          let seam = f r (q .start) (omega arith) (omega arith) in
-          record { sets = here .sets ∙ (sym (start .sets) ∙ seam .sets); way = here .way ∙ (sym (start .way) ∙ seam .way) }
+  longer-in-force : (at : ℕ) (st : State) → Joins (InForce s at st)
+  longer-in-force at st p q n b l e f g r i x y =
+      let on : isRun (q .kind) ≡ true = rw e at r in
+      test (ltb i (p .end)) (λ m. f r i x (omega tested))
+      (λ m. let here = g on i (omega tested) y in
+      let start = g on (q .start) (omega arith) (omega arith) in
+      let seam = f r (q .start) (omega arith) (omega arith) in
+      record { sets = here .sets ∙ (sym (start .sets) ∙ seam .sets); way = here .way ∙ (sym (start .way) ∙ seam .way) })
 
-  each-later : (at : ℕ) (st : State) (q : Piece) → StateLater at st q → {a e : ℕ} {ps : List Piece} → EndToEnd a e ps → q .end ≤ a → Each (InForce s (q .end) (q .state)) ps → Each (InForce s at st) ps
+  each-later : (at : ℕ) (st : State) (q : Piece) → StateLater at st q → {a e : ℕ} {ps : List Piece} → EndToEnd a e ps → q .end ≤ a
+      → Each (InForce s (q .end) (q .state)) ps → Each (InForce s at st) ps
   each-later at st q f none h empty = empty
   each-later at st q f (more {p = p} b l r) h (with-first g k) =
       with-first {p = p} (λ x i y z. rw (f i (omega arith)) (g x i y z)) (each-later at st q f r (omega arith) k)
 
   module _ (o : Octets s) where
-    from-octets : (at : ℕ) → Octets (from at s)
-    unfolding from
-    from-octets at i = rw (getD-drop at s i 0) (o (at + i))
-
     good-from : (at : ℕ) (st : State) (w : List ℕ) → from at s ≡ w → Legal (st .sets) → Good st (pieceOf s at (elementOf w st))
     unfolding pieceOf shapeOf directedOf
     good-from at st [] is l = nothing-good at st
-    good-from at st (b ∷ t) is l = good-by at st (b ∷ t) is l (right st (b ∷ t) (sound (st .sets) l b t (λ i. rw is at (from-octets at i))))
+    good-from at st (b ∷ t) is l =
+        good-by at st (b ∷ t) is l (right st (b ∷ t) (sound (st .sets) l b t (λ i. rw is at (octets-from s o at i))))
 
-    longer-sided : (p q : Piece) → p .start < p .end → q .start ≡ p .end → q .start < q .end → p .kind ≡ q .kind → OneSided s p → OneSided s q → OneSided s (longer p q)
-    longer-sided p q n b l e f g r i h k = by (ltb i (p .end)) refl
-      where
-        by : (t : Bool) → ltb i (p .end) ≡ t → sideKindOf (getD s i 0) ≡ p .kind
-        by true m = f r i h (ltb-true i (p .end) m)
-        by false m = g (rw e at r) i (let z = ltb-false i (p .end) m in omega arith) k ∙ sym e
+    longer-sided : Joins (OneSided s)
+    longer-sided p q n b l e f g r i h k =
+        test (ltb i (p .end)) (λ m. f r i h (ltb-true _ _ m)) (λ m. g (rw e at r) i (omega tested) k ∙ sym e)
 
     -- ---- all the pieces
 
@@ -228,7 +208,8 @@ module _ (s : List ℕ) where
     kept : (n at : ℕ) (st : State) → Legal (st .sets) → at ≤ length s → length s - at < n → Kept at st (rest s at st)
     kept zero at st l h k = absurd (not-suc-le-zero k)
     kept (suc n) at st l h k =
-        kept-step n at st (step s at st) (good-from at st (from at s) refl l) (state-after at st (elementAt s at st) refl) k (λ b next m g i. kept n b next m g i)
+        kept-step n at st (step s at st) (good-from at st (from at s) refl l) (state-after at st (elementAt s at st) refl) k
+        (λ b next m g i. kept n b next m g i)
 
     kept-whole : Kept 0 fresh (piecesOf s)
     unfolding piecesOf from

@@ -4,13 +4,14 @@ use Prim.Native.Nat.{ℕ, zero, suc, _+_, _-_, _≤_, _<_, zero-le}
 use native.Mathlib.Omega.{arith}
 use native.Mathlib.Nat.{not-suc-le-zero}
 use mathlib.Core.Path.{_≡_, refl, ap, sym, _∙_}
-use mathlib.Core.Bool.{Bool, true, false}
+use mathlib.Core.Bool.{true}
 use mathlib.Core.List.{List, [], _∷_}
 use lib.Dec.{ltb}
 use lib.ListN.{length}
 use borrow.Author.Tests.{le-leb, lt-leb, ltb-true, ltb-false}
 use Rattle.base.specs.Choice.{pick, from}
 use Rattle.base.specs.Refusal as refusal
+use Rattle.base.proofs.Bools.{test, pick-by}
 use Rattle.grammar.specs.Reading.{checkOf, Octets}
 use Rattle.grammar.proofs.Agrees.{accepted-where}
 use Rattle.state.specs.State.{fresh}
@@ -20,15 +21,11 @@ use Rattle.pieces.specs.declared.Piece.{Piece}
 use Rattle.pieces.specs.Partition.{EndToEnd, none, more}
 use Rattle.pieces.proofs.Step.{Step, stops, goes, step, rest, noRefusal}
 
-joined-by : (t : Bool) {a e : ℕ} (p q : Piece) (qs : List Piece) → p .start ≡ a → a < p .end → EndToEnd (p .end) e (q ∷ qs) → EndToEnd a e (pick t (longer p q ∷ qs) (p ∷ q ∷ qs))
-unfolding pick
-joined-by true p q qs b l (more c m r) = more {p = longer p q} b (omega arith) r
-joined-by false p q qs b l r = more b l r
-
 joined-end-to-end : {a e : ℕ} (p : Piece) (ps : List Piece) → p .start ≡ a → a < p .end → EndToEnd (p .end) e ps → EndToEnd a e (joined p ps)
 unfolding joined
 joined-end-to-end p [] b l r = more b l r
-joined-end-to-end p (q ∷ qs) b l r = joined-by (sameRunOf (p .kind) (q .kind)) p q qs b l r
+joined-end-to-end {a} {e} p (q ∷ qs) b l (more c m r) =
+    pick-by (EndToEnd a e) (sameRunOf (p .kind) (q .kind)) (λ _. more {p = longer p q} b (omega arith) r) (λ _. more b l (more c m r))
 
 -- the pieces from a place on: to the end of the string where no element is refused
 pub record Tiled (s : List ℕ) (at : ℕ) (st : State) : Type 0 where
@@ -62,27 +59,21 @@ module _ (s : List ℕ) where
 before : {a e : ℕ} {ps : List Piece} (i : ℕ) → EndToEnd a e ps → i < a → holding ps i ≡ 0
 unfolding holding contains pick
 before i none h = refl
-before i (more {p} {ps} b l r) h =
-    let z : i < p .start = omega arith in
-    let y : i < p .end = omega arith in
-    rw (lt-leb (p .start) i z) (before i r y)
-
-among-by : {e : ℕ} (p : Piece) (ps : List Piece) (i : ℕ) (t : Bool) → ltb i (p .end) ≡ t → p .start ≤ i → EndToEnd (p .end) e ps → (p .end ≤ i → holding ps i ≡ 1) → holding (p ∷ ps) i ≡ 1
-unfolding holding contains pick
-among-by p ps i true e h r f = rw (le-leb (p .start) i h, e) (ap (λ (n : ℕ). 1 + n) (before i r (ltb-true i (p .end) e)))
-among-by p ps i false e h r f = rw (le-leb (p .start) i h, e) (f (ltb-false i (p .end) e))
+before i (more {p} b l r) h = rw (lt-leb (p .start) i (omega arith)) (before i r (omega arith))
 
 among : {a e : ℕ} {ps : List Piece} (i : ℕ) → EndToEnd a e ps → a ≤ i → i < e → holding ps i ≡ 1
+unfolding holding contains pick
 among i none h k = absurd (omega arith)
-among i (more {p} {ps} b l r) h k = among-by p ps i (ltb i (p .end)) refl (omega arith) r (λ m. among i r m k)
+among i (more {p} b l r) h k =
+    let f = le-leb (p .start) i (omega arith) in
+    test (ltb i (p .end)) (λ e. rw (f, e) (ap (λ (n : ℕ). 1 + n) (before i r (ltb-true _ _ e)))) (λ e. rw (f, e) (among i r (ltb-false _ _ e) k))
 
 -- the pieces of an accepted string lie end to end, from its first octet to its last
 pub end-to-end : (s : List ℕ) → Octets s → checkOf s .number ≡ refusal.accepted → EndToEnd 0 (length s) (piecesOf s)
 unfolding piecesOf from
 end-to-end s o h =
     let t = pieces-tiled s in
-    let z : t .last ≡ length s = t .whole (accepted-where s o .0 h .1) in
-    rw z at (t .tiles)
+    rw (t .whole (accepted-where s o .0 h .1)) at (t .tiles)
 
 -- no octet of an accepted string is left out of its pieces, and none is in two (rule R6)
 pub exactly-one : (s : List ℕ) → Octets s → checkOf s .number ≡ refusal.accepted → (i : ℕ) → i < length s → holding (piecesOf s) i ≡ 1

@@ -1,16 +1,17 @@
 -- The pieces of a string, one at a time: the element at a place is no piece, and none follow, or it is the first piece and those from
 -- its end on follow, joined to it where they are of one run.
-use Prim.Native.Nat.{ℕ, _+_, _-_, _≤_, _<_}
+use Prim.Native.Nat.{ℕ, _+_, _≤_, _<_}
 use native.Mathlib.Omega.{arith}
-use mathlib.Core.Path.{_≡_, refl, ap, sym, _∙_, subst}
-use mathlib.Core.Bool.{Bool, true, false}
+use mathlib.Core.Path.{_≡_, refl, ap, sym, _∙_}
+use mathlib.Core.Bool.{Bool, true}
 use mathlib.Core.List.{List, []}
 use lib.ListN.{length, getD}
 use Rattle.base.specs.Choice.{from}
+use Rattle.base.proofs.Bools.{off}
 use Rattle.base.proofs.Ladder.{ended, from-length}
 use Rattle.element.specs.Element.{shapeOf, directedOf, elementOf}
-use Rattle.element.proofs.Sizes.{Sized, Passed, silent, found, element-size, of-end}
-use Rattle.grammar.specs.Reading.{size, noneRefused}
+use Rattle.element.proofs.Sizes.{Passed, silent, found, element-size, of-end}
+use Rattle.grammar.specs.Reading.{noneRefused}
 use Rattle.grammar.proofs.Elements.{next-at}
 use Rattle.grammar.proofs.Places.{ahead, at-end, at-refused, at-passed, step-passed}
 use Rattle.state.specs.declared.State.{State}
@@ -55,14 +56,11 @@ module _ (s : List ℕ) (at : ℕ) (st : State) where
   step-by : (e : Element) → elementAt s at st ≡ e → Step s at st (pieceOf s at e)
   unfolding pieceOf piecesFrom noneRefused
   step-by End is =
-      let z = of-end (subst (Sized (length (from at s)) st) is (element-size (from at s) st)) in
+      let z = of-end (rw is at (element-size (from at s) st)) in
       stops (ap (piecesFrom s) (at-end s at st _ refl is)) (λ h. omega (arith, z, from-length s at))
   step-by (Refused n o) is =
       stops (ap (piecesFrom s) (at-refused s at st _ refl is))
-      (λ h.
-      let f : false ≡ true = sym (ap noneRefused (at-refused s at st _ refl is)) ∙ h in
-      let z : _≡_ {A = ℕ} 0 1 = cc in
-      absurd (omega arith))
+      (λ h. off (sym (ap noneRefused (at-refused s at st _ refl is)) ∙ h))
   step-by (Silent k next) is = on pieceKind.control silent is refl refl
   step-by (Found p next) is = on (pieceKindOf (p .kind) (getD s at 0)) found is refl refl
 

@@ -9,9 +9,8 @@ use lib.Dec.{eqb, ltb}
 use lib.ListN.{length, getD}
 use Rattle.base.specs.Choice.{pick}
 use Rattle.base.specs.Kind as kind
-use Rattle.base.specs.Refusal as refusal
 use Rattle.base.proofs.Ladder.{on-lt, on-ge}
-use Rattle.base.proofs.Bools.{and-right}
+use Rattle.base.proofs.Bools.{and-right, clash, test}
 use Rattle.charset.specs.Charsets.{form-94x94, no-set, formOf}
 use Rattle.charset.specs.declared.Side.{Side}
 use Rattle.charset.specs.declared.Side.the-variants.{GL, GR}
@@ -21,7 +20,7 @@ use Rattle.grammar.specs.Reading.{direct}
 use Rattle.grammar.proofs.Good.{two-code}
 use Rattle.state.specs.Directions.{directions, writtenOf, stepOf, inForceOf}
 use Rattle.state.specs.declared.directions.Directions.{Directions}
-use Rattle.state.specs.declared.directions.Step.the-variants.{Goes, Stops}
+use Rattle.state.specs.declared.directions.Step.the-variants.{Goes}
 use Rattle.pieces.specs.PieceKind as pieceKind
 use Rattle.pieces.specs.Pieces.{sideKindOf}
 
@@ -61,26 +60,20 @@ no-text revert h = omega arith
 -- the octets of a character or a space
 pub text-side : (d : Side) (u : TextUnit) (t : List ℕ) → good u ≡ true → kindOf u < 2 → OneSide (octets d u) t
 unfolding octets good wide
-text-side d (char c k) t g h = char-side (eqb (formOf c) form-94x94) (formOf c) d k t refl (and-right (ltb c no-set) (codeUsed (formOf c) k) g)
+text-side d (char c k) t g h = char-side (eqb (formOf c) form-94x94) (formOf c) d k t refl (and-right (ltb c no-set) _ g)
 text-side d space t g h = one-octet 0x20 t
 text-side d (control x) t g h = absurd (no-text x h)
 text-side d (ext e xs) t g h = absurd (omega arith)
 
 -- ---- what is in force
 
-abbrev texted : Directions → Directions
-texted d = directions (d .depth) (d .levels) (d .marked) true
-
-written-by : (a b : Bool) (d next : Directions) → pick a (pick b (Stops refusal.direction) (Goes (texted d))) (Goes (texted d)) ≡ Goes next
-    → inForceOf next ≡ inForceOf d
-unfolding pick inForceOf
-written-by true true d next e = let z : _≡_ {A = ℕ} 0 1 = cc in absurd (omega arith)
-written-by true false d next e = let z : texted d ≡ next = cc in rw (← z)
-written-by false b d next e = let z : texted d ≡ next = cc in rw (← z)
-
 written-keeps : (k : ℕ) (d next : Directions) → stepOf true k d ≡ Goes next → inForceOf next ≡ inForceOf d
-unfolding stepOf writtenOf pick
-written-keeps k d next e = written-by (d .marked) (eqb (d .depth) 0) d next e
+unfolding stepOf writtenOf pick inForceOf
+written-keeps k d next e =
+    test (d .marked) (λ a. test (eqb (d .depth) 0) (λ b. clash (cc (rw (a, b) at e))) (λ b. keeps (rw (a, b) at e))) (λ a. keeps (rw a at e))
+  where
+    keeps : {m : Bool} → Goes (directions (d .depth) (d .levels) m true) ≡ Goes next → inForceOf next ≡ inForceOf d
+    keeps {m} e = let z : next ≡ directions (d .depth) (d .levels) m true = cc in rw z
 
 -- the step of a character or a space
 pub text-keeps : (u : TextUnit) (d next : Directions) → kindOf u < 2 → direct d u ≡ Goes next → inForceOf next ≡ inForceOf d

@@ -2,14 +2,14 @@
 use Prim.Native.Nat.{ℕ, _+_, _≤_, _<_}
 use native.Mathlib.Omega.{arith}
 use mathlib.Core.Path.{_≡_}
-use mathlib.Core.Bool.{Bool, true, false, cond, _&&_}
+use mathlib.Core.Bool.{false, _&&_}
 use mathlib.Core.List.{List}
-use mathlib.Core.Path.{refl}
 use lib.ListN.{length, take, drop, length-take, length-drop}
 use lib.Dec.{eqb, leb, ltb}
-use borrow.Author.Tests.{eqb-true, eqb-false, eq-eqb, lt-ltb, le-ltb, le-leb, lt-leb, ltb-true, ltb-false, ne-eqb}
+use borrow.Author.Tests.{eq-eqb, lt-ltb, le-ltb, le-leb, lt-leb, ltb-true, ltb-false, ne-eqb}
 use Rattle.base.specs.Choice.{pick}
-use Rattle.grammar.specs.Units.{control, tab, newline, ltr, rtl, revert, ext, controlOf}
+use Rattle.base.proofs.Bools.{test, and-second, tested}
+use Rattle.grammar.specs.Units.{control, tab, newline, revert, ext, controlOf}
 use Rattle.rows.specs.Rows.{countOf, partOf, textTagged, markTagged, unitTagged}
 use Rattle.rows.specs.Tag as tag
 
@@ -18,12 +18,9 @@ part-length o n s = simp (length-take, length-drop) (omega arith)
 
 -- a tag that is no segment's
 outside : (t : ℕ) → (tag.segment ≤ t → t < tag.spare → ⊥) → (leb tag.segment t && ltb t tag.spare) ≡ false
-outside t n = go (ltb t tag.segment) refl (ltb t tag.spare) refl
-  where
-    go : (b : Bool) → ltb t tag.segment ≡ b → (d : Bool) → ltb t tag.spare ≡ d → (leb tag.segment t && ltb t tag.spare) ≡ false
-    go true e d f = rw (lt-leb tag.segment t (ltb-true t tag.segment e))
-    go false e true f = absurd (n (ltb-false t tag.segment e) (ltb-true t tag.spare f))
-    go false e false f = rw (le-leb tag.segment t (ltb-false t tag.segment e), f)
+outside t n =
+    test (ltb t tag.segment) (λ e. rw (lt-leb tag.segment t (ltb-true _ _ e)))
+    (λ e. test (ltb t tag.spare) (λ f. absurd (n (ltb-false _ _ e) (ltb-true _ _ f))) (and-second (leb tag.segment t) _))
 
 module _ (o : List ℕ) (t a b s : ℕ) where
   pub unit-text : t < tag.tab → unitTagged o t a b s ≡ textTagged t a b
@@ -51,21 +48,14 @@ mark-revert t h =
 
 -- the unit of a tag that is a kind's, for the kinds that are neither character, space nor segment
 same-test : (k n : ℕ) → eqb (tag.kind + k) (tag.kind + n) ≡ eqb k n
-same-test k n = go (eqb k n) refl
-  where
-    go : (b : Bool) → eqb k n ≡ b → eqb (tag.kind + k) (tag.kind + n) ≡ b
-    go true e = let h = eqb-true k n e in eq-eqb (tag.kind + k) (tag.kind + n) (omega arith)
-    go false e = let h = eqb-false k n e in ne-eqb (tag.kind + k) (tag.kind + n) (λ q. h (omega arith))
+same-test k n =
+    test (eqb k n) (λ e. rw e (eq-eqb (tag.kind + k) (tag.kind + n) (omega tested)))
+    (λ e. rw e (ne-eqb (tag.kind + k) (tag.kind + n) (λ q. omega tested)))
 
 pub mark-of-kind : (k : ℕ) → markTagged (tag.kind + k) ≡ control (controlOf k)
 unfolding markTagged pick
 mark-of-kind k =
-    rw (same-test k 2, same-test k 3, same-test k 4, same-test k 5) (go (eqb k 2) (eqb k 3) (eqb k 4) (eqb k 5))
-  where
-    go : (a b c d : Bool) → pick a (control tab) (pick b (control newline) (pick c (control ltr) (pick d (control rtl) (control revert))))
-        ≡ control (cond a tab (cond b newline (cond c ltr (cond d rtl revert))))
-    go true b c d = refl
-    go false true c d = refl
-    go false false true d = refl
-    go false false false true = refl
-    go false false false false = refl
+    rw (same-test k 2, same-test k 3, same-test k 4, same-test k 5)
+    (test (eqb k 2) (λ a. rw a)
+    (λ a. test (eqb k 3) (λ b. rw (a, b))
+    (λ b. test (eqb k 4) (λ c. rw (a, b, c)) (λ c. test (eqb k 5) (λ d. rw (a, b, c, d)) (λ d. rw (a, b, c, d))))))

@@ -1,22 +1,22 @@
 -- No string of a reading is shorter than its cost (`lower`): by induction on how it reads, since a designation saves no more than its
 -- price and a unit that is shown has its need met (`shows-met`). Once a need is met its unit may be shown on the side that is used
 -- (`met-shows`).
-use mathlib.Core.Path.{_≡_, refl, sym, ap, _∙_, subst}
-use mathlib.Core.Bool.{Bool, true, false, cond, _||_, true≢false, or-true}
-use mathlib.Core.List.{List, [], _∷_}
-use mathlib.Core.Logic.{_⊎_, ⊎-elim}
+use mathlib.Core.Path.{_≡_, refl, sym, _∙_}
+use mathlib.Core.Bool.{Bool, true, false, cond, _||_, or-true}
+use mathlib.Core.List.{List}
+use mathlib.Core.Logic.{⊎-elim}
 use Prim.Native.Nat.{ℕ, _≤_}
 use native.Mathlib.Omega.{arith}
 use lib.ListN.{length, length-append}
-use Rattle.base.proofs.Bools.{and-left, or-cases}
-use Rattle.charset.specs.Charsets.{no-set, formOf, allowed}
+use Rattle.base.proofs.Bools.{off, or-cases, from-tests}
+use Rattle.charset.specs.Charsets.{formOf, allowed}
 use Rattle.grammar.specs.Grammar.{Shows, Reads, done, designate, show, Legal}
 use Rattle.grammar.proofs.Agrees.{put-legal}
-use lib.Dec.{eqb, ltb}
-use borrow.Author.Tests.{eqb-true, eq-eqb, ltb-true}
+use lib.Dec.{eqb}
+use borrow.Author.Tests.{eqb-true, eq-eqb}
 use Rattle.charset.specs.declared.Side.{Side}
 use Rattle.charset.specs.declared.Side.the-variants.{GL, GR}
-use Rattle.grammar.specs.Units.{wide, TextUnit, char, space, control, ext, octets, designation, good, codeUsed}
+use Rattle.grammar.specs.Units.{wide, TextUnit, char, space, control, ext, octets, designation, good}
 use Rattle.shortest.proofs.Sets.{space-sets, some-side}
 use Rattle.state.specs.declared.Sets.{Sets}
 use Rattle.state.specs.State.{get}
@@ -30,12 +30,12 @@ unfolding need met stands
 shows-met (char c k) d s l h = go d h (allowed GL c) (allowed GR c) refl refl
   where
     go : (d : Side) → get d s ≡ c → (x y : Bool) → allowed GL c ≡ x → allowed GR c ≡ y → met (placesOf x y c) s ≡ true
-    go GL e true true p q = ap (λ (t : Bool). t || eqb (s .gr) c) (eq-eqb (s .gl) c e)
-    go GL e true false p q = ap (λ (t : Bool). t || eqb (s .gl) c) (eq-eqb (s .gl) c e)
-    go GL e false y p q = absurd (true≢false (sym (subst (λ (m : ℕ). allowed GL m ≡ true) e (l .left)) ∙ p))
-    go GR e x false p q = absurd (true≢false (sym (subst (λ (m : ℕ). allowed GR m ≡ true) e (l .right)) ∙ q))
-    go GR e true true p q = ap (λ (t : Bool). eqb (s .gl) c || t) (eq-eqb (s .gr) c e) ∙ or-true (eqb (s .gl) c)
-    go GR e false true p q = ap (λ (t : Bool). t || eqb (s .gr) c) (eq-eqb (s .gr) c e)
+    go GL e true true p q = rw (eq-eqb (s .gl) c e)
+    go GL e true false p q = rw (eq-eqb (s .gl) c e)
+    go GL e false y p q = off (sym p ∙ (rw e at (l .left)))
+    go GR e x false p q = off (sym q ∙ (rw e at (l .right)))
+    go GR e true true p q = rw (eq-eqb (s .gr) c e) (or-true (eqb (s .gl) c))
+    go GR e false true p q = rw (eq-eqb (s .gr) c e)
 shows-met space d s l h = space-sets (s .gl) (l .left) h
 shows-met (control x) d s l h = refl
 shows-met (ext e xs) d s l h = refl
@@ -52,7 +52,7 @@ lower {s} l (show {t = t} {us = us} u d g h r) =
 -- the set of a good character may stand on some side
 pub good-side : (c k : ℕ) → good (char c k) ≡ true → (allowed GL c || allowed GR c) ≡ true
 unfolding good
-good-side c k g = some-side c (ltb-true c no-set (and-left (ltb c no-set) (codeUsed (formOf c) k) g))
+good-side c k g = some-side c (search from-tests)
 
 -- a unit whose need is met may be shown on the side it is used on
 pub met-shows : (u : TextUnit) (s : Sets) → met (need u) s ≡ true → Shows u (used (need u) s) s
@@ -67,6 +67,6 @@ met-shows (char c k) s e = go (allowed GL c) (allowed GR c) e
     go true true q = pick GL GR (eqb (s .gl) c) refl q
     go true false q = pick GL GL (eqb (s .gl) c) refl q
     go false y q = pick GR GR (eqb (s .gr) c) refl q
-met-shows space s e = ⊎-elim (λ q. ap wide (eqb-true (s .gl) 0 q)) (λ q. ap wide (eqb-true (s .gl) 2 q)) (or-cases (eqb (s .gl) 0) (eqb (s .gl) 2) e)
+met-shows space s e = ⊎-elim (λ q. rw (eqb-true (s .gl) 0 q)) (λ q. rw (eqb-true (s .gl) 2 q)) (or-cases (eqb (s .gl) 0) _ e)
 met-shows (control x) s e = tt
 met-shows (ext d xs) s e = tt

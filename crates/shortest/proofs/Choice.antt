@@ -3,14 +3,14 @@
 -- (`first`); such a string is one (`the-choice`, `one-choice`). What a unit's need says is what the paper's words say (`split`).
 use Prim.Native.Nat.{ℕ, _+_, _≤_, min}
 use native.Mathlib.Omega.{arith}
-use mathlib.Core.Path.{_≡_, refl, sym, ap, ap₂, _∙_, subst, subst₂}
-use mathlib.Core.Bool.{Bool, true, false, cond, _||_, true≢false}
+use mathlib.Core.Path.{_≡_, refl, sym, ap, ap₂, _∙_}
+use mathlib.Core.Bool.{Bool, true, false, _||_}
 use mathlib.Core.List.{List, [], _∷_, _++_}
 use mathlib.Core.Option.{Option, none, some}
 use mathlib.Core.Logic.{_⊎_, inl, inr, ⊎-elim}
 use lib.ListN.{length, length-append}
 use borrow.Author.Tests.{eq-eqb}
-use Rattle.base.proofs.Bools.{or-none}
+use Rattle.base.proofs.Bools.{off, clash, or-none}
 use Rattle.charset.specs.declared.Side.{Side}
 use Rattle.charset.specs.declared.Side.the-variants.{GL, GR}
 use Rattle.charset.specs.Charsets.{allowed, mayUse}
@@ -33,35 +33,25 @@ data Split (u : TextUnit) : Need → Type 0 where
   two-serve : {a b : Standing} → Serves u a → Serves u b → ((p : Standing) → Serves u p → (p ≡ a) ⊎ (p ≡ b)) → (a ≡ b) ⊎ Preferred u a b
       → Split u (either a b)
 
-same-standing : (p : Standing) (d : Side) (c : ℕ) → p .side ≡ d → p .set ≡ c → p ≡ on d c
-same-standing p d c x y = λ i. record { side = x i; set = y i }
-
 split : (u : TextUnit) → good u ≡ true → Split u (need u)
 unfolding need
 split (char c k) g = go (allowed GL c) (allowed GR c) refl refl (good-side c k g)
   where
-    only : (d e : Side) → allowed e c ≡ false → ((x : Side) → (x ≡ d) ⊎ (x ≡ e)) → (p : Standing) → Serves (char c k) p → p ≡ on d c
-    only d e f sides p h =
-        ⊎-elim (λ x. same-standing p d c x (h .0))
-        (λ x. absurd (true≢false (sym (h .1) ∙ ap₂ (λ s n. allowed s n) x (h .0) ∙ f))) (sides (p .side))
-
-    left-or-right : (x : Side) → (x ≡ GL) ⊎ (x ≡ GR)
-    left-or-right GL = inl refl
-    left-or-right GR = inr refl
-
-    right-or-left : (x : Side) → (x ≡ GR) ⊎ (x ≡ GL)
-    right-or-left GL = inr refl
-    right-or-left GR = inl refl
+    which : (p : Standing) → p .set ≡ c → (p ≡ on GL c) ⊎ (p ≡ on GR c)
+    which p e = by-side (p .side) (p .set) e
+      where
+        by-side : (d : Side) (n : ℕ) → n ≡ c → (on d n ≡ on GL c) ⊎ (on d n ≡ on GR c)
+        by-side GL n e = inl (ap (on GL) e)
+        by-side GR n e = inr (ap (on GR) e)
 
     go : (x y : Bool) → allowed GL c ≡ x → allowed GR c ≡ y → (x || y) ≡ true → Split (char c k) (placesOf x y c)
-    go true true p q l =
-        two-serve (refl, p) (refl, q)
-        (λ r h. ⊎-elim (λ x. inl (same-standing r GL c x (h .0))) (λ x. inr (same-standing r GR c x (h .0))) (left-or-right (r .side)))
-        (inr (refl, refl))
-    go true false p q l = two-serve (refl, p) (refl, p) (λ r h. inl (only GL GR q left-or-right r h)) (inl refl)
-    go false y p q l = two-serve (refl, q ∙ l) (refl, q ∙ l) (λ r h. inl (only GR GL p right-or-left r h)) (inl refl)
+    go true true p q l = two-serve (refl, p) (refl, q) (λ r h. which r (h .0)) (inr (refl, refl))
+    go true false p q l = two-serve (refl, p) (refl, p) (λ r h. ⊎-elim inl (λ e. off (sym q ∙ (rw e at (h .1)))) (which r (h .0))) (inl refl)
+    go false y p q l =
+        two-serve (refl, q ∙ l) (refl, q ∙ l) (λ r h. ⊎-elim (λ e. off (sym p ∙ (rw e at (h .1)))) inl (which r (h .0))) (inl refl)
 split space g =
-    two-serve (refl, inl refl) (refl, inr refl) (λ p h. ⊎-elim (λ e. inl (same-standing p GL 0 (h .0) e)) (λ e. inr (same-standing p GL 2 (h .0) e)) (h .1))
+    two-serve (refl, inl refl) (refl, inr refl)
+    (λ p h. ⊎-elim (λ e. inl (ap₂ on (h .0) e)) (λ e. inr (ap₂ on (h .0) e)) (h .1))
     (inr (refl, refl))
 split (control x) g = none-serves (λ p h. h)
 split (ext e xs) g = none-serves (λ p h. h)
@@ -71,8 +61,7 @@ split (ext e xs) g = none-serves (λ p h. h)
 serves-allowed : (u : TextUnit) (p : Standing) → Serves u p → allowed (p .side) (p .set) ≡ true
 unfolding allowed mayUse
 serves-allowed (char c k) p h = h .1
-serves-allowed space p h =
-    ⊎-elim (λ e. ap₂ (λ d c. allowed d c) (h .0) e) (λ e. ap₂ (λ d c. allowed d c) (h .0) e) (h .1)
+serves-allowed space p h = ⊎-elim (ap₂ allowed (h .0)) (ap₂ allowed (h .0)) (h .1)
 serves-allowed (control x) p h = absurd h
 serves-allowed (ext e xs) p h = absurd h
 
@@ -116,8 +105,8 @@ precedes u s (some p) g m = go (need u) (split u g) m
     go free (none-serves k) m = absurd m
     go (either a b) (two-serve x y k z) m =
         let n = or-none (stands a s) (stands b s) (m .0) in (
-          ⊎-elim (λ e. subst (Serves u) (sym e) x) (λ e. subst (Serves u) (sym e) y) (m .1),
-          λ q h. ⊎-elim (λ e. ap (λ (r : Standing). stands r s) e ∙ n .0) (λ e. ap (λ (r : Standing). stands r s) e ∙ n .1) (k q h),
+          ⊎-elim (λ e. rw e x) (λ e. rw e y) (m .1),
+          λ q h. ⊎-elim (λ e. rw e (n .0)) (λ e. rw e (n .1)) (k q h),
         )
 
 -- ---- among the shortest the writer's is first
@@ -129,8 +118,7 @@ least-permitted free f s none p = omega arith
 least-permitted free f s (some q) p = absurd p
 least-permitted (either a b) f s none p = rw p (omega arith)
 least-permitted (either a b) f s (some q) p =
-    rw (p .0)
-    (⊎-elim (λ e. omega (arith, ap (λ (r : Standing). via r f s) e)) (λ e. omega (arith, ap (λ (r : Standing). via r f s) e)) (p .1))
+    rw (p .0) (⊎-elim (λ e. rw e (omega arith)) (λ e. rw e (omega arith)) (p .1))
 
 one-length : (t : List ℕ) (u : TextUnit) (d : Side) (o : Option Standing) → length (designated o ++ (octets d u ++ t)) ≡ spent o + (size u + length t)
 one-length t u d o = omega (arith, length-append (designated o) (octets d u ++ t), length-append (octets d u) t, spent-length o, size-side d u)
@@ -151,7 +139,7 @@ best u (either a b) f s (some q) (two-serve sa sb k z) p e = go (chose a b f s) 
     least-q = rw (p .0) at e
 
     go : {o : Option Standing} → Chose a b f s o → (q ≡ a) ⊎ (q ≡ b) → (a ≡ b) ⊎ Preferred u a b → Best u o (some q)
-    go (nothing m) y z = absurd (true≢false (sym m ∙ p .0))
+    go (nothing m) y z = off (sym (p .0) ∙ m)
     go (the-first m l) (inl y) z = inl (ap some y)
     go (the-first m l) (inr y) (inl z) = inl (ap some (y ∙ sym z))
     go (the-first m l) (inr y) (inr z) = inr (a, b, z, refl, ap some y)
@@ -169,11 +157,8 @@ unfolding cost choices
 first l nil e = inl refl
 first {s} l (next {us = us} {os = os} {t = t} u o d g m h f r) e =
     ⊎-elim
-    (λ q. ⊎-elim
-    (λ h. inl (ap₂ _∷_ q (h ∙ ap (λ (x : Option Standing). choices us (after x s)) q)))
-    (λ h. inr (subst (λ (x : Option Standing). Before (u ∷ us) (x ∷ choices us (after x s)) (o ∷ os)) q (later u o h))) (first l′ r tail))
-    (λ w. inr (subst₂ (λ (x y : Option Standing). Before (u ∷ us) (x ∷ choices us (after (choose (need u) (cost us) s) s)) (y ∷ os))
-    (sym (w .3)) (sym (w .4)) (here u (w .0) (w .1) (w .2))))
+    (λ q. rw (← q) (⊎-elim (λ h. inl (ap (λ (x : List (Option Standing)). o ∷ x) h)) (λ h. inr (later u o h)) (first l′ r tail)))
+    (λ w. rw (w .3, w .4) (inr (here u (w .0) (w .1) (w .2))))
     (best u (need u) (cost us) s o (split u g) p (omega (arith, lazy-lower l′ r, least-permitted (need u) (cost us) s o p, one-length t u d o)))
   where
     p : Permitted (need u) s o
@@ -203,9 +188,9 @@ unfolding need used stands
 used-left (char c k) s m l = λ e. go e (allowed GL c) (allowed GR c) refl
   where
     go : s .gl ≡ c → (x y : Bool) → allowed GL c ≡ x → used (placesOf x y c) s ≡ GL
-    go e true true q = ap (λ (t : Bool). cond t GL GR) (eq-eqb (s .gl) c e)
-    go e true false q = ap (λ (t : Bool). cond t GL GL) (eq-eqb (s .gl) c e)
-    go e false y q = absurd (true≢false (sym (subst (λ (n : ℕ). allowed GL n ≡ true) e (l .left)) ∙ q))
+    go e true true q = rw (eq-eqb (s .gl) c e)
+    go e true false q = rw (eq-eqb (s .gl) c e)
+    go e false y q = off (sym q ∙ (rw e at (l .left)))
 used-left space s m l = tt
 used-left (control x) s m l = tt
 used-left (ext e xs) s m l = tt
@@ -254,9 +239,7 @@ lazy-one {s} (next u o d g m h f r) (next _ _ e g′ m′ h′ f′ r′) =
     ap₂ (λ x y. designated o ++ (x ++ y)) (same-octets u d e (after o s) h h′ f f′) (lazy-one r r′)
 
 not-both : (u : TextUnit) (a b : Standing) → Preferred u a b → Preferred u b a → ⊥
-not-both (char c k) a b p q =
-    let z : _≡_ {A = ℕ} 0 1 = cc (p .0, q .1) in
-    omega arith
+not-both (char c k) a b p q = clash (cc (p .0, q .1))
 not-both space a b p q = omega (arith, p .0, q .1)
 not-both (control x) a b p q = p
 not-both (ext n xs) a b p q = p
@@ -278,7 +261,7 @@ one-choice us s os t l g c = go (first l (c .lazy) (same ∙ writing-length us s
     same = omega (arith, lazy-lower l (c .lazy), writing-length us s, c .shortest (choices us s) (writing us s) w)
 
     equal : os ≡ choices us s → t ≡ writing us s
-    equal e = lazy-one (subst (λ (ps : List (Option Standing)). Lazy s us ps t) e (c .lazy)) w
+    equal e = lazy-one (rw e at (c .lazy)) w
 
     go : (os ≡ choices us s) ⊎ Before us (choices us s) os → (choices us s ≡ os) ⊎ Before us os (choices us s) → t ≡ writing us s
     go (inl e) y = equal e

@@ -2,15 +2,15 @@
 -- and the writing has as many octets as the cost says (`writing-length`). A unit has as many octets on either side (`size-side`).
 use native.Mathlib.Omega.{arith}
 use mathlib.Core.Path.{_≡_, refl}
-use mathlib.Core.Bool.{Bool, true, false}
 use mathlib.Core.List.{List, [], _∷_}
 use mathlib.Core.Option.{Option, none, some}
 use lib.ListN.{length, length-append}
+use Rattle.base.proofs.Bools.{test}
 use Rattle.charset.specs.declared.Side.{Side}
 use Rattle.charset.specs.declared.Side.the-variants.{GL, GR}
 use Rattle.state.specs.State.{Standing}
 use Rattle.state.specs.declared.Sets.{Sets}
-use Rattle.grammar.specs.Units.{TextUnit, char, space, control, ext, wide, shown, octets, designation}
+use Rattle.grammar.specs.Units.{TextUnit, char, space, control, ext, wide, octets, designation}
 use Rattle.shortest.specs.Writing.{price, need, size, cost, choose, after, designated, writing}
 use Rattle.shortest.proofs.Needs.{Steady, least-steady, spent, least-chosen}
 
@@ -21,11 +21,7 @@ designation-length p = refl
 pub size-side : (d : Side) (u : TextUnit) → length (octets d u) ≡ size u
 unfolding size octets
 size-side GL u = refl
-size-side GR (char c k) = go (wide c)
-  where
-    go : (t : Bool) → length (shown t 128 k) ≡ length (shown t 0 k)
-    go true = refl
-    go false = refl
+size-side GR (char c k) = test (wide c) (λ e. rw e) (λ e. rw e)
 size-side GR space = refl
 size-side GR (control x) = refl
 size-side GR (ext e xs) = refl

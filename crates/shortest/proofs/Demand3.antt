@@ -1,17 +1,17 @@
 -- Demand 3 over unit records: the answer and the output that `writerAnswer` and `writerOutput` say meet it, since a list that some
 -- accepted string reads as has no offending unit, and the rest is demand 3 over its units.
 use Prim.Native.Nat.{ℕ}
-use mathlib.Core.Path.{_≡_, refl, sym, subst}
-use mathlib.Core.Bool.{Bool, true, false, cond}
-use mathlib.Core.List.{List, _++_}
-use lib.ListN.{length, drop}
+use mathlib.Core.Path.{_≡_, sym, subst}
+use mathlib.Core.Bool.{cond}
+use mathlib.Core.List.{List}
+use lib.ListN.{length}
 use lib.Dec.{eqb}
 use borrow.Author.Tests.{le-ltb}
 use Rattle.base.specs.Limit as limit
 use Rattle.base.specs.Refusal as refusal
 use Rattle.base.specs.declared.Unit.{Unit as UnitRecord}
+use Rattle.base.proofs.Bools.{test}
 use Rattle.grammar.specs.Units.{TextUnit}
-use Rattle.shortest.specs.Writing.{shortestOf, shortestCount}
 use Rattle.shortest.specs.Demand.{writeAnswer, outputAfter, Demand3}
 use Rattle.shortest.specs.Records.{workRoom, writerAnswer, writerOutput}
 use Rattle.shortest.specs.Demand3.{Demand3For}
@@ -22,12 +22,7 @@ use Rattle.shortest.proofs.Records.{read-list}
 output-once : (us : List TextUnit) (out : List ℕ)
     → cond (eqb (writeAnswer us (length out) .number) refusal.accepted) (outputAfter us out) out ≡ outputAfter us out
 unfolding outputAfter
-output-once us out = go (eqb (writeAnswer us (length out) .number) refusal.accepted)
-  where
-    go : (b : Bool) → cond b (cond b (shortestOf us ++ drop (shortestCount us) out) out) out
-        ≡ cond b (shortestOf us ++ drop (shortestCount us) out) out
-    go true = refl
-    go false = refl
+output-once us out = test (eqb (writeAnswer us (length out) .number) refusal.accepted) (λ e. rw e) (λ e. rw e)
 
 pub writer-demand3 : (rs : List UnitRecord) (o : List ℕ) (work : ℕ) (out : List ℕ)
     → Demand3For rs o work out (writerAnswer rs o work (length out)) (writerOutput rs o work out)

@@ -3,16 +3,16 @@
 -- (`chosen-met`), and a need that is met costs nothing (`least-met`).
 use Prim.Native.Nat.{ℕ, _+_, _≤_, _<_, min}
 use native.Mathlib.Omega.{arith}
-use mathlib.Core.Path.{_≡_, refl, sym, ap, _∙_, subst}
-use mathlib.Core.Bool.{Bool, true, false, cond, _||_, or-true}
-use mathlib.Core.Logic.{_⊎_, ⊎-elim}
+use mathlib.Core.Path.{_≡_, refl, sym, ap, _∙_}
+use mathlib.Core.Bool.{Bool, true, false, cond, or-true}
+use mathlib.Core.Logic.{⊎-elim}
 use mathlib.Core.Option.{Option, none, some}
 use lib.Dec.{eqb, leb}
-use borrow.Author.Tests.{eqb-true, eqb-false, eq-eqb, leb-true, leb-false}
-use Rattle.base.proofs.Bools.{cond-by, or-cases, or-none}
+use borrow.Author.Tests.{eqb-true, eq-eqb, leb-true, leb-false}
+use Rattle.base.proofs.Bools.{off, cond-by, or-cases, or-none}
 use Rattle.charset.specs.declared.Side.{Side}
 use Rattle.charset.specs.declared.Side.the-variants.{GL, GR}
-use Rattle.state.specs.State.{Standing, get, put, put′}
+use Rattle.state.specs.State.{Standing, on, get, put, put′}
 use Rattle.state.specs.declared.Sets.{Sets}
 use Rattle.shortest.specs.Writing.{stands, price, Need, free, either, met, least, choose, after, via}
 
@@ -30,16 +30,13 @@ put-stands p s = go (p .side)
 -- a place that stands only once p is put is p
 pub stands-new : (a p : Standing) (s : Sets) → stands a s ≡ false → stands a (put p s) ≡ true → a ≡ p
 unfolding put stands
-stands-new a p s = go (a .side) (p .side) refl refl
+stands-new a p s = go (a .side) (p .side) (a .set) (p .set)
   where
-    same : (d : Side) → a .side ≡ d → p .side ≡ d → p .set ≡ a .set → a ≡ p
-    same d x y q = λ i. record { side = (x ∙ sym y) i; set = sym q i }
-
-    go : (d e : Side) → a .side ≡ d → p .side ≡ e → eqb (get d s) (a .set) ≡ false → eqb (get d (put′ e (p .set) s)) (a .set) ≡ true → a ≡ p
-    go GL GL x y h k = same GL x y (eqb-true (p .set) (a .set) k)
-    go GL GR x y h k = absurd (eqb-false (s .gl) (a .set) h (eqb-true (s .gl) (a .set) k))
-    go GR GL x y h k = absurd (eqb-false (s .gr) (a .set) h (eqb-true (s .gr) (a .set) k))
-    go GR GR x y h k = same GR x y (eqb-true (p .set) (a .set) k)
+    go : (d e : Side) (m n : ℕ) → eqb (get d s) m ≡ false → eqb (get d (put′ e n s)) m ≡ true → on d m ≡ on e n
+    go GL GL m n h k = ap (on GL) (sym (eqb-true n m k))
+    go GL GR m n h k = off (sym h ∙ k)
+    go GR GL m n h k = off (sym h ∙ k)
+    go GR GR m n h k = ap (on GR) (sym (eqb-true n m k))
 
 -- f rises by no more than a designation's price
 abbrev pub Steady : (Sets → ℕ) → Type 0
@@ -48,13 +45,13 @@ Steady f = (p : Standing) (s : Sets) → f s ≤ via p f s
 -- a put before one to the same side is lost, and puts to two sides change places
 put-over : (f : Sets → ℕ) → Steady f → (a p : Standing) (s : Sets) → f (put a s) ≤ price p + f (put a (put p s))
 unfolding put
-put-over f st a p s = go (a .side) (p .side) refl
+put-over f st a p s = go (a .side) (p .side) (a .set) (p .set)
   where
-    go : (d e : Side) → p .side ≡ e → f (put′ d (a .set) s) ≤ price p + f (put′ d (a .set) (put′ e (p .set) s))
-    go GL GL y = omega arith
-    go GR GR y = omega arith
-    go GL GR y = subst (λ (e : Side). f (put′ GL (a .set) s) ≤ price p + f (put′ e (p .set) (put′ GL (a .set) s))) y (st p (put′ GL (a .set) s))
-    go GR GL y = subst (λ (e : Side). f (put′ GR (a .set) s) ≤ price p + f (put′ e (p .set) (put′ GR (a .set) s))) y (st p (put′ GR (a .set) s))
+    go : (d e : Side) (m n : ℕ) → f (put′ d m s) ≤ price (on e n) + f (put′ d m (put′ e n s))
+    go GL GL m n = omega arith
+    go GR GR m n = omega arith
+    go GL GR m n = st (on GR n) (put′ GL m s)
+    go GR GL m n = st (on GL n) (put′ GR m s)
 
 -- a need before what f says keeps that
 pub least-steady : (n : Need) (f : Sets → ℕ) → Steady f → Steady (least n f)
@@ -88,8 +85,7 @@ pub chose : (a b : Standing) (f : Sets → ℕ) (s : Sets) → Chose a b f s (ch
 unfolding choose
 chose a b f s =
     cond-by (Chose a b f s) (met (either a b) s) nothing
-    (λ e. cond-by (Chose a b f s) (leb (via a f s) (via b f s)) (λ l. the-first e (leb-true (via a f s) (via b f s) l))
-    (λ l. the-second e (leb-false (via a f s) (via b f s) l)))
+    (λ e. cond-by (Chose a b f s) (leb (via a f s) (via b f s)) (λ l. the-first e (leb-true _ _ l)) (λ l. the-second e (leb-false _ _ l)))
 
 -- the choice costs the least
 pub least-chosen : (n : Need) (f : Sets → ℕ) (s : Sets) → least n f s ≡ spent (choose n f s) + f (after (choose n f s) s)
@@ -110,11 +106,11 @@ chosen-met (either a b) f s = go (chose a b f s)
   where
     go : {o : Option Standing} → Chose a b f s o → met (either a b) (after o s) ≡ true
     go (nothing e) = e
-    go (the-first e l) = ap (λ (x : Bool). x || stands b (put a s)) (put-stands a s)
-    go (the-second e l) = ap (λ (x : Bool). stands a (put b s) || x) (put-stands b s) ∙ or-true (stands a (put b s))
+    go (the-first e l) = rw (put-stands a s)
+    go (the-second e l) = rw (put-stands b s) (or-true (stands a (put b s)))
 
 -- where the need is met the least cost is the rest's
 pub least-met : (n : Need) (f : Sets → ℕ) (s : Sets) → met n s ≡ true → least n f s ≡ f s
 unfolding least met
 least-met free f s e = refl
-least-met (either a b) f s e = ap (λ (t : Bool). cond t (f s) (min (via a f s) (via b f s))) e
+least-met (either a b) f s e = rw e

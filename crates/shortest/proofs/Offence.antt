@@ -4,31 +4,25 @@
 use Prim.Native.Nat.{ℕ, zero, suc, _+_, _<_}
 use native.Mathlib.Omega.{arith}
 use mathlib.Core.Path.{_≡_, refl, sym, ap, ap₂, _∙_, subst}
-use mathlib.Core.Bool.{Bool, true, false, cond, _&&_}
+use mathlib.Core.Bool.{Bool, _&&_}
 use mathlib.Core.List.{List, [], _∷_}
 use mathlib.Core.Option.{Option, none, some}
 use mathlib.Core.Logic.{_↔_, _⊎_, inl, inr}
 use lib.ListN.{getD, take}
 use lib.Dec.{leb, ltb}
-use borrow.Author.Tests.{ltb-true, ltb-false}
+use borrow.Author.Tests.{ltb-true}
 use Rattle.base.specs.Choice.{pick}
 use Rattle.base.specs.Refusal as refusal
 use Rattle.base.specs.declared.Unit.{Unit as UnitRecord}
-use Rattle.base.proofs.Bools.{test, pick-by, cond-by}
+use Rattle.base.proofs.Bools.{clash, test, pick-by, cond-by, tested}
 use Rattle.state.specs.Directions.{undirected, writtenOf, deeperOf, begunOf, revertedOf, stepOf}
 use Rattle.state.specs.declared.directions.Directions.{Directions}
 use Rattle.state.specs.declared.directions.Step.{Step}
 use Rattle.state.specs.declared.directions.Step.the-variants.{Goes, Stops}
 use Rattle.grammar.specs.Units.{TextUnit, char, space, control, ext, good}
-use Rattle.grammar.specs.Reading.{direct}
 use Rattle.grammar.specs.Records.{unitRead}
 use Rattle.shortest.specs.Records.{own, fault, Finding, fine, faulty, onStep, checkRecords}
 use Rattle.shortest.specs.Offence.{stepTo, directionsAfter, noRecord, faultAt, FirstFrom, FirstOffends, NoneFrom, NoneOffends, Number}
-
-never : {d : Directions} {n : ℕ} (x : Step) → x ≡ Goes d → x ≡ Stops n → ⊥
-never x p q =
-    let z : _≡_ {A = ℕ} 0 1 = cc in
-    omega arith
 
 module _ (o : List ℕ) (r : UnitRecord) (rs : List UnitRecord) (d : Directions) where
   -- a record after one whose step goes on
@@ -46,7 +40,7 @@ module _ (o : List ℕ) (r : UnitRecord) (rs : List UnitRecord) (d : Directions)
       record { inside = omega (arith, f .inside); offends = fault-next e i ∙ f .offends; before = go }
     where
       go : (j : ℕ) → j < suc i → (m : ℕ) → faultAt o (r ∷ rs) d j ≡ Stops m → ⊥
-      go zero h m q = never (fault (unitRead o r) d) e q
+      go zero h m q = clash (cc)
       go (suc j) h m q = f .before j (omega arith) m (sym (fault-next e j) ∙ q)
 
 -- the check of records that are counted from k: none offends, or the first that does is record i of them
@@ -63,7 +57,7 @@ verdict o (r ∷ rs) d k = go (fault (unitRead o r) d) refl (λ next. verdict o 
     later {next} q (no-one f) = no-one none
       where
         none : NoneFrom o (r ∷ rs) d
-        none zero h n w = never (fault (unitRead o r) d) q w
+        none zero h n w = clash (cc)
         none (suc i) h n w = f i (omega arith) n (sym (fault-next o r rs d q i) ∙ w)
     later q (the-first {n} {m} i e f) = the-first {n = n} {m = m} (suc i) (omega (arith, e)) (first-later o r rs d q f)
 
@@ -78,25 +72,25 @@ one-first {o} {rs} {d} {n} {m} {i} {j} f g = (cc (f .offends, g .offends, same),
   where
     same : i ≡ j
     same =
-        test (ltb i j) (λ e. absurd (g .before i (ltb-true i j e) n (f .offends)))
-        (λ e. test (ltb j i) (λ l. absurd (f .before j (ltb-true j i l) m (g .offends))) (λ l. omega (arith, ltb-false i j e, ltb-false j i l)))
+        test (ltb i j) (λ e. absurd (g .before i (ltb-true _ _ e) n (f .offends)))
+        (λ e. test (ltb j i) (λ l. absurd (f .before j (ltb-true _ _ l) m (g .offends))) (λ l. omega tested))
 
 -- the place of an offending unit
 pub offence : (o : List ℕ) (rs : List UnitRecord) (n i : ℕ) → (checkRecords o rs 0 undirected ≡ faulty n i) ↔ FirstOffends o rs n i
-offence o rs n i = (λ e. told (subst (Verdict o rs undirected 0) e (verdict o rs undirected 0)), λ f. tells f (verdict o rs undirected 0))
+offence o rs n i = (λ e. told (rw e at (verdict o rs undirected 0)), λ f. tells f (verdict o rs undirected 0))
   where
     told : {i : ℕ} → Verdict o rs undirected 0 (faulty n i) → FirstOffends o rs n i
-    told (the-first j e f) = subst (FirstFrom o rs undirected n) (let q : j ≡ _ = omega (arith, e) in q) f
+    told (the-first j e f) = subst (FirstFrom o rs undirected n) (omega (arith, e)) f
 
     tells : {c : Finding} → FirstOffends o rs n i → Verdict o rs undirected 0 c → c ≡ faulty n i
     tells f (no-one h) = absurd (h i (f .inside) n (f .offends))
     tells f (the-first {m = k} j e g) =
         let s = one-first g f in
-        ap₂ faulty (s .0) (let q : k ≡ i = omega (arith, e, s .1) in q)
+        ap₂ faulty (s .0) (omega (arith, e, s .1))
 
 -- no record offends
 pub no-offence : (o : List ℕ) (rs : List UnitRecord) → (checkRecords o rs 0 undirected ≡ fine) ↔ NoneOffends o rs
-no-offence o rs = (λ e. told (subst (Verdict o rs undirected 0) e (verdict o rs undirected 0)), λ h. tells h (verdict o rs undirected 0))
+no-offence o rs = (λ e. told (rw e at (verdict o rs undirected 0)), λ h. tells h (verdict o rs undirected 0))
   where
     told : Verdict o rs undirected 0 fine → NoneOffends o rs
     told (no-one h) = h
@@ -117,11 +111,7 @@ ruled-pick b h k = pick-by Ruled b (λ _. h) (λ _. k)
 
 ruled : (x : Bool) (kind : ℕ) (d : Directions) → Ruled (stepOf x kind d)
 unfolding stepOf writtenOf begunOf deeperOf revertedOf
-ruled x kind d =
-    let eight : Ruled (Stops refusal.direction) = stops (inl refl) in
-    let deeper : (way : ℕ) → Ruled (deeperOf way d) = λ way. ruled-pick _ goes (stops (inr refl)) in
-    let begun : (way : ℕ) → Ruled (begunOf way d) = λ way. ruled-pick _ (deeper way) (ruled-pick _ eight (deeper way)) in
-    ruled-pick _ (ruled-pick _ (ruled-pick _ eight goes) goes) (ruled-pick _ (begun 0) (ruled-pick _ (begun 1) (ruled-pick _ (ruled-pick _ eight goes) goes)))
+ruled x kind d = search (ruled-pick, goes, stops, inl, inr) depth 9
 
 own-number : (u : TextUnit) → Number (own u)
 own-number (char c k) = inl refl
@@ -130,19 +120,10 @@ own-number (control x) = inl refl
 own-number (ext e xs) = cond-by Number (leb 0x30 e && leb e 0x34) (λ _. inr (inl refl)) (λ _. inl refl)
 
 pub numbers : (x : Option TextUnit) (d : Directions) (n : ℕ) → fault x d ≡ Stops n → Number n
-numbers none d n e =
-    let q : refusal.bad-unit ≡ n = cc in
-    inl (sym q)
-numbers (some u) d n e = go (good u) e
+numbers none d n e = inl (cc)
+numbers (some u) d n e =
+    test (good u) (λ g. step (ruled _ _ d) (rw g at e)) (λ g. subst Number (let q : own u ≡ n = cc (rw g at e) in q) (own-number u))
   where
-    step : (x : Step) → Ruled x → x ≡ Stops n → Number n
-    step (Goes next) r e = absurd (never (Goes next) refl e)
-    step (Stops m) (stops r) e =
-        let q : m ≡ n = cc in
-        subst Number q (inr (inr r))
-
-    go : (b : Bool) → cond b (direct d u) (Stops (own u)) ≡ Stops n → Number n
-    go true e = step (direct d u) (ruled _ _ d) e
-    go false e =
-        let q : own u ≡ n = cc in
-        subst Number q (own-number u)
+    step : {x : Step} → Ruled x → x ≡ Stops n → Number n
+    step goes e = clash (cc)
+    step (stops {n = m} r) e = subst Number (let q : m ≡ n = cc in q) (inr (inr r))

@@ -3,11 +3,11 @@
 -- `refused-count`, `refused-place`), and what the output holds (`refused-output`, `accepted-output`).
 use Prim.Native.Nat.{ℕ, _≤_, _<_}
 use native.Mathlib.Omega.{arith}
-use mathlib.Core.Path.{_≡_, refl, sym, ap, _∙_, subst}
+use mathlib.Core.Path.{_≡_, refl, sym, _∙_, subst}
 use mathlib.Core.Bool.{cond}
 use mathlib.Core.List.{List}
 use mathlib.Core.Option.{Option, none, some, Option·none-ne-some}
-use mathlib.Core.Logic.{_↔_, _⊎_, inl, inr, ⊎-elim}
+use mathlib.Core.Logic.{_↔_, inl, inr, ⊎-elim}
 use lib.ListN.{length, getD, take}
 use lib.Dec.{ltb}
 use borrow.Author.Tests.{ltb-true, ltb-false, le-ltb, lt-ltb}
@@ -23,7 +23,7 @@ use Rattle.shortest.specs.Writing.{shortestCount}
 use Rattle.shortest.specs.Demand.{writeAnswer}
 use Rattle.grammar.specs.Records.{unitRead, listReading}
 use Rattle.shortest.specs.Records.{Finding, fine, faulty, checkRecords, afterCheck, ofReading, workRoom, writerAnswer}
-use Rattle.shortest.specs.Offence.{directionsAfter, noRecord, faultAt, FirstOffends, NoneOffends, Number}
+use Rattle.shortest.specs.Offence.{directionsAfter, noRecord, faultAt, FirstOffends, Number}
 use Rattle.shortest.specs.Outcome.{Served, Accepts, LacksWorkRoom, TooLong, LacksRoom}
 use Rattle.shortest.specs.Outcome.{Outcome, long-list, offending, short-work, long-writing, short-output, written}
 use Rattle.shortest.proofs.Offence.{offence, no-offence, numbers}
@@ -33,6 +33,17 @@ use Rattle.shortest.proofs.Records.{fine-units, reading-length}
 abbrev Of : (ℕ → ℕ → ℕ → Type 0) → Answer → Type 0
 Of P a = P (a .number) (a .place) (a .count)
 
+pub offence-number : (o : List ℕ) (rs : List UnitRecord) (n i : ℕ) → FirstOffends o rs n i → Number n
+unfolding faultAt
+offence-number o rs n i f = numbers (unitRead o (getD rs i noRecord)) (directionsAfter o (take i rs) undirected) n (f .offends)
+
+-- none of the other numbers
+apart : (n : ℕ) → Number n → (2 ≤ n) × (n < refusal.no-work-room) × (n ≡ refusal.no-room → ⊥)
+apart n (inl e) = omega arith
+apart n (inr (inl e)) = omega arith
+apart n (inr (inr (inl e))) = omega arith
+apart n (inr (inr (inr e))) = omega arith
+
 module _ (rs : List UnitRecord) (o : List ℕ) (work m : ℕ) where
   -- the answer is an outcome
   abbrev Is : Answer → Type 0
@@ -41,63 +52,47 @@ module _ (rs : List UnitRecord) (o : List ℕ) (work m : ℕ) where
   writing-outcome : (us : List TextUnit) → Served rs o work us → Is (writeAnswer us m)
   unfolding writeAnswer
   writing-outcome us v =
-      cond-by Is (ltb limit.octets (shortestCount us)) (λ p. long-writing us v (ltb-true limit.octets (shortestCount us) p))
-      (λ p. let l = ltb-false limit.octets (shortestCount us) p in
-      cond-by Is (ltb m (shortestCount us)) (λ q. short-output us v l (ltb-true m (shortestCount us) q))
-      (λ q. subst (λ (k : ℕ). Outcome rs o work m refusal.accepted k (shortestCount us)) (sym (reading-length o rs us (v .reading)))
-      (written us v l (ltb-false m (shortestCount us) q))))
+      cond-by Is (ltb limit.octets (shortestCount us)) (λ p. long-writing us v (ltb-true _ _ p))
+      (λ p. cond-by Is (ltb m (shortestCount us)) (λ q. short-output us v (ltb-false _ _ p) (ltb-true _ _ q))
+      (λ q. rw (reading-length o rs us (v .reading)) (written us v (ltb-false _ _ p) (ltb-false _ _ q))))
 
   is-outcome : Is (writerAnswer rs o work m)
   unfolding writerAnswer
   is-outcome =
-      cond-by Is (ltb limit.units (length rs)) (λ e. long-list (ltb-true limit.units (length rs) e))
-      (λ e. check (ltb-false limit.units (length rs) e) (checkRecords o rs 0 undirected) refl)
+      cond-by Is (ltb limit.units (length rs)) (λ e. long-list (ltb-true _ _ e)) (λ e. check (ltb-false _ _ e) (checkRecords o rs 0 undirected) refl)
     where
       reading : length rs ≤ limit.units → checkRecords o rs 0 undirected ≡ fine → workRoom (length rs) ≤ work
           → (x : Option (List TextUnit)) → listReading o rs ≡ x → Is (ofReading x m)
-      reading l c w none e = let f = fine-units o rs 0 undirected c in absurd (Option·none-ne-some (f .units) (sym e ∙ f .reading))
+      reading l c w none e = let f = fine-units o rs 0 undirected c in absurd (Option·none-ne-some _ (sym e ∙ f .reading))
       reading l c w (some us) e = writing-outcome us (record { list = l; none = no-offence o rs .0 c; room = w; reading = e })
 
       check : length rs ≤ limit.units → (c : Finding) → checkRecords o rs 0 undirected ≡ c
           → Is (afterCheck c (cond (ltb work (workRoom (length rs))) (refusedAt refusal.no-work-room 0) (ofReading (listReading o rs) m)))
       check l fine e =
-          cond-by Is (ltb work (workRoom (length rs))) (λ w. short-work l (no-offence o rs .0 e) (ltb-true work (workRoom (length rs)) w))
-          (λ w. reading l e (ltb-false work (workRoom (length rs)) w) (listReading o rs) refl)
+          cond-by Is (ltb work (workRoom (length rs))) (λ w. short-work l (no-offence o rs .0 e) (ltb-true _ _ w))
+          (λ w. reading l e (ltb-false _ _ w) (listReading o rs) refl)
       check l (faulty n i) e = offending l (offence o rs n i .0 e)
 
   -- an outcome is the answer
   pub served : (us : List TextUnit) → Served rs o work us → writerAnswer rs o work m ≡ writeAnswer us m
   unfolding writerAnswer
-  served us v = rw (le-ltb limit.units (length rs) (v .list), no-offence o rs .1 (v .none), le-ltb work (workRoom (length rs)) (v .room), v .reading)
+  served us v = rw (le-ltb _ _ (v .list), no-offence o rs .1 (v .none), le-ltb _ _ (v .room), v .reading)
 
   pub outcome-is : {n p c : ℕ} → Outcome rs o work m n p c → writerAnswer rs o work m ≡ answer n p c
   unfolding writerAnswer writeAnswer
-  outcome-is (long-list h) = rw (lt-ltb limit.units (length rs) h)
-  outcome-is (offending {n} {i} h f) = rw (le-ltb limit.units (length rs) h, offence o rs n i .1 f)
-  outcome-is (short-work h f w) = rw (le-ltb limit.units (length rs) h, no-offence o rs .1 f, lt-ltb work (workRoom (length rs)) w)
-  outcome-is (long-writing us v h) = served us v ∙ rw (lt-ltb limit.octets (shortestCount us) h)
-  outcome-is (short-output us v h k) = served us v ∙ rw (le-ltb limit.octets (shortestCount us) h, lt-ltb m (shortestCount us) k)
-  outcome-is (written us v h k) =
-      served us v ∙ rw (le-ltb limit.octets (shortestCount us) h, le-ltb m (shortestCount us) k, reading-length o rs us (v .reading))
+  outcome-is (long-list h) = rw (lt-ltb limit.units)
+  outcome-is (offending {n} {i} h f) = rw (le-ltb limit.units, offence o rs n i .1 f)
+  outcome-is (short-work h f w) = rw (le-ltb limit.units, no-offence o rs .1 f, lt-ltb work)
+  outcome-is (long-writing us v h) = served us v ∙ rw (lt-ltb limit.octets)
+  outcome-is (short-output us v h k) = served us v ∙ rw (le-ltb limit.octets, lt-ltb m)
+  outcome-is (written us v h k) = served us v ∙ rw (le-ltb limit.octets, le-ltb m, reading-length o rs us (v .reading))
 
   -- the order of the writer's refusals, whole
   pub outcome : (n p c : ℕ) → (writerAnswer rs o work m ≡ answer n p c) ↔ Outcome rs o work m n p c
   outcome n p c = (λ e. subst Is e is-outcome, outcome-is)
 
--- ---- what each number means
+  -- ---- what each number means
 
-pub offence-number : (o : List ℕ) (rs : List UnitRecord) (n i : ℕ) → FirstOffends o rs n i → Number n
-unfolding faultAt
-offence-number o rs n i f = numbers (unitRead o (getD rs i noRecord)) (directionsAfter o (take i rs) undirected) n (f .offends)
-
--- none of the other numbers
-apart : (n : ℕ) → Number n → (2 ≤ n) × (n < refusal.no-work-room) × (n ≡ refusal.no-room → ⊥)
-apart n (inl e) = (omega arith, omega arith, λ q. omega arith)
-apart n (inr (inl e)) = (omega arith, omega arith, λ q. omega arith)
-apart n (inr (inr (inl e))) = (omega arith, omega arith, λ q. omega arith)
-apart n (inr (inr (inr e))) = (omega arith, omega arith, λ q. omega arith)
-
-module _ (rs : List UnitRecord) (o : List ℕ) (work m : ℕ) where
   abbrev number : ℕ
   number = writerAnswer rs o work m .number
 
@@ -106,10 +101,10 @@ module _ (rs : List UnitRecord) (o : List ℕ) (work m : ℕ) where
 
   -- the outcome of a known number, and the number of a known outcome
   known : {n : ℕ} → number ≡ n → Outcome rs o work m n (writerAnswer rs o work m .place) (writerAnswer rs o work m .count)
-  known e = subst (λ (n : ℕ). Outcome rs o work m n (writerAnswer rs o work m .place) (writerAnswer rs o work m .count)) e (is-outcome rs o work m)
+  known e = rw e at is-outcome
 
   numbered : {n p c : ℕ} → Outcome rs o work m n p c → number ≡ n
-  numbered x = ap (λ (a : Answer). a .number) (outcome-is rs o work m x)
+  numbered x = cc (outcome-is x)
 
   -- 0 (rule N6)
   pub accepted-where : (number ≡ refusal.accepted) ↔ Accepts rs o work m
@@ -146,7 +141,7 @@ module _ (rs : List UnitRecord) (o : List ℕ) (work m : ℕ) where
 
   -- 11, 7, 8, 9: the first offending record has that number and stands there
   pub offends-where : (n i : ℕ) → Number n → (writerAnswer rs o work m ≡ refusedAt n i) ↔ ((length rs ≤ limit.units) × FirstOffends o rs n i)
-  offends-where n i k = (λ e. go k (outcome rs o work m n i 0 .0 e), λ w. outcome-is rs o work m (offending (w .0) (w .1)))
+  offends-where n i k = (λ e. go k (outcome n i 0 .0 e), λ w. outcome-is (offending (w .0) (w .1)))
     where
       go : {n i c : ℕ} → Number n → Outcome rs o work m n i c → (length rs ≤ limit.units) × FirstOffends o rs n i
       go k (long-list h) = absurd (omega (arith, apart _ k))
@@ -158,33 +153,25 @@ module _ (rs : List UnitRecord) (o : List ℕ) (work m : ℕ) where
 
   -- ---- counts and places
 
+  bare : {n p c : ℕ} → Outcome rs o work m n p c → (n ≡ refusal.accepted → ⊥) → ((n ≡ refusal.no-room → ⊥) → c ≡ 0) × ((Number n → ⊥) → p ≡ 0)
+  bare (long-list h) a = (λ _. refl, λ _. refl)
+  bare (offending {n} {i} h f) a = (λ _. refl, λ b. absurd (b (offence-number o rs n i f)))
+  bare (short-work h f w) a = (λ _. refl, λ _. refl)
+  bare (long-writing us v h) a = (λ _. refl, λ _. refl)
+  bare (short-output us v h k) a = (λ b. absurd (b refl), λ _. refl)
+  bare (written us v h k) a = absurd (a refl)
+
   -- a refusal other than 10 has count 0 (rule N1)
   pub refused-count : (number ≡ refusal.accepted → ⊥) → (number ≡ refusal.no-room → ⊥) → writerAnswer rs o work m .count ≡ 0
-  refused-count a b = go (is-outcome rs o work m) a b
-    where
-      go : {n p c : ℕ} → Outcome rs o work m n p c → (n ≡ refusal.accepted → ⊥) → (n ≡ refusal.no-room → ⊥) → c ≡ 0
-      go (long-list h) a b = refl
-      go (offending h f) a b = refl
-      go (short-work h f w) a b = refl
-      go (long-writing us v h) a b = refl
-      go (short-output us v h k) a b = absurd (b refl)
-      go (written us v h k) a b = absurd (a refl)
+  refused-count a = bare is-outcome a .0
 
   -- a refusal other than of a unit has place 0 (rule N2)
   pub refused-place : (number ≡ refusal.accepted → ⊥) → (Number number → ⊥) → writerAnswer rs o work m .place ≡ 0
-  refused-place a b = go (is-outcome rs o work m) a b
-    where
-      go : {n p c : ℕ} → Outcome rs o work m n p c → (n ≡ refusal.accepted → ⊥) → (Number n → ⊥) → p ≡ 0
-      go (long-list h) a b = refl
-      go (offending {n} {i} h f) a b = absurd (b (offence-number o rs n i f))
-      go (short-work h f w) a b = refl
-      go (long-writing us v h) a b = refl
-      go (short-output us v h k) a b = refl
-      go (written us v h k) a b = absurd (a refl)
+  refused-place a = bare is-outcome a .1
 
   -- accepted: 0, the units, and the octets written (rule N1)
   pub accepted-answer : number ≡ refusal.accepted
       → (us : List TextUnit) × (listReading o rs ≡ some us) × (writerAnswer rs o work m ≡ answer refusal.accepted (length rs) (shortestCount us))
   accepted-answer e =
       let w = accepted-where .0 e in
-      (w .0, w .1 .reading, outcome-is rs o work m (written (w .0) (w .1) (w .2) (w .3)))
+      (w .0, w .1 .reading, outcome-is (written (w .0) (w .1) (w .2) (w .3)))

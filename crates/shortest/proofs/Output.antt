@@ -2,17 +2,16 @@
 -- its first place and the rest stays (`accepted-output`), which is the string of rule W4 (`output-chosen`, `output-one`) and
 -- is accepted and reads as the list (`output-read`). Its length stays (`output-length`). And 1 for the writing comes exactly where every
 -- string of the reading is over the limit (`over-limit`).
-use Prim.Native.Nat.{ℕ, _+_, _-_, _≤_, _<_}
+use Prim.Native.Nat.{ℕ, _<_}
 use native.Mathlib.Omega.{arith}
 use mathlib.Core.Path.{_≡_, sym, ap, ap₂, _∙_, subst}
-use mathlib.Core.List.{List, _++_}
+use mathlib.Core.List.{List}
 use mathlib.Core.Option.{Option, none, some, Option·some-injective}
 use mathlib.Core.Logic.{_↔_}
 use lib.ListN.{length, take, drop, length-append, length-drop}
 use lib.Seq.{take-append-seam}
 use lib.Dec.{eqb}
 use borrow.Author.Tests.{eqb-true, eqb-false, eq-eqb, ne-eqb}
-use Rattle.base.specs.Answers.{answer}
 use Rattle.base.specs.Limit as limit
 use Rattle.base.specs.Refusal as refusal
 use Rattle.base.specs.declared.Answer.{Answer}
@@ -41,7 +40,7 @@ use Rattle.shortest.proofs.Outcome.{accepted-where, served, outcome-is}
 served-good : (rs : List UnitRecord) (o : List ℕ) (work : ℕ) (us : List TextUnit) → Served rs o work us → Good us
 served-good rs o work us v =
     let f = fine-units o rs 0 undirected (no-offence o rs .1 (v .none)) in
-    subst Good (Option·some-injective (f .units) us (sym (f .reading) ∙ v .reading)) (f .good-ones)
+    subst Good (Option·some-injective _ _ (sym (f .reading) ∙ v .reading)) (f .good-ones)
 
 -- 1 for the writing: every string of the reading, its length aside, is over the limit (rule N3)
 pub over-limit : (rs : List UnitRecord) (o : List ℕ) (work : ℕ) (us : List TextUnit) → Octets o → Served rs o work us
@@ -71,7 +70,7 @@ module _ (rs : List UnitRecord) (o : List ℕ) (work : ℕ) (out : List ℕ) whe
       let w = accepted-where rs o work (length out) .0 e in
       let us = w .0 in
       let v = w .1 in
-      let n : writeAnswer us (length out) .number ≡ refusal.accepted = ap (λ (a : Answer). a .number) (sym (served rs o work (length out) us v)) ∙ e in
+      let n : writeAnswer us (length out) .number ≡ refusal.accepted = cc (served rs o work (length out) us v, e) in
       record {
         units = us;
         reading = v .reading;
@@ -99,8 +98,7 @@ module _ (rs : List UnitRecord) (o : List ℕ) (work : ℕ) (out : List ℕ) whe
         g .units,
         choices (g .units) (fresh .sets),
         g .reading,
-        subst (Chosen (g .units) (fresh .sets) (choices (g .units) (fresh .sets))) (sym (output-string g))
-            (the-choice (g .units) (fresh .sets) fresh-legal (g .good-ones)),
+        rw (output-string g) (the-choice (g .units) (fresh .sets) fresh-legal (g .good-ones)),
       )
 
   pub output-one : answered .number ≡ refusal.accepted → (us : List TextUnit) (os : List (Option Standing)) (t : List ℕ)
@@ -118,18 +116,13 @@ module _ (rs : List UnitRecord) (o : List ℕ) (work : ℕ) (out : List ℕ) whe
       let w = accepted-where rs o work (length out) .0 e in (
         g .units,
         g .reading,
-        subst (λ (t : List ℕ). ReadAs t (g .units)) (sym (output-string g))
-            (list-written o rs (g .units) h (no-offence o rs .1 (w .1 .none)) (g .reading) (g .short)),
+        rw (output-string g) (list-written o rs (g .units) h (no-offence o rs .1 (w .1 .none)) (g .reading) (g .short)),
       )
 
   -- the output keeps its length
   pub output-length : length (writerOutput rs o work out) ≡ length out
   output-length =
       test (eqb (answered .number) refusal.accepted)
-      (λ e. let g = accepted-output (eqb-true (answered .number) refusal.accepted e) in
-      let w = shortestOf (g .units) in
-      let n = shortestCount (g .units) in
-      let z : length (w ++ drop n out) ≡ length out =
-      omega (arith, length-append w (drop n out), length-drop n out, writing-length (g .units) (fresh .sets), g .fits) in
-      ap length (g .holds) ∙ z)
-      (λ e. ap length (refused-output (eqb-false (answered .number) refusal.accepted e)))
+      (λ e. let g = accepted-output (eqb-true _ _ e) in
+      rw (g .holds, length-append, length-drop) (omega (arith, writing-length (g .units) (fresh .sets), g .fits)))
+      (λ e. ap length (refused-output (eqb-false _ _ e)))

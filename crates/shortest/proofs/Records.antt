@@ -1,19 +1,19 @@
 -- A list of records has no offending record exactly where some string, its length aside, reads as it (`no-offence-read`): the units of
 -- such a list are good and keep the direction rule (`fine-units`, `units-fine`), so that their writing is such a string. Where its
 -- cost is within the limit it is accepted (`list-written`), and a list that some accepted string reads as is such a list (`read-list`).
-use Prim.Native.Nat.{ℕ, zero, suc, _≤_}
+use Prim.Native.Nat.{ℕ, suc, _≤_}
 use native.Mathlib.Omega.{arith}
-use mathlib.Core.Path.{_≡_, refl, sym, ap, _∙_, subst}
-use mathlib.Core.Bool.{Bool, true, false, cond, false≢true}
+use mathlib.Core.Path.{_≡_, refl, ap, subst}
+use mathlib.Core.Bool.{true}
 use mathlib.Core.List.{List, [], _∷_}
-use mathlib.Core.Option.{Option, none, some, Option·none-ne-some, Option·some-injective}
+use mathlib.Core.Option.{Option, none, some, Option·some-injective}
 use mathlib.Core.Logic.{_↔_}
-use lib.ListN.{length, take, drop}
+use lib.ListN.{length, take, drop, take-append-drop}
 use lib.Dec.{eqb, ltb}
 use Rattle.base.specs.Kind as kind
 use Rattle.base.specs.Limit as limit
 use Rattle.base.specs.declared.Unit.{Unit as UnitRecord}
-use Rattle.base.proofs.Bools.{test, cond-by}
+use Rattle.base.proofs.Bools.{off, clash, test, cond-by}
 use Rattle.state.specs.State.{fresh}
 use Rattle.state.specs.Directions.{undirected}
 use Rattle.state.specs.declared.directions.Directions.{Directions}
@@ -24,9 +24,10 @@ use Rattle.grammar.specs.Reading.{direct, Octets, ReadAs}
 use Rattle.grammar.proofs.Rule.{directed, passes, direction-rule}
 use Rattle.shortest.specs.Writing.{shortestOf, shortestCount, Every, Good, Contents}
 use Rattle.grammar.specs.Records.{readable, unitRead, prepend, listReading}
-use Rattle.shortest.specs.Records.{fault, own, fine, faulty, onStep, checkRecords}
+use Rattle.shortest.specs.Records.{fault, fine, onStep, checkRecords}
 use Rattle.shortest.specs.Offence.{NoneOffends, Grammatical, SomeString}
 use Rattle.shortest.proofs.Costs.{writing-length}
+use Rattle.shortest.proofs.Written.{front, back}
 use Rattle.shortest.proofs.Shortest.{good-all, accepted, writing-grammatical, within-limit, no-shorter, units-within}
 use Rattle.shortest.proofs.Offence.{no-offence}
 
@@ -36,24 +37,24 @@ record FirstRead (o : List ℕ) (r : UnitRecord) (rs : List UnitRecord) (us : Li
   rest : List TextUnit
   first : unitRead o r ≡ some unit
   others : listReading o rs ≡ some rest
-  whole : unit ∷ rest ≡ us
+  whole : us ≡ unit ∷ rest
 
 first-read : (o : List ℕ) (r : UnitRecord) (rs : List UnitRecord) (us : List TextUnit) → listReading o (r ∷ rs) ≡ some us → FirstRead o r rs us
 unfolding listReading
 first-read o r rs us e = go (unitRead o r) (listReading o rs) refl refl e
   where
     go : (x : Option TextUnit) (y : Option (List TextUnit)) → unitRead o r ≡ x → listReading o rs ≡ y → prepend x y ≡ some us → FirstRead o r rs us
-    go none y p q e = absurd (Option·none-ne-some us e)
-    go (some u) none p q e = absurd (Option·none-ne-some us e)
-    go (some u) (some vs) p q e = record { unit = u; rest = vs; first = p; others = q; whole = Option·some-injective (u ∷ vs) us e }
+    go none y p q e = clash (cc)
+    go (some u) none p q e = clash (cc)
+    go (some u) (some vs) p q e = record { unit = u; rest = vs; first = p; others = q; whole = cc }
 
 -- a reading has a unit for each record
 pub reading-length : (o : List ℕ) (rs : List UnitRecord) (us : List TextUnit) → listReading o rs ≡ some us → length us ≡ length rs
 unfolding listReading
-reading-length o [] us e = ap length (sym (Option·some-injective [] us e))
+reading-length o [] us e = ap length (let q : us ≡ [] = cc in q)
 reading-length o (r ∷ rs) us e =
     let w = first-read o r rs us e in
-    ap length (sym (w .whole)) ∙ ap suc (reading-length o rs (w .rest) (w .others))
+    rw (w .whole) (ap suc (reading-length o rs (w .rest) (w .others)))
 
 -- ---- good units that keep the direction rule, and lists with no offending record
 
@@ -63,13 +64,12 @@ unfolding checkRecords listReading directed
 units-fine o [] us i d e g h = refl
 units-fine o (r ∷ rs) us i d e g h =
     let w = first-read o r rs us e in
-    let g′ : Good (w .unit ∷ w .rest) = subst Good (sym (w .whole)) g in
-    let h′ : directed (w .unit ∷ w .rest) d ≡ true = subst (λ (us : List TextUnit). directed us d ≡ true) (sym (w .whole)) h in
-    rw (w .first, g′ .0) (go (w .rest) (direct d (w .unit)) h′ (λ next f. units-fine o rs (w .rest) (suc i) next (w .others) (g′ .1) f))
+    let g′ = rw (w .whole) at g in
+    rw (w .first, g′ .0) (go (w .rest) (direct d (w .unit)) (rw (w .whole) at h) (λ next f. units-fine o rs (w .rest) (suc i) next (w .others) (g′ .1) f))
   where
     go : (vs : List TextUnit) (x : Step) → passes x (λ next. directed vs next) ≡ true
         → ((next : Directions) → directed vs next ≡ true → checkRecords o rs (suc i) next ≡ fine) → onStep x i (λ next. checkRecords o rs (suc i) next) ≡ fine
-    go vs (Stops n) h k = absurd (false≢true h)
+    go vs (Stops n) h k = off h
     go vs (Goes next) h k = k next h
 
 -- the units of a list with no offending record
@@ -84,14 +84,9 @@ unfolding checkRecords listReading directed
 fine-units o [] i d e = record { units = []; reading = refl; good-ones = tt; rule = refl }
 fine-units o (r ∷ rs) i d e = go (unitRead o r) refl e (λ next q. fine-units o rs (suc i) next q)
   where
-    never : (n j : ℕ) → faulty n j ≡ fine → ⊥
-    never n j q =
-        let z : _≡_ {A = ℕ} 0 1 = cc in
-        omega arith
-
     step : (u : TextUnit) → unitRead o r ≡ some u → good u ≡ true → (x : Step) → direct d u ≡ x → onStep x i (λ next. checkRecords o rs (suc i) next) ≡ fine
         → ((next : Directions) → checkRecords o rs (suc i) next ≡ fine → Fine o rs next) → Fine o (r ∷ rs) d
-    step u p g (Stops n) q e k = absurd (never n i e)
+    step u p g (Stops n) q e k = clash (cc)
     step u p g (Goes next) q e k =
         let f = k next e in
         record {
@@ -103,22 +98,14 @@ fine-units o (r ∷ rs) i d e = go (unitRead o r) refl e (λ next q. fine-units 
 
     go : (x : Option TextUnit) → unitRead o r ≡ x → onStep (fault x d) i (λ next. checkRecords o rs (suc i) next) ≡ fine
         → ((next : Directions) → checkRecords o rs (suc i) next ≡ fine → Fine o rs next) → Fine o (r ∷ rs) d
-    go none p e k = absurd (never 11 i e)
-    go (some u) p e k =
-        test (good u) (λ g. step u p g (direct d u) refl (rw g at e) k) (λ g. absurd (never (own u) i (rw g at e)))
+    go none p e k = clash (cc)
+    go (some u) p e k = test (good u) (λ g. step u p g (direct d u) refl (rw g at e) k) (λ g. clash (cc (rw g at e)))
 
 -- ---- the octets of extended segments
 
-drop-octets : (n : ℕ) (xs : List ℕ) → Octets xs → Octets (drop n xs)
-drop-octets zero xs o = o
-drop-octets (suc n) [] o = o
-drop-octets (suc n) (x ∷ xs) o = drop-octets n xs (λ i. o (suc i))
-
-take-octets : (n : ℕ) (xs : List ℕ) → Octets xs → Octets (take n xs)
-take-octets zero xs o i = omega arith
-take-octets (suc n) [] o i = o i
-take-octets (suc n) (x ∷ xs) o zero = o 0
-take-octets (suc n) (x ∷ xs) o (suc i) = take-octets n xs (λ j. o (suc j)) i
+part-octets : (n k : ℕ) (xs : List ℕ) → Octets xs → Octets (take n (drop k xs))
+part-octets n k xs o =
+    front (take n (drop k xs)) (drop n (drop k xs)) (rw take-append-drop (back (take k xs) (drop k xs) (rw take-append-drop o)))
 
 unit-contents : (k c code : ℕ) (xs : List ℕ) → Octets xs → Contents (unitOf k c code xs)
 unfolding unitOf
@@ -128,23 +115,17 @@ unit-contents k c code xs o =
 
 read-contents : (o : List ℕ) (r : UnitRecord) (u : TextUnit) → Octets o → unitRead o r ≡ some u → Contents u
 unfolding unitRead
-read-contents o r u h e = go (readable o r) e
-  where
-    xs : List ℕ
-    xs = take (r .length) (drop (r .start) o)
-
-    go : (b : Bool) → cond b (some (unitOf (r .kind) (r .set) (r .code) xs)) none ≡ some u → Contents u
-    go true e =
-        subst Contents (Option·some-injective (unitOf (r .kind) (r .set) (r .code) xs) u e)
-        (unit-contents (r .kind) (r .set) (r .code) xs (take-octets (r .length) (drop (r .start) o) (drop-octets (r .start) o h)))
-    go false e = absurd (Option·none-ne-some u e)
+read-contents o r u h e =
+    test (readable o r)
+    (λ t. subst Contents (Option·some-injective _ _ (rw t at e)) (unit-contents (r .kind) (r .set) (r .code) _ (part-octets (r .length) (r .start) o h)))
+    (λ t. clash (cc (rw t at e)))
 
 pub list-contents : (o : List ℕ) (rs : List UnitRecord) (us : List TextUnit) → Octets o → listReading o rs ≡ some us → Every Contents us
 unfolding listReading
-list-contents o [] us h e = subst (Every Contents) (Option·some-injective [] us e) tt
+list-contents o [] us h e = subst (Every Contents) (Option·some-injective _ _ e) tt
 list-contents o (r ∷ rs) us h e =
     let w = first-read o r rs us e in
-    subst (Every Contents) (w .whole) (read-contents o r (w .unit) h (w .first), list-contents o rs (w .rest) h (w .others))
+    rw (w .whole) (read-contents o r (w .unit) h (w .first), list-contents o rs (w .rest) h (w .others))
 
 -- ---- the theorems
 
@@ -153,9 +134,8 @@ pub list-grammatical : (o : List ℕ) (rs : List UnitRecord) (us : List TextUnit
     → Grammatical (shortestOf us) us
 list-grammatical o rs us h c e =
     let f = fine-units o rs 0 undirected c in
-    let s : f .units ≡ us = Option·some-injective (f .units) us (sym (f .reading) ∙ e) in
-    writing-grammatical us (subst Good s (f .good-ones)) (list-contents o rs us h e)
-    (direction-rule us .0 (subst (λ (w : List TextUnit). directed w undirected ≡ true) s (f .rule)))
+    let s : f .units ≡ us = cc (f .reading) in
+    writing-grammatical us (rw s at (f .good-ones)) (list-contents o rs us h e) (direction-rule us .0 (rw s at (f .rule)))
 
 -- and is accepted, where it is not over the limit
 pub list-written : (o : List ℕ) (rs : List UnitRecord) (us : List TextUnit) → Octets o → checkRecords o rs 0 undirected ≡ fine → listReading o rs ≡ some us

@@ -1,9 +1,9 @@
 -- Rules of all fifteen sets, each by one computed test that is carried to each set (`up-to`).
 use Prim.Native.Nat.{ℕ, _<_}
-use mathlib.Core.Path.{_≡_, refl, ap}
-use mathlib.Core.Bool.{true, false, _||_, not}
+use mathlib.Core.Path.{_≡_, refl}
+use mathlib.Core.Bool.{true, false, _||_, _&&_, not}
 use lib.Dec.{eqb}
-use Rattle.base.proofs.Bools.{implies, implies-elim, up-to}
+use Rattle.base.proofs.Bools.{up-to, up-to-where}
 use Rattle.charset.specs.declared.Side.the-variants.{GL, GR}
 use Rattle.charset.specs.Charsets.{no-set, mayUse, allowed, formOf}
 use Rattle.charset.proofs.Laws.{allowed-below}
@@ -13,10 +13,7 @@ use Rattle.grammar.specs.Units.{wide}
 pub space-sets : (c : ℕ) → allowed GL c ≡ true → wide c ≡ false → (eqb c 0 || eqb c 2) ≡ true
 unfolding allowed mayUse wide formOf
 space-sets c a w =
-    implies-elim (not (wide c)) (eqb c 0 || eqb c 2)
-    (implies-elim (allowed GL c) (implies (not (wide c)) (eqb c 0 || eqb c 2))
-    (up-to no-set (λ m. implies (allowed GL m) (implies (not (wide m)) (eqb m 0 || eqb m 2))) refl c (allowed-below GL c a)) a)
-    (ap not w)
+    up-to-where no-set (λ m. allowed GL m && not (wide m)) (λ m. eqb m 0 || eqb m 2) refl c (allowed-below GL c a) (rw (a, w))
 
 -- each of the fifteen may stand somewhere
 pub some-side : (c : ℕ) → c < no-set → (allowed GL c || allowed GR c) ≡ true

@@ -1,18 +1,14 @@
 -- The writing of good units that keep the direction rule is accepted and reads as them (`writing-read`), no accepted string of that
 -- reading is shorter than its cost (`no-shorter`), and demand 3 holds of the answer and the output over units (`demand3`).
-use Prim.Native.Nat.{ℕ, _+_, _≤_}
+use Prim.Native.Nat.{ℕ, _≤_}
 use native.Mathlib.Omega.{arith}
-use mathlib.Core.Path.{_≡_, refl, sym, ap, _∙_, subst}
-use mathlib.Core.Bool.{Bool, true, false, cond}
+use mathlib.Core.Path.{refl, sym, ap, _∙_, subst}
 use mathlib.Core.List.{List, _++_}
 use lib.ListN.{length, take, drop, length-append}
 use lib.Seq.{take-append-seam}
-use lib.Dec.{ltb, eqb}
-use borrow.Author.Tests.{ltb-true, ltb-false}
-use Rattle.base.specs.Answers.{answer, refusedAt}
+use lib.Dec.{ltb}
 use Rattle.base.specs.Limit as limit
-use Rattle.base.specs.Refusal as refusal
-use Rattle.base.specs.declared.Answer.{Answer}
+use Rattle.base.proofs.Bools.{clash, test, tested}
 use Rattle.state.specs.State.{fresh}
 use Rattle.state.specs.declared.Sets.{Sets}
 use Rattle.grammar.specs.Units.{TextUnit, octets, designation}
@@ -85,7 +81,21 @@ shortest us t₀ r =
 -- demand 3 over the units of a reading
 pub demand3 : (us : List TextUnit) (t₀ out : List ℕ) → ReadAs t₀ us → Demand3 us out (writeAnswer us (length out)) (outputAfter us out)
 unfolding writeAnswer outputAfter
-demand3 us t₀ out r = go (ltb limit.octets n) (ltb (length out) n) refl refl
+demand3 us t₀ out r =
+    test (ltb limit.octets n) (λ e. absurd (omega (tested, no-shorter-accepted a, a .short)))
+    (λ e. test (ltb (length out) n)
+    (λ l. rw (e, l) (record {
+      room = (λ e t b. omega (tested, best .least t b), λ h. refl);
+      two = λ m. absurd (m refl);
+      gives = λ e. clash (cc);
+      needs = λ e. (w, best);
+    }))
+    (λ l. rw (e, l) (record {
+      room = (λ e. clash (cc), λ h. absurd (omega (tested, h w (best .accepted), best .count)));
+      two = λ m. refl;
+      gives = λ e. subst (Least us n) (sym (ap (λ (m : ℕ). take m (w ++ drop n out)) (sym (best .count)) ∙ take-append-seam w (drop n out))) best;
+      needs = λ e. clash (cc);
+    })))
   where
     n : ℕ
     n = shortestCount us
@@ -98,26 +108,3 @@ demand3 us t₀ out r = go (ltb limit.octets n) (ltb (length out) n) refl refl
 
     a : Accepted t₀ us
     a = accepted r
-
-    result : Bool → Bool → Answer
-    result x y = cond x (refusedAt refusal.too-long 0) (cond y (answer refusal.no-room 0 n) (answer refusal.accepted (length us) n))
-
-    go : (x y : Bool) → ltb limit.octets n ≡ x → ltb (length out) n ≡ y
-        → Demand3 us out (result x y) (cond (eqb (result x y .number) refusal.accepted) (w ++ drop n out) out)
-    go true y ex ey = absurd (let l = ltb-true limit.octets n ex in omega (arith, no-shorter-accepted a, a .short))
-    go false true ex ey =
-        let l = ltb-true (length out) n ey in
-        record {
-          room = (λ e t b. omega (arith, best .least t b), λ h. refl);
-          two = λ m. absurd (m refl);
-          gives = λ e. absurd (let z : _≡_ {A = ℕ} 10 0 = e in omega arith);
-          needs = λ e. (w, best);
-        }
-    go false false ex ey =
-        let l = ltb-false (length out) n ey in
-        record {
-          room = (λ e. absurd (let z : _≡_ {A = ℕ} 0 10 = e in omega arith), λ h. absurd (omega (arith, h w (best .accepted), best .count)));
-          two = λ m. refl;
-          gives = λ e. subst (Least us n) (sym (ap (λ (m : ℕ). take m (w ++ drop n out)) (sym (best .count)) ∙ take-append-seam w (drop n out))) best;
-          needs = λ e. absurd (let z : _≡_ {A = ℕ} 0 10 = e in omega arith);
-        }

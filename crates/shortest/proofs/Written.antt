@@ -3,21 +3,20 @@
 use Prim.Native.Nat.{ℕ, zero, suc, _+_, _/_, _%_, _≤_, _<_}
 use native.Mathlib.Omega.{arith}
 use mathlib.Core.Path.{_≡_, refl}
-use mathlib.Core.Bool.{Bool, true, false, _&&_}
+use mathlib.Core.Bool.{Bool, true, _&&_}
 use mathlib.Core.List.{List, [], _∷_, _++_}
 use mathlib.Core.Option.{Option, none, some}
 use lib.Dec.{eqb, ltb}
 use lib.ListN.{length}
-use borrow.Author.Tests.{ltb-true}
-use Rattle.base.proofs.Bools.{and-left, and-right}
+use Rattle.base.proofs.Bools.{test, and-right, from-tests}
 use Rattle.charset.specs.declared.Side.{Side}
 use Rattle.charset.specs.declared.Side.the-variants.{GL, GR}
-use Rattle.charset.specs.Charsets.{no-set, form-94x94, formOf}
+use Rattle.charset.specs.Charsets.{form-94x94, formOf}
 use Rattle.charset.proofs.Laws.{row-past, by-rows}
 use Rattle.state.specs.State.{Standing, on}
 use Rattle.state.specs.declared.Sets.{Sets}
 use Rattle.grammar.specs.Units.{TextUnit, char, space, control, tab, newline, ltr, rtl, revert, ext}
-use Rattle.grammar.specs.Units.{wide, top, shown, octets, designation, codeUsed, good}
+use Rattle.grammar.specs.Units.{wide, top, octets, designation, codeUsed, good}
 use Rattle.grammar.specs.Grammar.{Reads, done, designate, show}
 use Rattle.grammar.specs.Reading.{Octets}
 use Rattle.grammar.proofs.Good.{one-code, two-code, good-segment}
@@ -43,7 +42,7 @@ computed xs e = small xs (go xs e)
   where
     go : (xs : List ℕ) → below xs ≡ true → Small xs
     go [] e = tt
-    go (x ∷ xs) e = (ltb-true x 256 (and-left (ltb x 256) (below xs) e), go xs (and-right (ltb x 256) (below xs) e))
+    go (x ∷ xs) e = (search from-tests, go xs (and-right (ltb x 256) _ e))
 
 join : (xs ys : List ℕ) → Octets xs → Octets ys → Octets (xs ++ ys)
 join [] ys a b i = b i
@@ -70,18 +69,16 @@ topped GR k h = omega arith
 
 char-octets : (d : Side) (c k : ℕ) → codeUsed (formOf c) k ≡ true → Octets (octets d (char c k))
 unfolding octets wide
-char-octets d c k u = go (eqb (formOf c) form-94x94) refl
-  where
-    go : (x : Bool) → eqb (formOf c) form-94x94 ≡ x → Octets (shown x (top d) k)
-    go true e =
-        let b = two-code (formOf c) k e u in
-        small ((top d + k / 256) ∷ (top d + k % 256) ∷ []) (topped d (k / 256) (b .0), (topped d (k % 256) (b .1), tt))
-    go false e = small ((top d + k) ∷ []) (topped d k (one-code (formOf c) k e u), tt)
+char-octets d c k u =
+    test (eqb (formOf c) form-94x94)
+    (λ e. let b = two-code (formOf c) k e u in
+    rw e (small ((top d + k / 256) ∷ (top d + k % 256) ∷ []) (topped d (k / 256) (b .0), (topped d (k % 256) (b .1), tt))))
+    (λ e. rw e (small ((top d + k) ∷ []) (topped d k (one-code (formOf c) k e u), tt)))
 
 -- the octets of an extended segment are octets
 unit-octets : (u : TextUnit) (d : Side) → good u ≡ true → Contents u → Octets (octets d u)
 unfolding octets good
-unit-octets (char c k) d g o = char-octets d c k (and-right (ltb c no-set) (codeUsed (formOf c) k) g)
+unit-octets (char c k) d g o = char-octets d c k (search from-tests)
 unit-octets space d g o = computed (0x20 ∷ []) refl
 unit-octets (control tab) d g o = computed (0x09 ∷ []) refl
 unit-octets (control newline) d g o = computed (0x0A ∷ []) refl
@@ -90,12 +87,8 @@ unit-octets (control rtl) d g o = computed (0x9B ∷ 0x32 ∷ 0x5D ∷ []) refl
 unit-octets (control revert) d g o = computed (0x9B ∷ 0x5D ∷ []) refl
 unit-octets (ext e xs) d g o =
     let h = good-segment e xs g in
-    let a = h .high in
-    let b = h .few in
     join (0x1B ∷ 0x25 ∷ 0x2F ∷ e ∷ (128 + length xs / 128) ∷ (128 + length xs % 128) ∷ []) xs
-    (small (0x1B ∷ 0x25 ∷ 0x2F ∷ e ∷ (128 + length xs / 128) ∷ (128 + length xs % 128) ∷ [])
-    (omega arith, (omega arith, (omega arith, (omega arith, (omega arith, (omega arith, tt)))))))
-    o
+    (small (0x1B ∷ 0x25 ∷ 0x2F ∷ e ∷ (128 + length xs / 128) ∷ (128 + length xs % 128) ∷ []) (omega (arith, h .high, h .few))) o
 
 -- the extended segments of a string of octets hold octets
 unit-contents : (u : TextUnit) (d : Side) → Octets (octets d u) → Contents u

@@ -5,15 +5,13 @@ use borrow.Author.Needs.{needs}
 use Rattle.check_list.proofs.quick_until.Statement.{statement}
 use Rattle.check_list.proofs.quick_until.Tie as tie
 
-returns : tie.Need-returns
-returns c = until-settled _ _ _ _ (c .before .before .before .progress .given .1) (sym (c .before .settled .ensures) ∙ c .if1 .taken)
-
-returns-2 : tie.Need-returns-2
-returns-2 c = until-unsettled _ _ _ _ (c .before .before .before .progress .given .1) (sym (c .before .settled .ensures) ∙ c .if1 .left)
-
-returns-3 : tie.Need-returns-3
-returns-3 c = until-faulty _ _ _ _ _ (c .enum-told .given .1)
-
 pub quick-until-spec : {M : Type 1} → statement M
 quick-until-spec =
-    tie.close (tie.spec (search needs) (search needs) returns (search needs) returns-2 returns-3)
+    tie.close
+    (tie.spec
+    (search needs)
+    (search needs)
+    (λ c. until-settled _ _ _ _ (c .before .before .before .progress .given .1) (sym (c .before .settled .ensures) ∙ c .if1 .taken))
+    (search needs)
+    (λ c. until-unsettled _ _ _ _ (c .before .before .before .progress .given .1) (sym (c .before .settled .ensures) ∙ c .if1 .left))
+    (λ c. until-faulty _ _ _ _ _ (c .enum-told .given .1)))

@@ -5,25 +5,6 @@ use borrow.Author.Needs.{needs}
 use Rattle.check_list.proofs.turn.Statement.{statement}
 use Rattle.check_list.proofs.turn.Tie as tie
 
-put-requires : tie.Need-put-requires
-put-requires c κs = stowable _ _ _ _ (sym (c .before .before .before .before .judge .ensures) ∙ c .before .before .step .given .1)
-
-returns : tie.Need-returns
-returns c =
-    let args = c .before .before .before .before .before .before .before .before .before .before .before .before .before .args in
-    let fine = c .before .before .before .before .before .before .before .before .before .progress .given .1 in
-    let goes = sym (c .before .before .before .before .before .before .before .judge .ensures) ∙ c .before .before .before .before .before .step .given .1 in
-    let t = turn-goes (args .segments .now) (args .unit) (args .i) (args .progress) (args .work .now) _ _ fine goes in
-    (t .0, c .before .before .put .ensures ∙ t .1)
-
-returns-2 : tie.Need-returns-2
-returns-2 c =
-    turn-stops _ _ _ _ _ _ _ (c .before .before .before .before .before .progress .given .1)
-    (sym (c .before .before .before .judge .ensures) ∙ c .before .step2 .given .1)
-
-returns-3 : tie.Need-returns-3
-returns-3 c = turn-faulty _ _ _ _ _ _ _ (c .before .progress2 .given .1)
-
 pub turn-spec : {M : Type 1} → statement M
 turn-spec =
     tie.close
@@ -31,10 +12,15 @@ turn-spec =
     (search needs)
     (search needs)
     (search needs)
-    put-requires
+    (λ c κs. stowable _ _ _ _ (sym (c .before .before .before .before .judge .ensures) ∙ c .before .before .step .given .1))
     (search needs)
     (search needs)
     (search needs)
-    returns
-    returns-2
-    returns-3)
+    (λ c. let args = c .before .before .before .before .before .before .before .before .before .before .before .before .before .args in
+    let fine = c .before .before .before .before .before .before .before .before .before .progress .given .1 in
+    let goes = sym (c .before .before .before .before .before .before .before .judge .ensures) ∙ c .before .before .before .before .before .step .given .1 in
+    let t = turn-goes (args .segments .now) (args .unit) (args .i) (args .progress) (args .work .now) _ _ fine goes in
+    (t .0, c .before .before .put .ensures ∙ t .1))
+    (λ c. turn-stops _ _ _ _ _ _ _ (c .before .before .before .before .before .progress .given .1)
+    (sym (c .before .before .before .judge .ensures) ∙ c .before .step2 .given .1))
+    (λ c. turn-faulty _ _ _ _ _ _ _ (c .before .progress2 .given .1)))

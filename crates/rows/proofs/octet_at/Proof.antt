@@ -7,11 +7,13 @@ use borrow.Author.Needs.{needs}
 use Rattle.rows.proofs.octet_at.Statement.{statement}
 use Rattle.rows.proofs.octet_at.Tie as tie
 
-returns-2 : tie.Need-returns-2
-returns-2 c = let args = c .before .before .args in sym (List·getD-eq-default (args .work .now) 0 {n = args .row + args .place} (omega arith))
-
-returns-3 : tie.Need-returns-3
-returns-3 c = let args = c .before .args in sym (List·getD-eq-default (args .work .now) 0 {n = args .row + args .place} (omega arith))
-
 pub octet-at-spec : {M : Type 1} → statement M
-octet-at-spec = tie.close (tie.spec (search needs) (search needs) (search needs) (λ c. search needs) returns-2 returns-3)
+octet-at-spec =
+    tie.close
+    (tie.spec
+    (search needs)
+    (search needs)
+    (search needs)
+    (λ c. search needs)
+    (λ c. let args = c .before .before .args in sym (List·getD-eq-default (args .work .now) 0 {n = args .row + args .place} (omega arith)))
+    (λ c. let args = c .before .args in sym (List·getD-eq-default (args .work .now) 0 {n = args .row + args .place} (omega arith))))

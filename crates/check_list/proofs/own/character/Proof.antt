@@ -11,24 +11,6 @@ use borrow.Author.Needs.{needs}
 use Rattle.check_list.proofs.own.character.Statement.{statement}
 use Rattle.check_list.proofs.own.character.Tie as tie
 
-returns : tie.Need-returns
-returns c =
-    let args = c .before .before .before .before .before .before .args in
-    let form = ap (λ (f : ℕ). codeUsed f (args .code)) (sym (c .before .before .before .before .form-of .ensures)) in
-    let used : codeUsed (formOf (args .set)) (args .code) ≡ true = form ∙ sym (c .before .before .before .code-used .ensures) ∙ c .before .before .if2 .taken in
-    let text = ap (λ (t : Bool). stepOf t kind.character (args .directions)) (c .before .counts-as-text .ensures) in
-    c .step .ensures ∙ text ∙ code-fits (args .set) (args .code) (args .directions) (c .before .before .before .before .before .if1 .taken) used
-
-returns-2 : tie.Need-returns-2
-returns-2 c =
-    let args = c .before .before .before .before .args in
-    let form = ap (λ (f : ℕ). codeUsed f (args .code)) (sym (c .before .before .form-of .ensures)) in
-    let used : codeUsed (formOf (args .set)) (args .code) ≡ false = form ∙ sym (c .before .code-used .ensures) ∙ c .if2 .left in
-    code-unused (args .set) (args .code) (args .directions) (c .before .before .before .if1 .taken) used
-
-returns-3 : tie.Need-returns-3
-returns-3 c = set-none _ _ _ (c .if1 .left)
-
 pub character-spec : {M : Type 1} → statement M
 character-spec =
     tie.close
@@ -37,6 +19,13 @@ character-spec =
     (search needs)
     (search needs)
     (search needs)
-    returns
-    returns-2
-    returns-3)
+    (λ c. let args = c .before .before .before .before .before .before .args in
+    let form = ap (λ (f : ℕ). codeUsed f (args .code)) (sym (c .before .before .before .before .form-of .ensures)) in
+    let used : codeUsed (formOf (args .set)) (args .code) ≡ true = form ∙ sym (c .before .before .before .code-used .ensures) ∙ c .before .before .if2 .taken in
+    let text = ap (λ (t : Bool). stepOf t kind.character (args .directions)) (c .before .counts-as-text .ensures) in
+    c .step .ensures ∙ text ∙ code-fits (args .set) (args .code) (args .directions) (c .before .before .before .before .before .if1 .taken) used)
+    (λ c. let args = c .before .before .before .before .args in
+    let form = ap (λ (f : ℕ). codeUsed f (args .code)) (sym (c .before .before .form-of .ensures)) in
+    let used : codeUsed (formOf (args .set)) (args .code) ≡ false = form ∙ sym (c .before .code-used .ensures) ∙ c .if2 .left in
+    code-unused (args .set) (args .code) (args .directions) (c .before .before .before .if1 .taken) used)
+    (λ c. search set-none))

@@ -1,40 +1,22 @@
 -- `check_list::own::code_used` meets its contract, form by form.
 use mathlib.Core.Path.{sym, _∙_}
-use borrow.Author.Tests.{eq-eqb, ne-eqb, lt-leb, le-leb}
+use borrow.Author.Tests.{eq-eqb, ne-eqb}
+use Rattle.base.proofs.Bools.{to-tests}
 use Rattle.grammar.specs.Units.{codeUsed}
 use borrow.Author.Needs.{needs}
 use Rattle.check_list.proofs.own.code_used.Statement.{statement}
 use Rattle.check_list.proofs.own.code_used.Tie as tie
 
-returns : tie.Need-returns
-unfolding codeUsed
-returns c = simp (eq-eqb _ _ (c .before .before .before .if1 .taken), sym (c .before .before .graphic .ensures) ∙ c .before .if2 .taken) (c .graphic2 .ensures)
-
-returns-2 : tie.Need-returns-2
-unfolding codeUsed
-returns-2 c = simp (eq-eqb _ _ (c .before .before .if1 .taken), sym (c .before .graphic .ensures) ∙ c .if2 .left)
-
-returns-3 : tie.Need-returns-3
-unfolding codeUsed
-returns-3 c = simp (ne-eqb _ _ (c .before .before .if1 .left), eq-eqb _ _ (c .before .if3 .taken), lt-leb _ _ (c .if4 .taken))
-
-returns-4 : tie.Need-returns-4
-unfolding codeUsed
-returns-4 c = simp (ne-eqb _ _ (c .before .before .if1 .left), eq-eqb _ _ (c .before .if3 .taken), le-leb _ _ (c .if4 .left))
-
-returns-5 : tie.Need-returns-5
-unfolding codeUsed
-returns-5 c = simp (ne-eqb _ _ (c .before .before .if1 .left), ne-eqb _ _ (c .before .if3 .left)) (c .graphic3 .ensures)
-
 pub code-used-spec : {M : Type 1} → statement M
+unfolding codeUsed
 code-used-spec =
     tie.close
     (tie.spec
     (search needs)
     (search needs)
-    returns
-    returns-2
-    returns-3
-    returns-4
+    (λ c. simp (eq-eqb _ _ (c .before .before .before .if1 .taken), sym (c .before .before .graphic .ensures) ∙ c .before .if2 .taken) (c .graphic2 .ensures))
+    (λ c. simp (eq-eqb _ _ (c .before .before .if1 .taken), sym (c .before .graphic .ensures) ∙ c .if2 .left))
+    (λ c. search to-tests)
+    (λ c. search to-tests)
     (search needs)
-    returns-5)
+    (λ c. simp (ne-eqb _ _ (c .before .before .if1 .left), ne-eqb _ _ (c .before .if3 .left)) (c .graphic3 .ensures)))

@@ -7,60 +7,15 @@ use borrow.Author.Needs.{needs}
 use Rattle.check_list.proofs.own.segment.Statement.{statement}
 use Rattle.check_list.proofs.own.segment.Tie as tie
 
-returns : tie.Need-returns
-returns c =
-    let args = c .before .before .args in
-    part-outside (args .segments .now) (args .d) (args .start) (args .n) (args .directions) (omega (arith, c .if1 .taken))
-
-returns-2 : tie.Need-returns-2
-returns-2 c =
-    let args = c .before .before .before .args in
-    part-outside (args .segments .now) (args .d) (args .start) (args .n) (args .directions) (omega (arith, c .before .if1 .left, c .if2 .taken))
-
-returns-3 : tie.Need-returns-3
-returns-3 c =
-    let args = c .before .before .before .before .args in
-    part-low (args .segments .now) (args .d) (args .start) (args .n) (args .directions) (c .before .before .if1 .left) (c .before .if2 .left) (c .if3 .taken)
-
-returns-4 : tie.Need-returns-4
-returns-4 c =
-    let args = c .before .before .before .before .before .args in
-    part-high (args .segments .now) (args .d) (args .start) (args .n) (args .directions) (c .before .before .before .if1 .left) (c .before .before .if2 .left)
-    (c .before .if3 .left) (c .if4 .taken)
-
-returns-5 : tie.Need-returns-5
-returns-5 c =
-    let args = c .before .before .before .before .before .before .args in
-    part-many (args .segments .now) (args .d) (args .start) (args .n) (args .directions) (c .before .before .before .before .if1 .left)
-    (c .before .before .before .if2 .left) (c .before .before .if3 .left) (c .before .if4 .left) (c .if5 .taken)
-
-returns-6 : tie.Need-returns-6
-returns-6 c =
-    let few = c .before .before .before .before in
-    let args = few .before .before .before .before .before .before .args in
-    part-bad (args .segments .now) (args .d) (args .start) (args .n) (args .directions) (few .before .before .before .before .if1 .left)
-    (few .before .before .before .if2 .left) (few .before .before .if3 .left) (few .before .if4 .left) (few .if5 .left)
-    (c .before .content .result) _ (c .before .before .name-end .ensures) (c .before .content .ensures)
-    (λ p q. ⊎-elim (λ z. omega (arith, z)) (⊎-elim (λ z. omega (arith, z)) (λ z. omega (arith, z))) (rw q at (c .match .keys2)))
-
-returns-7 : tie.Need-returns-7
-returns-7 c =
-    let few = c .before .before .before .before .before .before .before in
-    let args = few .before .before .before .before .before .before .args in
-    c .step .ensures
-    ∙ part-found (args .segments .now) (args .d) (args .start) (args .n) (args .directions) (few .before .before .before .before .if1 .left)
-    (few .before .before .before .if2 .left) (few .before .before .if3 .left) (few .before .if4 .left) (few .if5 .left)
-    _ _ (c .before .before .before .before .before .name-end .ensures) (c .before .before .before .before .content .ensures) _ (c .before .before .shape .given .1)
-
 pub segment-spec : {M : Type 1} → statement M
 segment-spec =
     tie.close
     (tie.spec
-    returns
-    returns-2
-    returns-3
-    returns-4
-    returns-5
+    (λ c. part-outside (c .before .before .args .segments .now) _ _ _ _ (omega (arith, c .if1 .taken)))
+    (λ c. part-outside (c .before .before .before .args .segments .now) _ _ _ _ (omega (arith, c .before .if1 .left, c .if2 .taken)))
+    (λ c. search part-low)
+    (λ c. search part-high)
+    (λ c. search part-many)
     (search needs)
     (search needs)
     (search needs)
@@ -69,6 +24,10 @@ segment-spec =
     (search needs)
     (search needs)
     (search needs)
-    returns-6
+    (λ c. let few = c .before .before .before .before in
+    part-bad (few .before .before .before .before .before .before .args .segments .now) _ _ _ _ (few .before .before .before .before .if1 .left)
+    (few .before .before .before .if2 .left) (few .before .before .if3 .left) (few .before .if4 .left) (few .if5 .left)
+    (c .before .content .result) _ (c .before .before .name-end .ensures) (c .before .content .ensures)
+    (λ p q. ⊎-elim (λ z. omega (arith, z)) (⊎-elim (λ z. omega (arith, z)) (λ z. omega (arith, z))) (rw q at (c .match .keys2))))
     (search needs)
-    returns-7)
+    (λ c. c .step .ensures ∙ search part-found))

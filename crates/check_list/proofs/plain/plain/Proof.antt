@@ -5,10 +5,13 @@ use borrow.Author.Needs.{needs}
 use Rattle.check_list.proofs.plain.plain.Statement.{statement}
 use Rattle.check_list.proofs.plain.plain.Tie as tie
 
-returns : tie.Need-returns
-unfolding plainOf
-returns c = rw (← c .before .code-by .ensures, ← c .before .before .set-by .ensures) (search ladder depth 9)
-
 pub plain-spec : {M : Type 1} → statement M
 unfolding plainOf
-plain-spec = tie.close (tie.spec (search needs) (search needs) (search needs) returns (λ c. search ladder depth 9))
+plain-spec =
+    tie.close
+    (tie.spec
+    (search needs)
+    (search needs)
+    (search needs)
+    (λ c. rw (← c .before .code-by .ensures, ← c .before .before .set-by .ensures) (search ladder depth 9))
+    (λ c. search ladder depth 9))

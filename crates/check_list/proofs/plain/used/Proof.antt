@@ -6,23 +6,12 @@ use borrow.Author.Needs.{needs}
 use Rattle.check_list.proofs.plain.used.Statement.{statement}
 use Rattle.check_list.proofs.plain.used.Tie as tie
 
-returns : tie.Need-returns
-unfolding usedBy
-returns c = on-gt 0x10000 (c .before .args .code) _ _ _ (omega (arith, c .before .fits .code)) (search ladder depth 9)
-
-returns-2 : tie.Need-returns-2
-unfolding usedBy
-returns-2 c = on-gt 0x10000 (c .before .before .args .code) _ _ _ (omega (arith, c .before .before .fits .code)) (search ladder depth 9)
-
-returns-3 : tie.Need-returns-3
-unfolding usedBy
-returns-3 c = on-gt 0x10000 (c .before .before .args .code) _ _ _ (omega (arith, c .before .before .fits .code)) (search ladder depth 9)
-
 pub used-spec : {M : Type 1} → statement M
+unfolding usedBy
 used-spec =
     tie.close
     (tie.spec
-    returns
+    (λ c. on-gt 0x10000 (c .before .args .code) _ _ _ (omega (arith, c .before .fits .code)) (search ladder depth 9))
     (search needs)
     (search needs)
     (search needs)
@@ -30,9 +19,9 @@ used-spec =
     (search needs)
     (search needs)
     (search needs)
-    returns-2
+    (λ c. on-gt 0x10000 (c .before .before .args .code) _ _ _ (omega (arith, c .before .before .fits .code)) (search ladder depth 9))
     (search needs)
     (search needs)
     (search needs)
     (search needs)
-    returns-3)
+    (λ c. on-gt 0x10000 (c .before .before .args .code) _ _ _ (omega (arith, c .before .before .fits .code)) (search ladder depth 9)))
