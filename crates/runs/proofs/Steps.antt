@@ -16,7 +16,6 @@ use Rattle.base.proofs.Ladder.{on-eq, on-ne}
 use Rattle.charset.specs.Charsets.{no-set, allowed}
 use Rattle.charset.specs.declared.Side.the-variants.{GL, GR}
 use Rattle.element.proofs.Sizes.{Fit, silent, found}
-use Rattle.grammar.specs.Grammar.{Legal}
 use Rattle.grammar.specs.Reading.{Octets}
 use Rattle.grammar.proofs.Places.{ahead, at-end, at-refused, at-passed, step-passed}
 use Rattle.reader.specs.Step.{mayStand}
@@ -205,9 +204,6 @@ plain-first s place state e =
     let m = may-fit (length s) place state e in
     record { within = m .0; head = head-first s place state; fit = m .1 }
 
-legal-of : {st : State} → Fit st → Legal (st .sets)
-legal-of f = record { left = f .left; right = f .right }
-
 -- a piece that is no run
 other-first : (n : ℕ) (there : ℕ → State) (none : RunStep) (p : Piece) (ps : List Piece) → isRun (p .kind) ≡ false
     → firstOf n there none (joined p ps) ≡ firstOf n there none ps
@@ -294,13 +290,13 @@ module _ (s : List ℕ) (place : ℕ) (state : State) (k : ℕ) (st : State) (a 
         → Grown s place state k st a i
     grow-ones c spans.none g = g
     grow-ones c (spans.more {i} x h l m) g =
-        grow i 1 (omega arith) (single-piece s o st (legal-of fit) i settled k _ _ low c h l m) (grow-ones c x g)
+        grow i 1 (omega arith) (single-piece s st i settled k _ _ low c h l m) (grow-ones c x g)
 
     grow-twos : {first last at i : ℕ} → Double (st .sets) k first last → Twos s first last at i → Grown s place state k st a at
         → Grown s place state k st a i
     grow-twos c spans.none g = g
     grow-twos c (spans.more {i} x h) g =
-        grow i 2 (omega arith) (double-piece s o st (legal-of fit) i settled k _ _ low c h) (grow-twos c x g)
+        grow i 2 (omega arith) (double-piece s st i settled k _ _ low c h) (grow-twos c x g)
 
     grow-text : {at i : ℕ} → TextTo s (st .sets) k at i → Grown s place state k st a at → Grown s place state k st a i
     grow-text (singly c x) g = grow-ones c (x .are) g
@@ -317,9 +313,9 @@ module _ (s : List ℕ) (place : ℕ) (state : State) (k : ℕ) (st : State) (a 
     ends-text : {at i : ℕ} → TextTo s (st .sets) k at i → pieceAt s i st .kind ≡ k → ⊥
     ends-text {i = i} (singly c x) e =
         let h = inside i e in
-        let z = single-ends s o st (legal-of fit) i k _ _ low c h e in
+        let z = single-ends s st i o k _ _ low c h e in
         x .stop h (z .0) (z .1)
-    ends-text {i = i} (doubly c x) e = x .stop (double-ends s o st (legal-of fit) i k _ _ low c (inside i e) e)
+    ends-text {i = i} (doubly c x) e = x .stop (double-ends s st i o k _ _ low c (inside i e) e)
 
     ending-one : (j : ℕ) → (j ≡ k → ⊥) → 1 ≡ endingOf k j
     ending-one j n = by (followed k j)
@@ -407,7 +403,7 @@ module _ (s : List ℕ) (place : ℕ) (state : State) (at : ℕ) (st : State) (p
           let n = next-piece s place state at st p q is (λ z. omega (arith, y .more, z)) in
           let fit : Fit (q .state) = rw is (fit-piece s at st (elementAt s at st) refl (p .fit)) in
           let settled : settledOf (q .state .directions) ≡ true = rw is
-          (text-settled s o st (legal-of (p .fit)) at inside (lt-ltb (pieceAt s at st .kind) 2 (rw is at low))) in
+          (text-settled s st at inside (lt-ltb (pieceAt s at st .kind) 2 (rw is at low))) in
           let z = since-text x in
           turn-text s place state (q .kind) (q .state) (q .start) low o fit settled u run r (grown (n .head)) x (omega (arith, y .starts, y .more, z)) e f g
 
