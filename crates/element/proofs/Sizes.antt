@@ -73,12 +73,14 @@ module _ {n low : ℕ} where
   where-true false h k = k
 
   -- of the next octet
-  onward : (t : List ℕ) (f : ℕ → List ℕ → Shape) → ((b : ℕ) (u : List ℕ) → length t ≡ suc (length u) → Shaped n low (f b u)) → Shaped n low (next t f)
+  onward : (t : List ℕ) (f : ℕ → List ℕ → Shape) → ((b : ℕ) (u : List ℕ) → length t ≡ suc (length u) → Shaped n low (f b u))
+      → Shaped n low (next t f)
   unfolding next
   onward [] f h = no
   onward (b ∷ u) f h = h b u refl
 
-  unit : (k set code octets : ℕ) (x : Bool) → low ≤ k → Meant k set code → 1 ≤ octets → octets ≤ n → Shaped n low (Gives (part k set code 0 octets x))
+  unit : (k set code octets : ℕ) (x : Bool) → low ≤ k → Meant k set code → 1 ≤ octets → octets ≤ n
+      → Shaped n low (Gives (part k set code 0 octets x))
   unit k set code octets x l f h g = gives {p = part k set code 0 octets x} (omega arith) (omega arith) l f
 
   second : low ≤ 0 → (set b : ℕ) (t : List ℕ) → 1 + length t ≤ n → Shaped n low (secondOctetOf set b t)

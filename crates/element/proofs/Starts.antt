@@ -16,7 +16,7 @@ use Rattle.charset.specs.declared.Side.the-variants.{GL, GR}
 use Rattle.state.specs.State.{get}
 use Rattle.state.specs.declared.Sets.{Sets}
 use Rattle.state.specs.declared.elements.Shape.{Shape}
-use Rattle.text.specs.Text.{graphicOf, characterOf, textOf}
+use Rattle.text.specs.Text.{graphicOf}
 use Rattle.element.specs.Start.{Start, usedIn, characterStart, leftStart, startOf, startIn, begunBy}
 use Rattle.element.specs.Start as start
 

@@ -20,7 +20,8 @@ use Rattle.state.specs.Elements.{refused}
 use Rattle.state.specs.State.{get}
 use Rattle.state.specs.declared.Sets.{Sets}
 use Rattle.state.specs.declared.elements.Shape.{Shape}
-use Rattle.text.specs.Text.{graphicOf, characterOf, textOf}
+use Rattle.text.specs.Text.{graphicOf}
+use Rattle.text.specs.Functions.{characterOf, textOf}
 use Rattle.element.specs.Element.{shapeOf}
 use Rattle.element.specs.Start.{Start, one, two, unused, usedIn, characterStart, leftStart, startOf, begunBy}
 

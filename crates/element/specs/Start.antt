@@ -20,14 +20,8 @@ use Rattle.text.specs.Text.{graphicOf, oneOctetOf, secondOctetOf, spaceOf}
 
 -- the classes: `one` and `two` are a character of one octet and the first octet of one of two, of the set on a side
 pub data Start : Type 0 where
-  escape : Start
-  mark : Start
-  tab : Start
-  newline : Start
-  space : Start
-  one : Side → Start
-  two : Side → Start
-  unused : Start
+  escape mark tab newline space unused : Start
+  one two : Side → Start
 
 -- whether a set of a form uses an octet of its side: one of 96 uses all 96, any other all but the first and the last (rules E1b, E1c)
 unfoldable pub usedIn : ℕ → ℕ → Bool

@@ -67,7 +67,8 @@ module _ (s : Sets) where
   -- ---- characters
 
   -- the octets of a side; a GL octet is no 20 or 7F
-  on-top : (l : Legal s) (d : Side) (k : ℕ) → 0x20 ≤ k → k ≤ 0x7F → (eqb (formOf (get d s)) 2 ≡ false → (0x21 ≤ k) × (k ≤ 0x7E)) → On d (top d + k)
+  on-top : (l : Legal s) (d : Side) (k : ℕ) → 0x20 ≤ k → k ≤ 0x7F → (eqb (formOf (get d s)) 2 ≡ false → (0x21 ≤ k) × (k ≤ 0x7E))
+      → On d (top d + k)
   on-top l GL k h j r = let g = r (left-form (s .gl) (l .left)) in (omega arith, omega arith)
   on-top l GR k h j r = omega arith
 

@@ -71,16 +71,21 @@ text-side d (ext e xs) t g h = absurd (omega arith)
 abbrev texted : Directions → Directions
 texted d = directions (d .depth) (d .levels) (d .marked) true
 
-written-by : (a b : Bool) (d next : Directions) → pick a (pick b (Stops refusal.direction) (Goes (texted d))) (Goes (texted d)) ≡ Goes next
-    → inForceOf next ≡ inForceOf d
-unfolding pick inForceOf
-written-by true true d next e = let z : _≡_ {A = ℕ} 0 1 = cc in absurd (omega arith)
-written-by true false d next e = let z : texted d ≡ next = cc in rw (← z)
-written-by false b d next e = let z : texted d ≡ next = cc in rw (← z)
+-- what the direction rule lets pass, and where
+pub written-goes : (d next : Directions) → writtenOf d ≡ Goes next
+    → (texted d ≡ next) × (pick (d .marked) (pick (eqb (d .depth) 0) false true) true ≡ true)
+unfolding writtenOf pick
+written-goes d next = by (d .marked) (eqb (d .depth) 0)
+  where
+    by : (a b : Bool) → pick a (pick b (Stops refusal.direction) (Goes (texted d))) (Goes (texted d)) ≡ Goes next
+        → (texted d ≡ next) × (pick a (pick b false true) true ≡ true)
+    by true true e = let z : _≡_ {A = ℕ} 0 1 = cc in absurd (omega arith)
+    by true false e = (cc, refl)
+    by false b e = (cc, refl)
 
 written-keeps : (k : ℕ) (d next : Directions) → stepOf true k d ≡ Goes next → inForceOf next ≡ inForceOf d
-unfolding stepOf writtenOf pick
-written-keeps k d next e = written-by (d .marked) (eqb (d .depth) 0) d next e
+unfolding stepOf inForceOf pick
+written-keeps k d next e = rw (← (written-goes d next e .0))
 
 -- the step of a character or a space
 pub text-keeps : (u : TextUnit) (d next : Directions) → kindOf u < 2 → direct d u ≡ Goes next → inForceOf next ≡ inForceOf d

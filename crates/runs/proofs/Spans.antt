@@ -11,17 +11,18 @@ use lib.ListN.{length, getD}
 use borrow.Author.Tests.{eqb-true, eq-eqb, ne-eqb, lt-ltb}
 use Rattle.base.specs.Choice.{pick, from}
 use Rattle.base.specs.Refusal as refusal
-use Rattle.base.proofs.Bools.{off, pick-by}
+use Rattle.base.proofs.Bools.{off}
 use Rattle.base.proofs.Ladder.{on-true, on-lt, on-ge, from-octet, from-length}
 use Rattle.charset.specs.Charsets.{form-96, formOf}
+use Rattle.charset.specs.declared.Side.{Side}
 use Rattle.charset.specs.declared.Side.the-variants.{GL, GR}
 use Rattle.element.specs.Element.{shapeOf, steppedOf, directedOf}
 use Rattle.element.specs.Start.{Start, startIn, begunBy}
 use Rattle.element.proofs.Sizes.{kindIn, escape-kind, mark-kind}
-use Rattle.element.proofs.Starts.{wideIn, Starts, starts, graphic-low, graphic, used-graphic, graphic-used, all-used}
+use Rattle.element.proofs.Starts.{On, wideIn, Starts, starts, graphic-low, graphic, used-graphic, graphic-used, all-used}
 use Rattle.element.proofs.Starts as start
 use Rattle.grammar.specs.Reading.{Octets}
-use Rattle.state.specs.Directions.{directions, writtenOf, stepOf}
+use Rattle.state.specs.Directions.{writtenOf, stepOf}
 use Rattle.state.specs.Elements.{refused, next}
 use Rattle.state.specs.declared.State.{State}
 use Rattle.state.specs.declared.Sets.{Sets}
@@ -31,12 +32,13 @@ use Rattle.state.specs.declared.directions.Step.the-variants.{Goes, Stops}
 use Rattle.state.specs.declared.elements.Shape.{Shape}
 use Rattle.state.specs.declared.elements.Shape.the-variants.{Ends, Refuses, Designates, Gives}
 use Rattle.stretch.specs.Characters.{settledOf}
-use Rattle.stretch.proofs.Starts.{Written, one-start, left-start, written-one, written-two, written-found}
+use Rattle.stretch.proofs.Starts.{Written, number, one-start, left-start, written-one, written-two, written-found}
 use Rattle.stretch.proofs.Starts as stretched
 use Rattle.text.specs.Text.{graphicOf, twoOctetsOf, secondOctetOf}
 use Rattle.pieces.specs.Pieces.{piece, sideKindOf, pieceKindOf, pieceOf, isRun}
 use Rattle.pieces.specs.declared.Piece.{Piece}
 use Rattle.pieces.proofs.Laws.{run-kind}
+use Rattle.pieces.proofs.Text.{written-goes}
 use Rattle.pieces.proofs.Step.{pieceAt}
 use Rattle.runs.specs.Spans.{Ones, OnesTo, Pair, Twos, TwosTo, Single, Double}
 use Rattle.runs.specs.Spans as spans
@@ -114,19 +116,9 @@ text-lies sets b t start.unused h = absurd (omega arith)
 
 -- ---- what text leaves
 
-abbrev texted : Directions → Directions
-texted d = directions (d .depth) (d .levels) (d .marked) true
-
-written-by : (a b : Bool) (d next : Directions) → d .marked ≡ a → eqb (d .depth) 0 ≡ b
-    → pick a (pick b (Stops refusal.direction) (Goes (texted d))) (Goes (texted d)) ≡ Goes next → settledOf next ≡ true
-unfolding pick settledOf
-written-by true true d next m n e = let z : _≡_ {A = ℕ} 0 1 = cc in absurd (omega arith)
-written-by true false d next m n e = let z : texted d ≡ next = cc in rw (← z, m, n)
-written-by false b d next m n e = let z : texted d ≡ next = cc in rw (← z, m)
-
 text-settles : (d next : Directions) → writtenOf d ≡ Goes next → settledOf next ≡ true
-unfolding writtenOf
-text-settles d next e = written-by (d .marked) (eqb (d .depth) 0) d next refl refl e
+unfolding settledOf pick
+text-settles d next e = let w = written-goes d next e in rw (← (w .0)) (w .1)
 
 module _ (s : List ℕ) (st : State) (i : ℕ) where
   -- ---- a piece of a run
@@ -176,7 +168,8 @@ module _ (s : List ℕ) (st : State) (i : ℕ) where
     text-piece k h e w =
         rw (from-octet s i h, written-found st settled w, w .sized, text-kind (w .unit .kind) (getD s i 0) (w .kind), e)
 
-    one-piece : (k : ℕ) → i < length s → sideKindOf (getD s i 0) ≡ k → stretched.Text (startIn (st .sets) (getD s i 0)) → pieceAt s i st ≡ piece i (i + 1) k st
+    one-piece : (k : ℕ) → i < length s → sideKindOf (getD s i 0) ≡ k → stretched.Text (startIn (st .sets) (getD s i 0))
+        → pieceAt s i st ≡ piece i (i + 1) k st
     unfolding shapeOf
     one-piece k h e x = text-piece k h e (written-one (st .sets) (getD s i 0) (from (i + 1) s) x)
 
@@ -192,25 +185,25 @@ module _ (s : List ℕ) (st : State) (i : ℕ) where
         (one-start (st .sets) (getD s i 0) GR (omega arith)
         (graphic-used _ (getD s i 0) (graphic (getD s i 0 % 128) (omega arith) (omega arith))) (ne-eqb _ _ x))
 
+    -- two octets of a span of a side
+    pair-piece : (d : Side) (k first last : ℕ) → wideIn d (st .sets) ≡ true → sideKindOf (getD s i 0) ≡ k → On d (getD s i 0)
+        → ((x : ℕ) → first ≤ x → x ≤ last → (x / 128 ≡ number d) × (0x21 ≤ x % 128) × (x % 128 ≤ 0x7E)) → Pair s first last i
+        → pieceAt s i st ≡ piece i (i + 2) k st
+    pair-piece d k first last w e o each h =
+        let p = each (getD s i 0) (h .low) (h .high) in
+        let q = each (getD s (i + 1) 0) (h .low-2) (h .high-2) in
+        text-piece k (omega (arith, h .inside)) e
+        (rw (from-octet s (i + 1) (omega (arith, h .inside)))
+        (written-two (st .sets) (getD s i 0) d (getD s (i + 1) 0) (from (i + 1 + 1) s) w o (graphic _ (p .1) (p .2)) (q .0 ∙ sym (p .0))
+        (graphic _ (q .1) (q .2))))
+
     pub double-piece : (k first last : ℕ) → k < 2 → Double (st .sets) k first last → Pair s first last i → pieceAt s i st ≡ piece i (i + 2) k st
     double-piece k _ _ z (spans.left e n) h =
-        let l = h .low in
-        let m = h .high in
-        let p = h .low-2 in
-        let q = h .high-2 in
-        text-piece k (omega (arith, h .inside)) (left-octet (getD s i 0) (omega arith) ∙ sym e)
-        (rw (from-octet s (i + 1) (omega (arith, h .inside)))
-        (written-two (st .sets) (getD s i 0) GL (getD s (i + 1) 0) (from (i + 1 + 1) s) (eq-eqb _ _ n) (l, omega arith)
-        (graphic (getD s i 0 % 128) (omega arith) (omega arith)) (omega arith) (graphic (getD s (i + 1) 0 % 128) (omega arith) (omega arith))))
+        pair-piece GL k _ _ (eq-eqb _ _ n) (left-octet (getD s i 0) (omega (arith, h .high)) ∙ sym e) (h .low, omega (arith, h .high))
+        (λ x l m. (omega arith, omega arith, omega arith)) h
     double-piece k _ _ z (spans.right e n) h =
-        let l = h .low in
-        let m = h .high in
-        let p = h .low-2 in
-        let q = h .high-2 in
-        text-piece k (omega (arith, h .inside)) (right-octet (getD s i 0) (omega arith) ∙ one-of k z e)
-        (rw (from-octet s (i + 1) (omega (arith, h .inside)))
-        (written-two (st .sets) (getD s i 0) GR (getD s (i + 1) 0) (from (i + 1 + 1) s) (eq-eqb _ _ n) (omega arith)
-        (graphic (getD s i 0 % 128) (omega arith) (omega arith)) (omega arith) (graphic (getD s (i + 1) 0 % 128) (omega arith) (omega arith))))
+        pair-piece GR k _ _ (eq-eqb _ _ n) (right-octet (getD s i 0) (omega (arith, h .low)) ∙ one-of k z e) (omega (arith, h .low))
+        (λ x l m. (omega arith, omega arith, omega arith)) h
 
   -- ---- where a run ends
 

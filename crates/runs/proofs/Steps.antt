@@ -5,16 +5,15 @@ use native.Mathlib.Omega.{arith}
 use mathlib.Core.Path.{_≡_, refl, ap, sym, _∙_}
 use mathlib.Core.Bool.{Bool, true, false, false≢true}
 use mathlib.Core.List.{List, [], _∷_}
-use lib.Dec.{eqb, leb, ltb}
+use lib.Dec.{eqb, ltb}
 use lib.ListN.{length}
-use borrow.Author.Tests.{eq-eqb, lt-ltb, ltb-true, ltb-false, leb-true}
+use borrow.Author.Tests.{eq-eqb, lt-ltb, ltb-true, ltb-false}
 use Rattle.base.specs.Choice.{pick, from}
-use Rattle.base.specs.Limit as limit
 use Rattle.base.specs.Refusal as refusal
 use Rattle.base.specs.declared.Answer.{Answer}
+use Rattle.base.proofs.Bools.{pick-last}
 use Rattle.base.proofs.Ladder.{on-eq, on-ne}
-use Rattle.charset.specs.Charsets.{no-set, allowed}
-use Rattle.charset.specs.declared.Side.the-variants.{GL, GR}
+use Rattle.charset.specs.Charsets.{no-set}
 use Rattle.element.proofs.Sizes.{Fit, silent, found}
 use Rattle.grammar.specs.Reading.{Octets}
 use Rattle.grammar.proofs.Places.{ahead, at-end, at-refused, at-passed, step-passed}
@@ -185,24 +184,11 @@ module _ (s : List ℕ) (place : ℕ) (state : State) (at : ℕ) (st : State) (l
 pub record Plain (s : List ℕ) (place : ℕ) (state : State) (at : ℕ) (st : State) : Type 0 where
   pub within : at ≤ length s
   pub head : Head s place state at st (noPiece at)
-  pub fit : Fit st
-
--- a position that may be
-may-fit : (n place : ℕ) (st : State) → mayStand n place st ≡ true → (place ≤ n) × Fit st
-unfolding mayStand pick
-may-fit n place st = by (ltb n place) (allowed GL (st .sets .gl)) (allowed GR (st .sets .gr)) refl refl refl
-  where
-    by : (x y z : Bool) → ltb n place ≡ x → allowed GL (st .sets .gl) ≡ y → allowed GR (st .sets .gr) ≡ z
-        → pick x false (pick y (pick z (leb (st .directions .depth) limit.depth) false) false) ≡ true → (place ≤ n) × Fit st
-    by true y z p q r e = absurd (false≢true e)
-    by false false z p q r e = absurd (false≢true e)
-    by false true false p q r e = absurd (false≢true e)
-    by false true true p q r e = (ltb-false n place p, record { left = q; right = r; depth = leb-true (st .directions .depth) limit.depth e })
 
 pub plain-first : (s : List ℕ) (place : ℕ) (state : State) → mayStand (length s) place state ≡ true → Plain s place state place state
+unfolding mayStand
 plain-first s place state e =
-    let m = may-fit (length s) place state e in
-    record { within = m .0; head = head-first s place state; fit = m .1 }
+    record { within = ltb-false (length s) place (pick-last (ltb (length s) place) _ e .0); head = head-first s place state }
 
 -- a piece that is no run
 other-first : (n : ℕ) (there : ℕ → State) (none : RunStep) (p : Piece) (ps : List Piece) → isRun (p .kind) ≡ false
@@ -255,7 +241,6 @@ module _ (s : List ℕ) (place : ℕ) (state : State) (at : ℕ) (st : State) (p
             left = h .left;
             first = no-run-first _ _ _ (q .end) (rest s (q .end) (q .state)) ∙ (sym (other-first _ _ _ q (rest s (q .end) (q .state)) n) ∙ h .first);
           };
-          fit = rw is (fit-piece s at st (elementAt s at st) refl (p .fit));
         };
       }
 
@@ -285,7 +270,7 @@ module _ (s : List ℕ) (place : ℕ) (state : State) (k : ℕ) (st : State) (a 
       (omega arith) (λ z. omega arith) (sym (extended-same (piece a i k st) (piece i (i + w) k st) (same-kind k low .1))) in
       grown (n .head)
 
-  module _ (o : Octets s) (fit : Fit st) (settled : settledOf (st .directions) ≡ true) where
+  module _ (o : Octets s) (settled : settledOf (st .directions) ≡ true) where
     grow-ones : {first last at i : ℕ} → Single (st .sets) k first last → Ones s first last at i → Grown s place state k st a at
         → Grown s place state k st a i
     grow-ones c spans.none g = g
@@ -384,7 +369,7 @@ module _ (s : List ℕ) (place : ℕ) (state : State) (at : ℕ) (st : State) (p
         → at < i → q ≡ piece at i k st
         → run ≡ shownOf (length s) q → r ≡ stepTo i st run → r ≡ runFrom s place state
     turn-quick k i q run r low settled x l e f g =
-        turn-text s place state k st at low o (p .fit) settled q run r (still refl (p .head)) x l e f g
+        turn-text s place state k st at low o settled q run r (still refl (p .head)) x l e f g
 
     module _ (q : Piece) (is : q ≡ pieceAt s at st) (low : q .kind < 2) where
       begun-by : {x : Piece} → Step s at st x → x .kind < 2 → Begun s at x
@@ -401,11 +386,10 @@ module _ (s : List ℕ) (place : ℕ) (state : State) (at : ℕ) (st : State) (p
       turn-begun i u run r x e f g =
           let y = run-begun in
           let n = next-piece s place state at st p q is (λ z. omega (arith, y .more, z)) in
-          let fit : Fit (q .state) = rw is (fit-piece s at st (elementAt s at st) refl (p .fit)) in
           let settled : settledOf (q .state .directions) ≡ true = rw is
           (text-settled s st at inside (lt-ltb (pieceAt s at st .kind) 2 (rw is at low))) in
           let z = since-text x in
-          turn-text s place state (q .kind) (q .state) (q .start) low o fit settled u run r (grown (n .head)) x (omega (arith, y .starts, y .more, z)) e f g
+          turn-text s place state (q .kind) (q .state) (q .start) low o settled u run r (grown (n .head)) x (omega (arith, y .starts, y .more, z)) e f g
 
   -- all octets are read
   pub turn-over : (r : RunStep) → length s ≤ at → r ≡ stopAt at st (elementAt s at st) → r ≡ runFrom s place state

@@ -72,5 +72,8 @@ expected [] = []
 expected (r ∷ rs) = r .given ∷ expected rs
 
 pub table : found rows ≡ expected rows
-unfolding pick mayUse formOf fitsOf find setOf put next graphicOf secondOctetOf nameOctetOf nameOf textWidthOf contentOf bodyOf lengthsOf extendedOf beginOf csiOf designatesOf designationOf multiOctetOf escapeOf writtenOf deeperOf begunOf revertedOf stepOf inForceOf usedIn characterStart leftStart startOf begunBy shapeOf steppedOf directedOf onward elements answerOf checkOf sideKindOf pieceKindOf pieceOf sameRunOf joined piecesFrom piecesOf setIn runsIn runsOf widthOf shownOf nthOf runAt
+unfolding pick mayUse formOf fitsOf find setOf put next graphicOf secondOctetOf nameOctetOf nameOf textWidthOf contentOf bodyOf lengthsOf extendedOf
+    beginOf csiOf designatesOf designationOf multiOctetOf escapeOf writtenOf deeperOf begunOf revertedOf stepOf inForceOf usedIn characterStart
+    leftStart startOf begunBy shapeOf steppedOf directedOf onward elements answerOf checkOf sideKindOf pieceKindOf pieceOf sameRunOf joined piecesFrom
+    piecesOf setIn runsIn runsOf widthOf shownOf nthOf runAt
 table = refl

@@ -19,6 +19,7 @@ use Rattle.shortest.specs.CheckedStrings.{table, refusals, defined, expe
 pub checked-strings : (defined table ≡ expected table) × (answersDefined refusals ≡ answersExpected refusals)
 unfolding pick mayUse allowed formOf fitsOf find setOf put writtenOf deeperOf begunOf revertedOf stepOf next graphicOf secondOctetOf
     nameOctetOf nameOf textWidthOf contentOf bodyOf lengthsOf extendedOf beginOf csiOf intermediatesOf designatesOf designationOf multiOctetOf
-    escapeOf usedIn characterStart leftStart startOf begunBy shapeOf steppedOf directedOf unitOf wide octets designation onward elements answerOf checkOf unitAt unitsOf readingOf stands price met
+    escapeOf usedIn characterStart leftStart startOf begunBy shapeOf steppedOf directedOf
+    unitOf wide octets designation onward elements answerOf checkOf unitAt unitsOf readingOf stands price met
     need least size cost choose used writing
 checked-strings = (refl, refl)

@@ -227,7 +227,8 @@ module _ (st : State) (settled : settledOf (st .directions) ≡ true) where
   one-octet b t e = lone-one b t (single-start (st .sets) b e)
 
   -- two octets of a side
-  pub two-octets : (d : Side) → wideIn d (st .sets) ≡ true → (b : ℕ) (t : List ℕ) → twoAt (number d) (b ∷ t) ≡ true → One 2 st (elementOf (b ∷ t) st)
+  pub two-octets : (d : Side) → wideIn d (st .sets) ≡ true → (b : ℕ) (t : List ℕ) → twoAt (number d) (b ∷ t) ≡ true
+      → One 2 st (elementOf (b ∷ t) st)
   unfolding twoAt
   two-octets d w b [] e = absurd (false≢true e)
   two-octets d w b (y ∷ t) e =
