@@ -1,6 +1,7 @@
 -- An element has one octet at least, and no more than are there; the fields of its unit that mean nothing are 0; a refused one has a number
 -- above 0; and a state that is fit stays fit. Of the shape (`Shaped`) it is shown for each definition from the leaves up, with `n` the octets
--- that the element may have; of the element (`Sized`) by its shape and the direction rule.
+-- that the element may have; of the element (`Sized`) by its shape and the direction rule. On the way: escape sequences and direction marks are no
+-- characters or spaces (`escape-kind`, `mark-kind`).
 use Prim.Native.Nat.{ℕ, suc, _+_, _*_, _-_, _%_, _^_, _<_, _≤_, zero-le}
 use native.Mathlib.Omega.{arith}
 use mathlib.Core.Path.{_≡_, refl, sym}

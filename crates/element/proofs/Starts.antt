@@ -4,7 +4,6 @@ use Prim.Native.Nat.{ℕ, _%_, _≤_, _<_}
 use native.Mathlib.Omega.{arith}
 use mathlib.Core.Path.{_≡_, refl, sym, _∙_}
 use mathlib.Core.Bool.{Bool, true, false}
-use mathlib.Core.List.{List, _∷_}
 use lib.Dec.{eqb, ltb}
 use borrow.Author.Tests.{eqb-true, eqb-false, ltb-true, ltb-false, leb-true, le-leb, ne-eqb}
 use Rattle.base.specs.Choice.{pick}
@@ -15,9 +14,8 @@ use Rattle.charset.specs.declared.Side.{Side}
 use Rattle.charset.specs.declared.Side.the-variants.{GL, GR}
 use Rattle.state.specs.State.{get}
 use Rattle.state.specs.declared.Sets.{Sets}
-use Rattle.state.specs.declared.elements.Shape.{Shape}
 use Rattle.text.specs.Text.{graphicOf}
-use Rattle.element.specs.Start.{Start, usedIn, characterStart, leftStart, startOf, startIn, begunBy}
+use Rattle.element.specs.Start.{Start, usedIn, characterStart, leftStart, startOf, startIn}
 use Rattle.element.specs.Start as start
 
 -- the octets of a side that may start a character

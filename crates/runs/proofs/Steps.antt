@@ -5,7 +5,7 @@ use native.Mathlib.Omega.{arith}
 use mathlib.Core.Path.{_≡_, refl, ap, sym, _∙_}
 use mathlib.Core.Bool.{Bool, true, false, false≢true}
 use mathlib.Core.List.{List, [], _∷_}
-use lib.Dec.{eqb, ltb}
+use lib.Dec.{ltb}
 use lib.ListN.{length}
 use borrow.Author.Tests.{eq-eqb, lt-ltb, ltb-true, ltb-false}
 use Rattle.base.specs.Choice.{pick, from}
@@ -29,7 +29,7 @@ use Rattle.stretch.specs.Designation.{designationAt}
 use Rattle.stretch.specs.declared.designation.Designation.{Designation}
 use Rattle.stretch.proofs.Designations.{designation-silent}
 use Rattle.pieces.specs.PieceKind as pieceKind
-use Rattle.pieces.specs.Pieces.{piece, noPiece, sideKindOf, pieceOf, isRun, sameRunOf, extendedTo, joined, endingOf, stateAt}
+use Rattle.pieces.specs.Pieces.{piece, noPiece, sideKindOf, pieceOf, isRun, sameRunOf, extendedTo, joined, endingOf}
 use Rattle.pieces.specs.declared.Piece.{Piece}
 use Rattle.pieces.proofs.Joined.{Followed, same, over, other, followed, joined-apart, joined-same, extended-same, extended-apart}
 use Rattle.pieces.specs.Partition.{stateFrom}

@@ -1,19 +1,19 @@
 -- A designation that is found by its octets is the reader's element: where its set is one of the fifteen, the final octet is one that the
 -- table has, and the octets before it lead to its form.
-use Prim.Native.Nat.{ℕ, suc, _+_, _-_, _<_, _≤_}
+use Prim.Native.Nat.{ℕ, _+_, _-_, _<_, _≤_}
 use native.Mathlib.Omega.{arith}
 use mathlib.Core.Path.{_≡_, refl, ap, sym, _∙_, subst}
 use mathlib.Core.Bool.{Bool, true, false}
 use mathlib.Core.List.{List, [], _∷_}
-use lib.Dec.{eqb, leb, ltb}
+use lib.Dec.{eqb}
 use lib.ListN.{length, getD}
-use borrow.Author.Tests.{eqb-true, leb-true}
+use borrow.Author.Tests.{eqb-true}
 use Rattle.base.specs.Choice.{pick, from}
 use Rattle.base.proofs.Ladder.{on-eq, on-ne, on-lt, on-ge, from-octet, from-length}
-use Rattle.charset.specs.Charsets.{form-94, form-96, form-94x94, no-set, rowOf, setOf}
+use Rattle.charset.specs.Charsets.{form-94, form-96, form-94x94, no-set, setOf}
 use Rattle.charset.specs.declared.Side.{Side}
 use Rattle.charset.specs.declared.Side.the-variants.{GL, GR}
-use Rattle.charset.proofs.Laws.{set-named, final-range}
+use Rattle.charset.proofs.Laws.{final-range}
 use Rattle.control.specs.Escape.{designatesOf, designationOf, multiOctetOf, escapeOf}
 use Rattle.element.specs.Element.{shapeOf, directedOf, elementOf}
 use Rattle.element.specs.Start.{startOf, begunBy}

@@ -1,5 +1,5 @@
 -- `cursor::advance` meets its contract. Assumes nothing.
-use mathlib.Core.Path.{_≡_, ap, _∙_}
+use mathlib.Core.Path.{ap, _∙_}
 use Rattle.cursor.specs.Cursor.{textTurn, passedOf, advanceAt}
 use Rattle.cursor.proofs.Rules.{reading}
 use borrow.Author.Needs.{needs}
