@@ -76,11 +76,12 @@ record Two (b : ℕ) (t : List ℕ) : Type 0 where
   side : other / 128 ≡ b / 128
   second : graphicOf (other % 128) ≡ true
 
+-- in GL or in GR; and where the set there is of two octets, the second stands after it
 data Lies (sets : Sets) (b : ℕ) (t : List ℕ) : Type 0 where
   left : 0x20 ≤ b → b < 0x7F → (wideIn GL sets ≡ true → Two b t) → Lies sets b t
   right : 0xA0 ≤ b → ((formOf (sets .gr) ≡ form-96 → ⊥) → graphicOf (b % 128) ≡ true) → (wideIn GR sets ≡ true → Two b t) → Lies sets b t
 
--- whether a shape's unit is text for the direction rule
+-- whether a shape's unit is text for the direction rule; of a shape that gives none nothing is asked
 textIn : Shape → Bool
 textIn Ends = true
 textIn (Refuses n o) = true
@@ -123,6 +124,7 @@ text-settles d next e = let w = written-goes d next e in rw (← (w .0)) (w .1)
 module _ (s : List ℕ) (st : State) (i : ℕ) where
   -- ---- a piece of a run
 
+  -- its shape's unit is of kind k; where that is text it settles the state
   record OfRun (k : ℕ) (text : Bool) (q : Piece) : Type 0 where
     kind : k < 2
     side : q .kind ≡ sideKindOf (getD s i 0)
