@@ -6,14 +6,14 @@ use mathlib.Core.Path.{_≡_, refl, sym, ap, _∙_}
 use mathlib.Core.Bool.{true, false}
 use mathlib.Core.List.{List}
 use lib.Dec.{eqb, leb, ltb}
-use borrow.Author.Tests.{eqb-true, le-leb, lt-ltb, le-ltb}
+use borrow.Author.Tests.{eqb-true, eqb-false, leb-true, leb-false, le-leb, ltb-true, ltb-false, lt-ltb}
 use Rattle.base.specs.Choice.{pick}
 use Rattle.base.specs.Kind as kind
 use Rattle.base.specs.declared.Unit.{Unit as UnitRecord}
 use Rattle.base.proofs.Bools.{off, test, pick-last, from-tests, tested}
 use Rattle.charset.specs.Charsets.{no-set, formOf}
 use Rattle.charset.proofs.Laws.{formRule, form-rule}
-use Rattle.text.specs.Text.{graphicOf}
+use Rattle.element.proofs.Starts.{graphic}
 use Rattle.state.specs.Directions.{writtenOf, stepOf, countsAsText}
 use Rattle.state.specs.declared.directions.Directions.{Directions}
 use Rattle.state.specs.declared.directions.Step.{Step}
@@ -30,10 +30,6 @@ use Rattle.check_list.specs.Plain.{isDouble, wider, lowFrom, highFrom, u
 use Rattle.check_list.proofs.Refusals.{kind-character, kind-plain, code-fits}
 
 -- ---- a code
-
-graphic : (m : ℕ) → 0x21 ≤ m → m ≤ 0x7E → graphicOf m ≡ true
-unfolding graphicOf pick
-graphic m a b = rw (le-ltb m 0x21 a, le-leb m 0x7E b)
 
 record Within (c k : ℕ) : Type 0 where
   whole : k < 0x10000

@@ -1,31 +1,37 @@
--- Where the octets at a cursor are taken for text, the element there is refused or is that text, whatever the directions are (`quick-turn`).
-use Prim.Native.Nat.{ℕ, _+_, _*_, _-_, _%_, _^_, _≤_, _<_}
+-- Where the octets at a cursor are taken for text, the element there is refused or is that text, whatever the directions are (`quick-turn`): by
+-- the class of the first octet, which starts no control.
+use Prim.Native.Nat.{ℕ, _+_, _*_, _%_, _^_, _≤_, _<_}
 use native.Mathlib.Omega.{arith}
-use native.Mathlib.Nat.{eq-or-lt-of-le}
-use mathlib.Core.Path.{_≡_, refl, ap, sym, _∙_, subst}
+use mathlib.Core.Path.{_≡_, refl, ap, sym, _∙_}
 use mathlib.Core.Bool.{Bool, true, false, false≢true}
 use mathlib.Core.List.{List, [], _∷_}
 use mathlib.Core.Logic.{_⊎_, inl, inr, ⊎-elim}
-use lib.Dec.{eqb, leb, ltb}
-use borrow.Author.Tests.{eqb-true, eqb-false, ltb-true, ltb-false, leb-true}
+use lib.Dec.{ltb}
+use borrow.Author.Tests.{eqb-false, ltb-true, ltb-false, lt-ltb, lt-leb}
 use Rattle.base.specs.Choice.{pick}
 use Rattle.base.specs.Kind as kind
-use Rattle.base.proofs.Ladder.{on-true, on-false, on-ne, on-ge, on-lt, on-gt}
-use Rattle.charset.specs.Charsets.{form-96, form-94x94, no-set, formOf}
+use Rattle.base.proofs.Bools.{off, pick-last}
+use Rattle.base.proofs.Ladder.{on-ge, on-lt}
+use Rattle.charset.specs.Charsets.{no-set}
+use Rattle.charset.specs.declared.Side.{Side}
+use Rattle.charset.specs.declared.Side.the-variants.{GL, GR}
 use Rattle.charset.proofs.Laws.{narrow-form, wide-form}
 use Rattle.state.specs.Elements.{part, next}
 use Rattle.state.specs.Directions.{writtenOf, stepOf}
+use Rattle.state.specs.State.{get}
 use Rattle.state.specs.declared.State.{State}
 use Rattle.state.specs.declared.Sets.{Sets}
 use Rattle.state.specs.declared.directions.Step.{Step}
-use Rattle.state.specs.declared.directions.Step.the-variants.{Goes, Stops}
 use Rattle.state.specs.declared.elements.Part.{Part}
 use Rattle.state.specs.declared.elements.Element.{Element}
 use Rattle.state.specs.declared.elements.Element.the-variants.{Refused, Found}
 use Rattle.state.specs.declared.elements.Shape.{Shape}
 use Rattle.state.specs.declared.elements.Shape.the-variants.{Refuses, Gives}
-use Rattle.text.specs.Text.{secondOctetOf, characterOf, textOf}
+use Rattle.text.specs.Text.{secondOctetOf}
 use Rattle.element.specs.Element.{shapeOf, steppedOf, directedOf, elementOf}
+use Rattle.element.specs.Start.{Start, begunBy}
+use Rattle.element.proofs.Starts.{On, above, Starts, starts}
+use Rattle.element.proofs.Starts as start
 use Rattle.cursor.specs.Cursor.{cursor, turn, textOctet, setAt, kindAt, ifGraphic, first-double, doubleOf, octetOf, quickOf}
 use Rattle.cursor.specs.declared.Turn.{Turn}
 use Rattle.cursor.proofs.Free.{texted}
@@ -65,101 +71,62 @@ unfolding directedOf stepOf pick
 directed st k set code octets bad = refused
 directed st k set code octets good = written (textPart k set code octets) st
 
--- ---- the forms of sets, by their number
+-- ---- text, by the class of its first octet
 
-single-form : (set : ℕ) → set < first-double → formOf set ≡ form-94x94 → ⊥
-single-form set h = eqb-false (formOf set) form-94x94 (narrow-form set h)
-
-double-form : (set : ℕ) → first-double ≤ set → set < no-set → formOf set ≡ form-94x94
-double-form set h k = eqb-true (formOf set) form-94x94 (wide-form set h k)
-
--- ---- text
-
-text-range : (b : ℕ) → textOctet b ≡ true → (0x20 ≤ b) × ((b < 0x7F) ⊎ (0xA0 ≤ b))
+text-range : (b : ℕ) → textOctet b ≡ true → (0x20 ≤ b) × (b ≡ 0x9B → ⊥)
 unfolding textOctet pick
-text-range b e = go (ltb b 0x20) (ltb b 0x7F) refl refl e
-  where
-    go : (x y : Bool) → ltb b 0x20 ≡ x → ltb b 0x7F ≡ y → pick x false (pick y true (leb 0xA0 b)) ≡ true → (0x20 ≤ b) × ((b < 0x7F) ⊎ (0xA0 ≤ b))
-    go true y h k e = absurd (false≢true e)
-    go false true h k e = (ltb-false b 0x20 h, inl (ltb-true b 0x7F k))
-    go false false h k e = (ltb-false b 0x20 h, inr (leb-true 0xA0 b e))
+text-range b e = (ltb-false b 0x20 (pick-last (ltb b 0x20) _ e .0), λ q. false≢true (rw q at e))
 
--- its shape is that of text
-text-shape : (b : ℕ) (t : List ℕ) (s : Sets) → (0x20 ≤ b) × ((b < 0x7F) ⊎ (0xA0 ≤ b)) → textOf b t s ≡ shapeOf (b ∷ t) s
-unfolding shapeOf
-text-shape b t s (h, inl k) =
-    on-ne b 0x1B _ _ _ (λ q. omega arith)
-    (on-ne b 0x9B _ _ _ (λ q. omega arith)
-    (on-ne b 0x09 _ _ _ (λ q. omega arith)
-    (on-ne b 0x0A _ _ _ (λ q. omega arith)
-    (on-ge b 0x20 _ _ _ h (on-ne b 0x7F _ _ _ (λ q. omega arith) (on-lt b 0x80 _ _ _ (omega arith) refl))))))
-text-shape b t s (h, inr k) =
-    on-ne b 0x1B _ _ _ (λ q. omega arith)
-    (on-ne b 0x9B _ _ _ (λ q. omega arith)
-    (on-ne b 0x09 _ _ _ (λ q. omega arith)
-    (on-ne b 0x0A _ _ _ (λ q. omega arith)
-    (on-ge b 0x20 _ _ _ h
-    (on-ne b 0x7F _ _ _ (λ q. omega arith) (on-ge b 0x80 _ _ _ (omega arith) (on-ge b 0xA0 _ _ _ k refl)))))))
-
-module _ (s : Sets) where
-  -- a character of one octet, of a set that has one
-  one-octet : (set b : ℕ) (t : List ℕ) → (formOf set ≡ form-94x94 → ⊥) → Bare (textPart kind.character set (b % 128) 1) (characterOf set b t)
-  unfolding characterOf
-  one-octet set b t h =
-      only-pick _ _ _ (λ _. good)
-      (λ _. only-pick _ _ _ (λ _. only-pick _ _ _ (λ e. absurd (h (eqb-true _ _ e))) (λ _. good)) (λ _. bad))
-
-  -- and of two
-  two-octets : (set b d : ℕ) (t : List ℕ) → formOf set ≡ form-94x94
-      → Bare (textPart kind.character set (b % 128 * 256 + d % 128) 2) (characterOf set b (d ∷ t))
-  unfolding characterOf secondOctetOf next
-  two-octets set b d t h =
-      only-pick _ _ _ (λ e. absurd (let z : formOf set ≡ form-96 = eqb-true _ _ e in omega arith))
-      (λ _. only-pick _ _ _
-      (λ _. only-pick _ _ _ (λ _. only-pick _ _ _ (λ _. only-pick _ _ _ (λ _. good) (λ _. bad)) (λ _. bad)) (λ e. absurd (eqb-false _ _ e h)))
-      (λ _. bad))
-
-  -- a character, of the set on its side
-  by-side : {p : Part} (b : ℕ) (t : List ℕ) → ((set : ℕ) → set ≡ setAt b s → Bare p (characterOf set b t))
-      → Bare p (pick (ltb b 0x80) (characterOf (s .gl) b t) (characterOf (s .gr) b t))
+module _ (s : Sets) (b set : ℕ) (text : textOctet b ≡ true) (here : set ≡ setAt b s) where
+  -- the set on its side
+  set-is : (d : Side) → On d b → set ≡ get d s
   unfolding setAt
-  by-side b t h =
-      only-pick _ _ _ (λ e. h (s .gl) (on-true _ _ _ _ e refl)) (λ e. h (s .gr) (on-false _ _ _ _ e refl))
+  set-is GL h = here ∙ sym (on-lt b 0x80 _ _ _ (omega (arith, h .1)) refl)
+  set-is GR h = here ∙ sym (on-ge b 0x80 _ _ _ (omega (arith, h)) refl)
+
+  -- an octet that is no control
+  no-control : {A : Type 0} → ((b < 0x20) ⊎ (b ≡ 0x9B)) → A
+  no-control h = absurd (⊎-elim (λ k. omega (arith, text-range b text .0, k)) (text-range b text .1) h)
 
   -- what one octet is taken for, the set on its side being known
-  abbrev onePart : ℕ → ℕ → Part
-  onePart b set = textPart (kindAt b) (ifGraphic b set) (ifGraphic b (b % 128)) 1
+  abbrev onePart : Part
+  onePart = textPart (kindAt b) (ifGraphic b set) (ifGraphic b (b % 128)) 1
 
-  space-only : (b set : ℕ) (t : List ℕ) → b ≡ 0x20 → Bare (onePart b set) (textOf b t s)
-  unfolding textOf kindAt ifGraphic pick
-  space-only b set t h = rw h (only-pick (eqb (formOf (s .gl)) form-94x94) _ _ (λ _. bad) (λ _. good))
+  character-part : 0x20 < b → textPart kind.character set (b % 128) 1 ≡ onePart
+  unfolding kindAt ifGraphic pick
+  character-part h = rw (lt-ltb 0x20 b h, lt-leb b 0x20 h)
 
-  character-only : (b set : ℕ) (t : List ℕ) → 0x20 < b → set ≡ setAt b s → set < first-double → Bare (onePart b set) (textOf b t s)
-  unfolding textOf kindAt ifGraphic
-  character-only b set t h k l =
-      let kind-is : kind.character ≡ kindAt b = on-lt 0x20 b _ _ _ h refl in
-      let set-is : set ≡ ifGraphic b set = on-gt b 0x20 _ _ _ h refl in
-      let code-is : b % 128 ≡ ifGraphic b (b % 128) = on-gt b 0x20 _ _ _ h refl in
-      rw (← kind-is, ← set-is, ← code-is)
-      (only-pick _ _ _ (λ e. absurd (let z = eqb-true b 0x20 e in omega arith))
-      (λ _. by-side b t (λ other i. rw (i, ← k) (one-octet set b t (single-form set l)))))
-
-  single-only : (b set : ℕ) (t : List ℕ) → 0x20 ≤ b → set ≡ setAt b s → set < first-double → Bare (onePart b set) (textOf b t s)
-  single-only b set t h k l =
-      ⊎-elim
-      (λ (e : 0x20 ≡ b). space-only b set t (sym e))
-      (λ (e : 0x20 < b). character-only b set t e k l)
-      (eq-or-lt-of-le h)
+  single-only : (t : List ℕ) → set < first-double → Bare onePart (shapeOf (b ∷ t) s)
+  unfolding shapeOf begunBy kindAt ifGraphic pick
+  single-only t l = by (starts s b)
+    where
+      by : {c : Start} → Starts s b c → Bare onePart (begunBy c b t s)
+      by (start.escape e) = no-control (inl (omega arith))
+      by (start.mark e) = no-control (inr e)
+      by (start.tab e) = no-control (inl (omega arith))
+      by (start.newline e) = no-control (inl (omega arith))
+      by (start.space e n) = rw e good
+      by (start.one d h u n) = rw (← (set-is d h), ← (character-part (above d h))) good
+      by (start.two d h g w) = off (sym (narrow-form set l) ∙ rw (set-is d h) w)
+      by start.unused = bad
 
   -- and what two are
-  abbrev twoPart : ℕ → ℕ → ℕ → Part
-  twoPart b d set = textPart kind.character set (b % 128 * 256 + d % 128) 2
+  abbrev twoPart : ℕ → Part
+  twoPart y = textPart kind.character set (b % 128 * 256 + y % 128) 2
 
-  double-only : (b d set : ℕ) (t : List ℕ) → (b ≡ 0x20 → ⊥) → set ≡ setAt b s → first-double ≤ set → set < no-set → Bare (twoPart b d set) (textOf b (d ∷ t) s)
-  unfolding textOf
-  double-only b d set t n k h l =
-      only-pick _ _ _ (λ e. absurd (n (eqb-true _ _ e)))
-      (λ _. by-side b (d ∷ t) (λ other i. rw (i, ← k) (two-octets set b d t (double-form set h l))))
+  double-only : (y : ℕ) (t : List ℕ) → (b ≡ 0x20 → ⊥) → first-double ≤ set → set < no-set → Bare (twoPart y) (shapeOf (b ∷ y ∷ t) s)
+  unfolding shapeOf begunBy secondOctetOf next
+  double-only y t n k l = by (starts s b)
+    where
+      by : {c : Start} → Starts s b c → Bare (twoPart y) (begunBy c b (y ∷ t) s)
+      by (start.escape e) = no-control (inl (omega arith))
+      by (start.mark e) = no-control (inr e)
+      by (start.tab e) = no-control (inl (omega arith))
+      by (start.newline e) = no-control (inl (omega arith))
+      by (start.space e w) = absurd (n e)
+      by (start.one d h u w) = off (sym (rw (← (set-is d h)) at w) ∙ wide-form set k l)
+      by (start.two d h g w) = rw (← (set-is d h)) (only-pick _ _ _ (λ _. only-pick _ _ _ (λ _. good) (λ _. bad)) (λ _. bad))
+      by start.unused = bad
 
 -- ---- the turn at a cursor
 
@@ -180,11 +147,6 @@ module _ (at : ℕ) (st to : State) (same : st .sets ≡ to .sets) (other : Turn
   quick-pick true x y h k = h refl
   quick-pick false x y h k = k refl
 
-  element-text : (b : ℕ) (t : List ℕ) {k set code octets : ℕ} → textOctet b ≡ true → Bare (textPart k set code octets) (textOf b t (st .sets))
-      → Only (textPart k set code octets) st (elementOf (b ∷ t) st)
-  element-text b t {k} {set} {code} {octets} h o =
-      subst (λ (x : Shape). Only (textPart k set code octets) st (directedOf x st)) (text-shape b t (st .sets) (text-range b h)) (directed st k set code octets o)
-
   quick-double : (b set : ℕ) (t : List ℕ) → textOctet b ≡ true → set ≡ setAt b (st .sets) → first-double ≤ set
       → Quick (elementOf (b ∷ t) st) (doubleOf at b t set to other)
   unfolding doubleOf
@@ -192,7 +154,7 @@ module _ (at : ℕ) (st to : State) (same : st .sets ≡ to .sets) (other : Turn
   quick-double b set (d ∷ t) h i k =
       quick-pick _ _ _ (λ _. as-other)
       (λ n. quick-pick _ _ _
-      (λ l. as-text _ _ _ _ (element-text b (d ∷ t) h (double-only (st .sets) b d set t (eqb-false _ _ n) i k (ltb-true _ _ l))))
+      (λ l. as-text _ _ _ _ (directed st _ _ _ _ (double-only (st .sets) b set h i d t (eqb-false _ _ n) k (ltb-true _ _ l))))
       (λ _. as-other))
 
   pub quick-turn : (t : List ℕ) → Quick (elementOf t st) (quickOf at t to other)
@@ -202,6 +164,6 @@ module _ (at : ℕ) (st to : State) (same : st .sets ≡ to .sets) (other : Turn
       let i : setAt b (to .sets) ≡ setAt b (st .sets) = ap (setAt b) (sym same) in
       quick-pick _ _ _
       (λ h. quick-pick _ _ _
-      (λ k. as-text _ _ _ _ (element-text b t h (single-only (st .sets) b (setAt b (to .sets)) t (text-range b h .0) i (ltb-true _ _ k))))
+      (λ k. as-text _ _ _ _ (directed st _ _ _ _ (single-only (st .sets) b (setAt b (to .sets)) h i t (ltb-true _ _ k))))
       (λ k. quick-double b (setAt b (to .sets)) t h i (ltb-false _ _ k)))
       (λ _. as-other)

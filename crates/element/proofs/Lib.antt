@@ -1,2 +1,3 @@
+pub mod Starts
 pub mod Steps
 pub mod Sizes

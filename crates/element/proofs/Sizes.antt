@@ -1,6 +1,7 @@
 -- An element has one octet at least, and no more than are there; the fields of its unit that mean nothing are 0; a refused one has a number
 -- above 0; and a state that is fit stays fit. Of the shape (`Shaped`) it is shown for each definition from the leaves up, with `n` the octets
--- that the element may have; of the element (`Sized`) by its shape and the direction rule.
+-- that the element may have; of the element (`Sized`) by its shape and the direction rule. On the way: escape sequences and direction marks are no
+-- characters or spaces (`escape-kind`, `mark-kind`).
 use Prim.Native.Nat.{ℕ, suc, _+_, _*_, _-_, _%_, _^_, _<_, _≤_, zero-le}
 use native.Mathlib.Omega.{arith}
 use mathlib.Core.Path.{_≡_, refl, sym}
@@ -18,16 +19,18 @@ use Rattle.charset.proofs.Laws.{set-named}
 use Rattle.charset.specs.declared.Side.{Side}
 use Rattle.charset.specs.declared.Side.the-variants.{GL, GR}
 use Rattle.state.specs.Directions.{directions, writtenOf, deeperOf, begunOf, revertedOf, stepOf}
-use Rattle.state.specs.State.{put, designatedOf}
+use Rattle.state.specs.State.{get, put, designatedOf}
 use Rattle.state.specs.declared.directions.Directions.{Directions}
 use Rattle.state.specs.declared.directions.Step.{Step}
 use Rattle.state.specs.declared.directions.Step.the-variants.{Goes, Stops}
 use Rattle.state.specs.Elements.{part, refused, next}
-use Rattle.text.specs.Text.{oneOctetOf, secondOctetOf, characterOf, textOf}
+use Rattle.text.specs.Text.{secondOctetOf}
 use Rattle.control.specs.Escape.{intermediatesOf, designatesOf, finalOf, designationOf, multiOctetOf, escapeOf}
 use Rattle.segment.specs.Segment.{segmentPart, nameOf, contentOf, bodyOf, lengthsOf, extendedOf}
 use Rattle.control.specs.Mark.{beginOf, csiOf}
 use Rattle.element.specs.Meant.{Meant, with-set, with-none, with-code, MeantPart}
+use Rattle.element.specs.Start.{Start, startIn, begunBy}
+use Rattle.element.specs.Start as start
 use Rattle.element.specs.Element.{shapeOf, steppedOf, directedOf, elementOf}
 use Rattle.state.specs.declared.Sets.{Sets}
 use Rattle.state.specs.declared.State.{State}
@@ -41,113 +44,104 @@ use Rattle.segment.specs.declared.Name.the-variants.{Ends as NameEnds, Bad}
 
 -- ---- a shape
 
--- a shape of at least one and at most n octets, and the end only where n is 0
-data Shaped (n : ℕ) : Shape → Type 0 where
-  nothing : n ≡ 0 → Shaped n Ends
-  short : {r o : ℕ} → 1 ≤ r → o ≤ n → Shaped n (Refuses r o)
-  designates : {k : ℕ} {d : Side} {c : ℕ} → 1 ≤ k → k ≤ n → allowed d c ≡ true → Shaped n (Designates k d c)
-  gives : {p : Part} → 1 ≤ p .skip + p .octets → p .skip + p .octets ≤ n → MeantPart p → Shaped n (Gives p)
+-- a shape of at least one and at most n octets, and the end only where n is 0; its unit is of no kind below `low`
+data Shaped (n low : ℕ) : Shape → Type 0 where
+  nothing : n ≡ 0 → Shaped n low Ends
+  short : {r o : ℕ} → 1 ≤ r → o ≤ n → Shaped n low (Refuses r o)
+  designates : {k : ℕ} {d : Side} {c : ℕ} → 1 ≤ k → k ≤ n → allowed d c ≡ true → Shaped n low (Designates k d c)
+  gives : {p : Part} → 1 ≤ p .skip + p .octets → p .skip + p .octets ≤ n → low ≤ p .kind → MeantPart p → Shaped n low (Gives p)
 
-module _ (n : ℕ) where
-  no : {r : ℕ} → Shaped n (refused (suc r))
+four : {n : ℕ} → 4 ≤ n → pick (eqb 3 3) 4 3 ≤ n
+unfolding pick
+four h = h
+
+three : {n : ℕ} → 3 ≤ n → (pick (eqb 1 3) 4 3 ≤ n) × (pick (eqb 2 3) 4 3 ≤ n)
+unfolding pick
+three h = (h, h)
+
+module _ {n low : ℕ} where
+  no : {r : ℕ} → Shaped n low (refused (suc r))
   no {r} = short {r = suc r} (omega arith) zero-le
 
-  either : {x y : Shape} (t : Bool) → Shaped n x → Shaped n y → Shaped n (pick t x y)
+  either : {x y : Shape} (t : Bool) → Shaped n low x → Shaped n low y → Shaped n low (pick t x y)
   unfolding pick
   either true h k = h
   either false h k = k
 
-  where-true : (e : Bool) {x y : Shape} → (e ≡ true → Shaped n x) → Shaped n y → Shaped n (pick e x y)
+  where-true : (e : Bool) {x y : Shape} → (e ≡ true → Shaped n low x) → Shaped n low y → Shaped n low (pick e x y)
   unfolding pick
   where-true true h k = h refl
   where-true false h k = k
 
   -- of the next octet
-  onward : (t : List ℕ) (f : ℕ → List ℕ → Shape) → ((b : ℕ) (u : List ℕ) → length t ≡ suc (length u) → Shaped n (f b u)) → Shaped n (next t f)
+  onward : (t : List ℕ) (f : ℕ → List ℕ → Shape) → ((b : ℕ) (u : List ℕ) → length t ≡ suc (length u) → Shaped n low (f b u))
+      → Shaped n low (next t f)
   unfolding next
   onward [] f h = no
   onward (b ∷ u) f h = h b u refl
 
-  unit : (k set code octets : ℕ) (x : Bool) → Meant k set code → 1 ≤ octets → octets ≤ n → Shaped n (Gives (part k set code 0 octets x))
-  unit k set code octets x f h g = gives {p = part k set code 0 octets x} (omega arith) (omega arith) f
+  unit : (k set code octets : ℕ) (x : Bool) → low ≤ k → Meant k set code → 1 ≤ octets → octets ≤ n
+      → Shaped n low (Gives (part k set code 0 octets x))
+  unit k set code octets x l f h g = gives {p = part k set code 0 octets x} (omega arith) (omega arith) l f
 
-  second : (set b : ℕ) (t : List ℕ) → 1 + length t ≤ n → Shaped n (secondOctetOf set b t)
+  second : low ≤ 0 → (set b : ℕ) (t : List ℕ) → 1 + length t ≤ n → Shaped n low (secondOctetOf set b t)
   unfolding secondOctetOf
-  second set b t h = onward t _ (λ d u e. either _ (either _ (unit 0 set _ 2 _ with-set (omega arith) (omega arith)) no) no)
+  second l set b t h = onward t _ (λ d u e. either _ (either _ (unit 0 set _ 2 _ l with-set (omega arith) (omega arith)) no) no)
 
-  character : (set b : ℕ) (t : List ℕ) → 1 + length t ≤ n → Shaped n (characterOf set b t)
-  unfolding characterOf
-  character set b t h =
-      let o : Shaped n (oneOctetOf set b) = unit 0 set _ 1 _ with-set (omega arith) (omega arith) in
-      either _ o (either _ (either _ (second set b t h) o) no)
-
-  text : (s : Sets) (b : ℕ) (t : List ℕ) → 1 + length t ≤ n → Shaped n (textOf b t s)
-  unfolding textOf
-  text s b t h =
-      either _ (either _ no (unit 1 0 0 1 _ (with-none (omega arith)) (omega arith) (omega arith)))
-      (either _ (character (s .gl) b t h) (character (s .gr) b t h))
-
-  intermediates : (t : List ℕ) → Shaped n (intermediatesOf t)
+  intermediates : (t : List ℕ) → Shaped n low (intermediatesOf t)
   unfolding intermediatesOf
   intermediates [] = no
   intermediates (b ∷ t) = either _ no (either _ (intermediates t) (either _ no (either _ no no)))
 
-  placed-by : (e : Bool) (d : Side) (c : ℕ) → allowed d c ≡ true → pick e 4 3 ≤ n → Shaped n (pick e (Designates 4 d c) (Designates 3 d c))
+  placed-by : (e : Bool) (d : Side) (c : ℕ) → allowed d c ≡ true → pick e 4 3 ≤ n → Shaped n low (pick e (Designates 4 d c) (Designates 3 d c))
   unfolding pick
   placed-by true d c a h = designates {k = 4} (omega arith) h a
   placed-by false d c a h = designates {k = 3} (omega arith) h a
 
-  placed : (form : ℕ) (side : Side) (last : ℕ) → pick (eqb form 3) 4 3 ≤ n → Shaped n (finalOf form side last)
+  placed : (form : ℕ) (side : Side) (last : ℕ) → pick (eqb form 3) 4 3 ≤ n → Shaped n low (finalOf form side last)
   unfolding designatesOf allowed
   placed form side last h =
       where-true (ltb (setOf form side last) no-set)
       (λ e. placed-by (eqb form 3) side (setOf form side last) (set-named form side last (ltb-true (setOf form side last) no-set e) .side) h)
       no
 
-  four : 4 ≤ n → pick (eqb 3 3) 4 3 ≤ n
-  unfolding pick
-  four h = h
-
-  three : 3 ≤ n → (pick (eqb 1 3) 4 3 ≤ n) × (pick (eqb 2 3) 4 3 ≤ n)
-  unfolding pick
-  three h = (h, h)
-
-  designation : (form : ℕ) (side : Side) (t : List ℕ) → (1 ≤ length t → pick (eqb form 3) 4 3 ≤ n) → Shaped n (designationOf form side t)
+  designation : (form : ℕ) (side : Side) (t : List ℕ) → (1 ≤ length t → pick (eqb form 3) 4 3 ≤ n) → Shaped n low (designationOf form side t)
   unfolding designationOf
   designation form side t h =
       onward t _
       (λ b u e. either _ no (either _ (intermediates u) (either _ no (either _ (placed form side b (h (omega arith))) no))))
 
-  multi-octet : (t : List ℕ) → 2 + length t ≤ n → Shaped n (multiOctetOf t)
+  multi-octet : (t : List ℕ) → 2 + length t ≤ n → Shaped n low (multiOctetOf t)
   unfolding multiOctetOf
   multi-octet t h =
       onward t _
       (λ b u e.
       either _ (designation 3 GL u (λ k. four (omega arith))) (either _ (designation 3 GR u (λ k. four (omega arith))) no))
 
-  content : (d m : ℕ) (k : Name) → 6 + m ≤ n → Shaped n (contentOf d m k)
+module _ {n low : ℕ} (few : low ≤ 2) where
+  content : (d m : ℕ) (k : Name) → 6 + m ≤ n → Shaped n low (contentOf d m k)
   unfolding contentOf
-  content d m (NameEnds k) h = either _ (either _ (gives {p = segmentPart d m (m - k - 1)} (omega arith) h with-code) no) no
+  content d m (NameEnds k) h = either _ (either _ (gives {p = segmentPart d m (m - k - 1)} (omega arith) h (omega arith) with-code) no) no
   content d m (Bad k) h = no
 
-  body : (d m : ℕ) (t : List ℕ) → 6 + length t ≤ n → Shaped n (bodyOf d m t)
+  body : (d m : ℕ) (t : List ℕ) → 6 + length t ≤ n → Shaped n low (bodyOf d m t)
   unfolding bodyOf
   body d m t h =
       where-true (leb m (length t))
       (λ e. let k : m ≤ length t = leb-true m (length t) e in content d m (nameOf (take m t) 0) (omega arith))
       no
 
-  lengths : (d : ℕ) (t : List ℕ) → 4 + length t ≤ n → Shaped n (lengthsOf d t)
+  lengths : (d : ℕ) (t : List ℕ) → 4 + length t ≤ n → Shaped n low (lengthsOf d t)
   unfolding lengthsOf
   lengths d t h = onward t _ (λ m u e. either _ no (onward u _ (λ l v k. either _ no (body d _ v (omega arith)))))
 
-  extended : (t : List ℕ) → 2 + length t ≤ n → Shaped n (extendedOf t)
+  extended : (t : List ℕ) → 2 + length t ≤ n → Shaped n low (extendedOf t)
   unfolding extendedOf
   extended t h =
       onward t _
       (λ b u e. either _ (onward u _ (λ d v k. either _ no (either _ (lengths d v (omega arith)) no))) no)
 
-  escape : (t : List ℕ) → 1 + length t ≤ n → Shaped n (escapeOf t)
+  escape : (t : List ℕ) → 1 + length t ≤ n → Shaped n low (escapeOf t)
   unfolding escapeOf
   escape t h =
       onward t _
@@ -157,28 +151,54 @@ module _ (n : ℕ) where
       (either _ (designation 2 GR u (λ k. three (omega arith) .1))
       (either _ (multi-octet u (omega arith)) (either _ (extended u (omega arith)) (either _ no no))))))
 
-  begin : (k : ℕ) (t : List ℕ) → k < kind.segment → 2 + length t ≤ n → Shaped n (beginOf k t)
+  begin : (k : ℕ) (t : List ℕ) → 2 ≤ k → k < kind.segment → 2 + length t ≤ n → Shaped n low (beginOf k t)
   unfolding beginOf
-  begin k t f h = onward t _ (λ b u e. either _ (unit k 0 0 3 _ (with-none f) (omega arith) (omega arith)) no)
+  begin k t l f h = onward t _ (λ b u e. either _ (unit k 0 0 3 _ (omega arith) (with-none f) (omega arith) (omega arith)) no)
 
-  csi : (t : List ℕ) → 1 + length t ≤ n → Shaped n (csiOf t)
+  csi : (t : List ℕ) → 1 + length t ≤ n → Shaped n low (csiOf t)
   unfolding csiOf
   csi t h =
       onward t _
       (λ b u e.
-      either _ (unit 6 0 0 2 _ (with-none (omega arith)) (omega arith) (omega arith))
-      (either _ (begin 4 u (omega arith) (omega arith)) (either _ (begin 5 u (omega arith) (omega arith)) no)))
+      either _ (unit 6 0 0 2 _ (omega arith) (with-none (omega arith)) (omega arith) (omega arith))
+      (either _ (begin 4 u (omega arith) (omega arith) (omega arith)) (either _ (begin 5 u (omega arith) (omega arith) (omega arith)) no)))
 
-  shape : (s : Sets) (t : List ℕ) → length t ≡ n → Shaped n (shapeOf t s)
+module _ {n : ℕ} (s : Sets) where
+  begun : (c : Start) (b : ℕ) (t : List ℕ) → 1 + length t ≤ n → Shaped n 0 (begunBy c b t s)
+  unfolding begunBy
+  begun start.escape b t h = escape zero-le t h
+  begun start.mark b t h = csi zero-le t h
+  begun start.tab b t h = unit kind.tab 0 0 1 _ zero-le (with-none (omega arith)) (omega arith) (omega arith)
+  begun start.newline b t h = unit kind.newline 0 0 1 _ zero-le (with-none (omega arith)) (omega arith) (omega arith)
+  begun start.space b t h = unit kind.space 0 0 1 _ zero-le (with-none (omega arith)) (omega arith) (omega arith)
+  begun (start.one d) b t h = unit kind.character (get d s) _ 1 _ zero-le with-set (omega arith) (omega arith)
+  begun (start.two d) b t h = second zero-le (get d s) b t h
+  begun start.unused b t h = no
+
+  shape : (t : List ℕ) → length t ≡ n → Shaped n 0 (shapeOf t s)
   unfolding shapeOf
-  shape s [] h = nothing (sym h)
-  shape s (b ∷ t) h =
-      let g : 1 + length t ≤ n = omega arith in
-      let one : (k : ℕ) → k < kind.segment → Shaped n (Gives (part k 0 0 0 1 false)) = λ k l. unit k 0 0 1 _ (with-none l) (omega arith) (omega arith) in
-      either _ (escape t g)
-      (either _ (csi t g)
-      (either _ (one 2 (omega arith))
-      (either _ (one 3 (omega arith)) (either _ no (either _ no (either _ (text s b t g) (either _ no (text s b t g))))))))
+  shape [] h = nothing (sym h)
+  shape (b ∷ t) h = begun (startIn s b) b t (omega arith)
+
+-- the kind of a shape's unit; no other shape is a character or space
+abbrev pub kindIn : Shape → ℕ
+kindIn Ends = kind.tab
+kindIn (Refuses n o) = kind.tab
+kindIn (Designates k d c) = kind.tab
+kindIn (Gives p) = p .kind
+
+no-text : {n : ℕ} {x : Shape} → Shaped n kind.tab x → kind.tab ≤ kindIn x
+no-text (nothing h) = omega arith
+no-text (short h k) = omega arith
+no-text (designates h k a) = omega arith
+no-text (gives h k l m) = l
+
+-- escape sequences and direction marks are no text
+pub escape-kind : (t : List ℕ) → kind.tab ≤ kindIn (escapeOf t)
+escape-kind t = no-text {n = 1 + length t} (escape (omega arith) t (omega arith))
+
+pub mark-kind : (t : List ℕ) → kind.tab ≤ kindIn (csiOf t)
+mark-kind t = no-text {n = 1 + length t} (csi (omega arith) t (omega arith))
 
 -- ---- a refusal by the direction rule has a number, and what it lets pass stays within the limit
 
@@ -253,18 +273,18 @@ module _ (n : ℕ) (st : State) where
   placed-fit GR set e f = record { left = f .left; right = e; depth = f .depth }
 
   -- the direction rule changes the directions alone
-  stepped : (p : Part) (x : Step) → Fair (st .directions) x → Shaped n (Gives p) → Sized n st (steppedOf p st x)
+  stepped : (p : Part) (x : Step) → Fair (st .directions) x → Shaped n 0 (Gives p) → Sized n st (steppedOf p st x)
   unfolding steppedOf
-  stepped p (Goes d) (goes g) (gives h k m) = of-unit h k m (λ e. record { left = e .left; right = e .right; depth = g (e .depth) })
+  stepped p (Goes d) (goes g) (gives h k l m) = of-unit h k m (λ e. record { left = e .left; right = e .right; depth = g (e .depth) })
   stepped p (Stops r) (stops g) h = of-bad g zero-le
 
-  directed : {x : Shape} → Shaped n x → Sized n st (directedOf x st)
+  directed : {x : Shape} → Shaped n 0 x → Sized n st (directedOf x st)
   unfolding directedOf
   directed (nothing h) = of-none h
   directed (short h k) = of-bad h k
   directed (designates {d = d} {c = c} h k a) = of-designation h k (placed-fit d c a)
-  directed (gives {p} h k m) =
-      stepped p (stepOf (p .text) (p .kind) (st .directions)) (fair (st .directions) (p .text) (p .kind)) (gives h k m)
+  directed (gives {p} h k l m) =
+      stepped p (stepOf (p .text) (p .kind) (st .directions)) (fair (st .directions) (p .text) (p .kind)) (gives h k l m)
 
 pub element-size : (t : List ℕ) (st : State) → Sized (length t) st (elementOf t st)
-element-size t st = directed (length t) st (shape (length t) (st .sets) t refl)
+element-size t st = directed (length t) st (shape (st .sets) t refl)

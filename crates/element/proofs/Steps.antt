@@ -1,14 +1,29 @@
--- The ladder's rules for the first octet of an element.
-use Prim.Native.Nat.{ℕ, _+_, _<_, _≤_}
-use mathlib.Core.Path.{_≡_}
+-- The ladder's rules for the first octet of an element: down the tests of what it starts, and on to the functions of `text`, whose answers are
+-- what a GL or GR octet starts.
+use Prim.Native.Nat.{ℕ, _+_, _%_, _<_, _≤_}
+use native.Mathlib.Omega.{arith}
+use mathlib.Core.Path.{_≡_, refl, _∙_}
+use mathlib.Core.Bool.{Bool, true, false}
 use mathlib.Core.List.{List, [], _∷_}
+use lib.Dec.{eqb}
 use lib.ListN.{length, getD}
-use Rattle.base.specs.Choice.{from}
+use borrow.Author.Tests.{eqb-true, lt-ltb, le-ltb, ne-eqb}
+use Rattle.base.specs.Choice.{pick, from}
+use Rattle.base.specs.Refusal as refusal
+use Rattle.base.proofs.Bools.{test}
 use Rattle.base.proofs.Ladder.{octet, ended}
+use Rattle.charset.specs.Charsets.{form-96, form-94x94, formOf}
+use Rattle.charset.specs.declared.Side.{Side}
+use Rattle.charset.specs.declared.Side.the-variants.{GL, GR}
 use Rattle.state.proofs.Steps.{steps}
+use Rattle.state.specs.Elements.{refused}
+use Rattle.state.specs.State.{get}
 use Rattle.state.specs.declared.Sets.{Sets}
 use Rattle.state.specs.declared.elements.Shape.{Shape}
+use Rattle.text.specs.Text.{graphicOf}
+use Rattle.text.specs.Functions.{characterOf, textOf}
 use Rattle.element.specs.Element.{shapeOf}
+use Rattle.element.specs.Start.{Start, one, two, unused, usedIn, characterStart, leftStart, startOf, begunBy}
 
 module _ (s : List ℕ) (at : ℕ) (sets : Sets) (r : Shape) where
   pub on-shape : at < length s → r ≡ shapeOf (getD s at 0 ∷ from (at + 1) s) sets → r ≡ shapeOf (from at s) sets
@@ -17,4 +32,40 @@ module _ (s : List ℕ) (at : ℕ) (sets : Sets) (r : Shape) where
   pub on-shape-end : length s ≤ at → r ≡ shapeOf [] sets → r ≡ shapeOf (from at s) sets
   on-shape-end h e = ended (λ (t : List ℕ). shapeOf t sets) s at r h e
 
-pub ruleset shaping = (on-shape, on-shape-end, steps)
+module _ (b : ℕ) (t : List ℕ) (s : Sets) where
+  pushed : (q : Bool) (x y : Start) → pick q (begunBy x b t s) (begunBy y b t s) ≡ begunBy (pick q x y) b t s
+  unfolding pick
+  pushed true x y = refl
+  pushed false x y = refl
+
+  character : (d : Side) → characterOf (get d s) b t ≡ begunBy (characterStart d (formOf (get d s)) b) b t s
+  unfolding characterOf characterStart usedIn begunBy pick
+  character d =
+      test (eqb (formOf (get d s)) form-96) (λ e. rw (eqb-true (formOf (get d s)) form-96 e))
+      (λ e. rw e (by (graphicOf (b % 128)) (eqb (formOf (get d s)) form-94x94)))
+    where
+      by : (u w : Bool) → pick u (pick w (begunBy (two d) b t s) (begunBy (one d) b t s)) (begunBy unused b t s)
+          ≡ begunBy (pick u (pick w (two d) (one d)) unused) b t s
+      by true true = refl
+      by true false = refl
+      by false w = refl
+
+  -- 7F
+  pub on-delete : b ≡ 0x7F → refused refusal.unused ≡ shapeOf (b ∷ t) s
+  unfolding shapeOf startOf leftStart begunBy pick
+  on-delete e = rw e
+
+  module _ (r : Shape) where
+    pub on-test : (q : Bool) (x y : Start) → r ≡ pick q (begunBy x b t s) (begunBy y b t s) → r ≡ begunBy (pick q x y) b t s
+    on-test q x y e = e ∙ pushed q x y
+
+    pub on-left : b < 0x80 → (b ≡ 0x7F → ⊥) → r ≡ textOf b t s → r ≡ begunBy (leftStart (formOf (s .gl)) b) b t s
+    unfolding textOf leftStart begunBy pick
+    on-left h n e =
+        e ∙ test (eqb b 0x20) (λ q. rw q (pushed (eqb (formOf (s .gl)) form-94x94) _ _)) (λ q. rw (q, lt-ltb b 0x80 h, ne-eqb b 0x7F n) (character GL))
+
+    pub on-right : 0x80 ≤ b → r ≡ textOf b t s → r ≡ begunBy (characterStart GR (formOf (s .gr)) b) b t s
+    unfolding textOf pick
+    on-right h e = e ∙ rw (ne-eqb b 0x20 (λ q. omega arith), le-ltb b 0x80 h) (character GR)
+
+pub ruleset shaping = (on-shape, on-shape-end, on-test, on-left, on-right, steps)

@@ -2,14 +2,7 @@
 -- the state.
 use Prim.Native.Nat.{ℕ}
 use mathlib.Core.List.{List, [], _∷_}
-use lib.Dec.{eqb, ltb}
-use Rattle.base.specs.Choice.{pick}
-use Rattle.base.specs.Refusal as refusal
-use Rattle.base.specs.Kind as kind
-use Rattle.control.specs.Escape.{escapeOf}
-use Rattle.control.specs.Mark.{csiOf}
 use Rattle.state.specs.Directions.{stepOf}
-use Rattle.state.specs.Elements.{unit, refused}
 use Rattle.state.specs.State.{designatedOf, directedTo}
 use Rattle.state.specs.declared.Sets.{Sets}
 use Rattle.state.specs.declared.State.{State}
@@ -20,19 +13,12 @@ use Rattle.state.specs.declared.elements.Shape.{Shape}
 use Rattle.state.specs.declared.elements.Shape.the-variants.{Ends, Refuses, Designates, Gives}
 use Rattle.state.specs.declared.elements.Element.{Element}
 use Rattle.state.specs.declared.elements.Element.the-variants.{End, Refused, Silent, Found}
-use Rattle.text.specs.Text.{textOf}
+use Rattle.element.specs.Start.{startIn, begunBy}
 
--- its shape, by its first octet (rules E1a, E1b, E1c)
+-- its shape, by what its first octet starts
 unfoldable pub shapeOf : List ℕ → Sets → Shape
 shapeOf [] s = Ends
-shapeOf (b ∷ t) s =
-    pick (eqb b 0x1B) (escapeOf t)
-    (pick (eqb b 0x9B) (csiOf t)
-    (pick (eqb b 0x09) (unit kind.tab 0 0 1)
-    (pick (eqb b 0x0A) (unit kind.newline 0 0 1)
-    (pick (ltb b 0x20) (refused refusal.unused)
-    (pick (eqb b 0x7F) (refused refusal.unused)
-    (pick (ltb b 0x80) (textOf b t s) (pick (ltb b 0xA0) (refused refusal.unused) (textOf b t s))))))))
+shapeOf (b ∷ t) s = begunBy (startIn s b) b t s
 
 -- a unit whose step by the direction rule is known
 unfoldable pub steppedOf : Part → State → Step → Element

@@ -1,13 +1,14 @@
 -- Each element of the grammar is one that the reader's definition takes.
 use Prim.Native.Nat.{ℕ, _+_, _*_, _-_, _/_, _%_, _≤_, _<_}
 use native.Mathlib.Omega.{arith}
-use mathlib.Core.Path.{_≡_, refl, sym, ap, _∙_, subst}
-use mathlib.Core.Bool.{Bool, true, false, cond, _&&_}
+use native.Mathlib.Nat.{not-suc-le-zero, le-of-suc-le-suc}
+use mathlib.Core.Path.{_≡_, refl, sym, ap, _∙_}
+use mathlib.Core.Bool.{Bool, true, false, cond, _&&_, true≢false}
 use mathlib.Core.List.{List, _∷_, _++_}
 use lib.Dec.{eqb, leb, ltb}
 use lib.ListN.{length, length-append}
 use lib.Seq.{take-append-seam}
-use borrow.Author.Tests.{lt-ltb, le-ltb, le-leb, ne-eqb, eq-eqb}
+use borrow.Author.Tests.{eqb-true, leb-true, lt-ltb, le-ltb, le-leb, eq-eqb}
 use Rattle.base.specs.Choice.{pick}
 use Rattle.base.proofs.Bools.{Each, _&_, each, and-left, and-right, off, test, cond-by, from-tests, tested}
 use Rattle.charset.specs.declared.Side.{Side}
@@ -16,11 +17,13 @@ use Rattle.charset.specs.Charsets.{mayUse, allowed, formOf, fitsOf, find, setOf
 use Rattle.charset.proofs.Laws.{allowed-below, left-form}
 use Rattle.state.specs.State.{on, get}
 use Rattle.state.specs.Elements.{part, next}
-use Rattle.text.specs.Text.{graphicOf, secondOctetOf, characterOf, textOf}
+use Rattle.text.specs.Text.{graphicOf, secondOctetOf}
 use Rattle.control.specs.Escape.{designatesOf, designationOf, multiOctetOf, escapeOf}
 use Rattle.segment.specs.Segment.{segmentPart, bodyOf, lengthsOf, extendedOf}
 use Rattle.control.specs.Mark.{beginOf, csiOf}
 use Rattle.element.specs.Element.{shapeOf}
+use Rattle.element.specs.Start.{usedIn, leftStart, startOf, begunBy}
+use Rattle.element.proofs.Starts.{On, graphic-low, all-used, graphic-used, starts-one, starts-two}
 use Rattle.state.specs.declared.Sets.{Sets}
 use Rattle.state.specs.declared.elements.Part.{Part}
 use Rattle.state.specs.declared.elements.Shape.the-variants.{Designates, Gives}
@@ -28,8 +31,7 @@ use Rattle.grammar.specs.Units.{TextUnit, char, space, control, tab, new
 use Rattle.grammar.specs.Grammar.{Shows, Legal}
 use Rattle.grammar.specs.Reading.{unitAt}
 use Rattle.grammar.proofs.Segment.{content}
-use Rattle.grammar.proofs.Good.{good-segment}
-use Rattle.grammar.proofs.Sound.{graphic-low}
+use Rattle.grammar.proofs.Good.{GoodSegment, good-segment}
 
 module _ (s : Sets) where
   -- ---- designations
@@ -38,7 +40,7 @@ module _ (s : Sets) where
   Starts t d c = allowed d c ≡ true → shapeOf (designation (on d c) ++ t) s ≡ Designates (length (designation (on d c))) d c
 
   starts-at : (t : List ℕ) (d : Side) → Each 15 (Starts t d)
-  unfolding allowed mayUse formOf fitsOf find setOf designation shapeOf escapeOf multiOctetOf designationOf designatesOf next pick
+  unfolding allowed mayUse formOf fitsOf find setOf designation shapeOf startOf begunBy escapeOf multiOctetOf designationOf designatesOf next pick
   starts-at t GL = (λ _. refl) & off & (λ _. refl) & off & off & off & off & off & off & off & off & off & (λ _. refl) & (λ _. refl) & (λ _. refl) & tt
   starts-at t GR =
       off & (λ _. refl) & off & (λ _. refl) & (λ _. refl) & (λ _. refl) & (λ _. refl) & (λ _. refl) & (λ _. refl) & (λ _. refl) & (λ _. refl) & (λ _. refl)
@@ -50,42 +52,11 @@ module _ (s : Sets) where
 
   -- ---- characters
 
-  shape-left : (b : ℕ) (t : List ℕ) → 0x21 ≤ b → b < 0x7F → shapeOf (b ∷ t) s ≡ characterOf (s .gl) b t
-  unfolding shapeOf textOf pick
-  shape-left b t h k =
-      rw (
-        ne-eqb b 0x1B (λ e. omega arith),
-        ne-eqb b 0x9B (λ e. omega arith),
-        ne-eqb b 0x09 (λ e. omega arith),
-        ne-eqb b 0x0A (λ e. omega arith),
-        le-ltb b 0x20 (omega arith),
-        ne-eqb b 0x7F (λ e. omega arith),
-        lt-ltb b 0x80 (omega arith),
-        ne-eqb b 0x20 (λ e. omega arith),
-      )
-
-  shape-right : (b : ℕ) (t : List ℕ) → 0xA0 ≤ b → shapeOf (b ∷ t) s ≡ characterOf (s .gr) b t
-  unfolding shapeOf textOf pick
-  shape-right b t h =
-      rw (
-        ne-eqb b 0x1B (λ e. omega arith),
-        ne-eqb b 0x9B (λ e. omega arith),
-        ne-eqb b 0x09 (λ e. omega arith),
-        ne-eqb b 0x0A (λ e. omega arith),
-        le-ltb b 0x20 (omega arith),
-        ne-eqb b 0x7F (λ e. omega arith),
-        le-ltb b 0x80 (omega arith),
-        le-ltb b 0xA0 h,
-        ne-eqb b 0x20 (λ e. omega arith),
-      )
-
-  -- the first octet on a side; a GL octet is no 20 or 7F
-  first-octet : (l : Legal s) (d : Side) (c k : ℕ) (t : List ℕ) → get d s ≡ c → 0x20 ≤ k → k ≤ 0x7F → (eqb (formOf c) 2 ≡ false → (0x21 ≤ k) × (k ≤ 0x7E))
-      → shapeOf ((top d + k) ∷ t) s ≡ characterOf c (top d + k) t
-  first-octet l GL c k t e h j r =
-      let g = r (left-form c (subst (λ (m : ℕ). allowed GL m ≡ true) e (l .left))) in
-      shape-left (0 + k) t (omega arith) (omega arith) ∙ ap (λ (m : ℕ). characterOf m (0 + k) t) e
-  first-octet l GR c k t e h j r = shape-right (128 + k) t (omega arith) ∙ ap (λ (m : ℕ). characterOf m (128 + k) t) e
+  -- the octets of a side; a GL octet is no 20 or 7F
+  on-top : (l : Legal s) (d : Side) (k : ℕ) → 0x20 ≤ k → k ≤ 0x7F → (eqb (formOf (get d s)) 2 ≡ false → (0x21 ≤ k) × (k ≤ 0x7E))
+      → On d (top d + k)
+  on-top l GL k h j r = let g = r (left-form (s .gl) (l .left)) in (omega arith, omega arith)
+  on-top l GR k h j r = omega arith
 
   abbrev charPart : ℕ → ℕ → Part
   charPart c k = part 0 c k 0 (cond (wide c) 2 1) true
@@ -98,37 +69,47 @@ module _ (s : Sets) where
   top-div GL j k h i = omega arith
   top-div GR j k h i = omega arith
 
-  starts-char : (l : Legal s) (d : Side) (c k : ℕ) (t : List ℕ) → codeUsed (formOf c) k ≡ true → get d s ≡ c
-      → shapeOf (octets d (char c k) ++ t) s ≡ Gives (charPart c k)
-  unfolding octets wide codeUsed characterOf secondOctetOf next pick
-  starts-char l d c k t u e = go (eqb (formOf c) 3) (eqb (formOf c) 2) refl refl u
+  starts-char : (l : Legal s) (d : Side) (k : ℕ) (t : List ℕ) → codeUsed (formOf (get d s)) k ≡ true
+      → shapeOf (octets d (char (get d s) k) ++ t) s ≡ Gives (charPart (get d s) k)
+  unfolding shapeOf begunBy octets wide codeUsed secondOctetOf next pick
+  starts-char l d k t u = go (eqb (formOf (get d s)) 3) (eqb (formOf (get d s)) 2) refl refl u
     where
-      go : (x y : Bool) → eqb (formOf c) 3 ≡ x → eqb (formOf c) 2 ≡ y
+      one-octet : eqb (formOf (get d s)) 3 ≡ false → (top d + k) % 128 ≡ k → On d (top d + k) → usedIn (formOf (get d s)) (top d + k) ≡ true
+          → shapeOf ((top d + k) ∷ t) s ≡ Gives (part 0 (get d s) k 0 1 true)
+      one-octet n m h v = rw (← (starts-one s (top d + k) d h v n), m)
+
+      go : (x y : Bool) → eqb (formOf (get d s)) 3 ≡ x → eqb (formOf (get d s)) 2 ≡ y
           → cond x (graphicOf (k / 256) && graphicOf (k % 256)) (cond y (leb 0x20 k && leb k 0x7F) (graphicOf k)) ≡ true
-          → shapeOf (shown x (top d) k ++ t) s ≡ Gives (part 0 c k 0 (cond x 2 1) true)
-      go true true p q u = absurd (omega tested)
-      go true false p q u =
-          let g = and-left (graphicOf (k / 256)) _ u in
-          let h = and-right (graphicOf (k / 256)) _ u in
+          → shapeOf (shown x (top d) k ++ t) s ≡ Gives (part 0 (get d s) k 0 (cond x 2 1) true)
+      go true y p q u =
+          let g = and-left (graphicOf (k / 256)) (graphicOf (k % 256)) u in
+          let h = and-right (graphicOf (k / 256)) (graphicOf (k % 256)) u in
           let a = graphic-low (k / 256) g in
           let b = graphic-low (k % 256) h in
           let m = top-mod d (k / 256) (omega arith) in
           let n = top-mod d (k % 256) (omega arith) in
           let z : k / 256 * 256 + k % 256 ≡ k = omega arith in
-          first-octet l d c (k / 256) ((top d + k % 256) ∷ t) e (omega arith) (omega arith) (λ _. a)
-          ∙ rw (q, m, n, g, h, p, eq-eqb ((top d + k % 256) / 128) ((top d + k / 256) / 128) (top-div d (k % 256) (k / 256) (omega arith) (omega arith)))
-          (ap (λ (j : ℕ). Gives (part 0 c j 0 2 true)) z)
+          rw (
+            ← (starts-two s (top d + k / 256) d (on-top l d (k / 256) (omega arith) (omega arith) (λ _. a)) (rw m g) p),
+            eq-eqb ((top d + k % 256) / 128) ((top d + k / 256) / 128) (top-div d (k % 256) (k / 256) (omega arith) (omega arith)),
+            m,
+            n,
+            h,
+          )
+          (ap (λ (j : ℕ). Gives (part 0 (get d s) j 0 2 true)) z)
       go false true p q u =
-          let b : k ≤ 0x7F = search from-tests in
-          first-octet l d c k t e (search from-tests) b (λ r. off (sym r ∙ q)) ∙ rw (q, top-mod d k b)
+          let a = leb-true 0x20 k (and-left (leb 0x20 k) (leb k 0x7F) u) in
+          let b = leb-true k 0x7F (and-right (leb 0x20 k) (leb k 0x7F) u) in
+          one-octet p (top-mod d k b) (on-top l d k a b (λ r. absurd (true≢false (sym q ∙ r)))) (all-used _ _ (eqb-true _ _ q))
       go false false p q u =
           let a = graphic-low k u in
-          first-octet l d c k t e (omega arith) (omega arith) (λ _. a) ∙ rw (q, top-mod d k (omega arith), u, p)
+          let m = top-mod d k (omega arith) in
+          one-octet p m (on-top l d k (omega arith) (omega arith) (λ _. a)) (graphic-used _ _ (rw m u))
 
   -- ---- extended segments
 
   starts-ext : (e : ℕ) (xs t : List ℕ) → good (ext e xs) ≡ true → shapeOf (octets GL (ext e xs) ++ t) s ≡ Gives (segmentPart e (length xs) (textOctets xs))
-  unfolding octets good shapeOf escapeOf extendedOf lengthsOf bodyOf next pick
+  unfolding octets good shapeOf startOf begunBy escapeOf extendedOf lengthsOf bodyOf next pick
   starts-ext e xs t g =
       let h = good-segment e xs g in
       let n : (128 + length xs / 128 - 128) * 128 + (128 + length xs % 128 - 128) ≡ length xs = omega arith in
@@ -158,8 +139,8 @@ partOf u = part (kindOf u) (fields u .0) (fields u .1) (fields u .2) (fields u .
 
 pub starts-unit : (s : Sets) (l : Legal s) (u : TextUnit) (d : Side) (t : List ℕ) → good u ≡ true → Shows u d s
     → shapeOf (octets d u ++ t) s ≡ Gives (partOf u)
-unfolding good octets wide shapeOf csiOf beginOf textOf next pick
-starts-unit s l (char c k) d t g h = starts-char s l d c k t (and-right (ltb c 15) _ g) h
+unfolding good octets wide shapeOf startOf leftStart begunBy csiOf beginOf next pick
+starts-unit s l (char c k) d t g h = rw (← h) (starts-char s l d k t (rw (← h) at (and-right (ltb c 15) (codeUsed (formOf c) k) g)))
 starts-unit s l space d t g h = rw h
 starts-unit s l (control tab) d t g h = refl
 starts-unit s l (control newline) d t g h = refl

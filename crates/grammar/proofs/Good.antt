@@ -10,7 +10,7 @@ use Rattle.base.proofs.Bools.{from-tests}
 use Rattle.charset.specs.Charsets.{form-96, form-94x94}
 use Rattle.text.specs.Text.{graphicOf}
 use Rattle.grammar.specs.Units.{ext, codeUsed, segment, mostOfSegment, good}
-use Rattle.grammar.proofs.Sound.{graphic-low}
+use Rattle.element.proofs.Starts.{graphic-low}
 
 pub one-code : (f k : ℕ) → eqb f form-94x94 ≡ false → codeUsed f k ≡ true → k ≤ 0x7F
 unfolding codeUsed

@@ -17,11 +17,14 @@ use Rattle.charset.specs.Charsets.{Named, rowOf, formOf, allowed, setOf}
 use Rattle.charset.proofs.Laws.{set-named, allowed-below}
 use Rattle.state.specs.State.{Standing, on, get}
 use Rattle.state.specs.Elements.{part, unit, next}
-use Rattle.text.specs.Text.{graphicOf, oneOctetOf, twoOctetsOf, secondOctetOf, characterOf, textOf}
+use Rattle.text.specs.Text.{graphicOf, oneOctetOf, twoOctetsOf, secondOctetOf}
 use Rattle.control.specs.Escape.{intermediatesOf, designatesOf, designationOf, multiOctetOf, escapeOf}
 use Rattle.segment.specs.Segment.{segmentPart, bodyOf, lengthsOf, extendedOf}
 use Rattle.control.specs.Mark.{beginOf, csiOf}
 use Rattle.element.specs.Element.{shapeOf}
+use Rattle.element.specs.Start.{Start, usedIn, begunBy}
+use Rattle.element.proofs.Starts.{On, Starts, starts}
+use Rattle.element.proofs.Starts as start
 use Rattle.state.specs.declared.Sets.{Sets}
 use Rattle.state.specs.declared.elements.Part.{Part}
 use Rattle.state.specs.declared.elements.Shape.{Shape}
@@ -74,11 +77,11 @@ change form d x t n b k =
       size = ap₂ (λ (f y : ℕ). length (lead f d (y ∷ []))) (n .form) (n .last) ∙ lead-size form d x b k;
     }
 
-pub graphic-low : (k : ℕ) → graphicOf k ≡ true → (0x21 ≤ k) × (k ≤ 0x7E)
-unfolding graphicOf
-graphic-low k e =
-    let h = pick-last (ltb k 0x21) (leb k 0x7E) e in
-    (ltb-false k 0x21 (h .0), leb-true k 0x7E (h .1))
+-- an octet that its set uses has a code that the set uses
+code-used : (form b : ℕ) → eqb form 3 ≡ false → usedIn form b ≡ true → 0x20 ≤ b % 128 → codeUsed form (b % 128) ≡ true
+unfolding usedIn codeUsed pick
+code-used form b n u h =
+    test (eqb form 2) (λ e. rw (n, e, le-leb 0x20 (b % 128) h, le-leb (b % 128) 0x7F (omega arith))) (λ e. rw (n, e) (rw e at u))
 
 module _ (s : Sets) where
   no : {w : List ℕ} {n : ℕ} → Sound s w (Refuses (suc n) 0)
@@ -234,32 +237,26 @@ module _ (s : Sets) where
     sound-second (y ∷ t) n u =
         by (eqb (y / 128) (b / 128)) (λ e. by (graphicOf (y % 128)) (λ v. two y t n u (eqb-true (y / 128) (b / 128) e) v) (λ _. no)) (λ _. no)
 
-    sound-character : (t : List ℕ) → Sound s (b ∷ t) (characterOf c b t)
-    unfolding characterOf codeUsed
-    sound-character t =
-        by (eqb (formOf c) 2)
-        (λ e. one t (ap (λ (f : ℕ). eqb f 3) (eqb-true (formOf c) 2 e)) (rw (eqb-true (formOf c) 2 e, le-leb 0x20 (b % 128) low, le-leb (b % 128) 0x7F (omega arith))))
-        (λ m. by (graphicOf (b % 128))
-        (λ u. by (eqb (formOf c) 3) (λ n. sound-second t n u) (λ n. one t n (rw (n, m, u)))) (λ _. no))
-
   module _ (l : Legal s) where
-    sound-text : (b : ℕ) (t : List ℕ) → 0x20 ≤ b → b < 256 → (0x80 ≤ b → 0xA0 ≤ b) → Sound s (b ∷ t) (textOf b t s)
-    unfolding textOf octets good wide unitAt unitOf
-    sound-text b t h o r =
-        is (λ x. x ∷ t) b 0x20 (by (eqb (formOf (s .gl)) 3) (λ _. no) (λ n. finds space GL t (search)))
-        (by (ltb b 0x80)
-        (λ p. sound-character GL (s .gl) b refl (allowed-below GL (s .gl) (l .left)) (omega tested) (omega tested) o t)
-        (λ p. let q = r (ltb-false b 0x80 p) in
-        sound-character GR (s .gr) b refl (allowed-below GR (s .gr) (l .right)) (omega arith) (omega arith) o t))
+    -- an octet of a side: the set there, and the octet's code
+    placed : (d : Side) (b : ℕ) → On d b → b < 256 → (get d s < 15) × (top d + b % 128 ≡ b) × (0x20 ≤ b % 128)
+    placed GL b (h, k) o = (allowed-below GL (s .gl) (l .left), omega arith, omega arith)
+    placed GR b h o = (allowed-below GR (s .gr) (l .right), omega arith, omega arith)
 
     pub sound : (b : ℕ) (t : List ℕ) → Octets (b ∷ t) → Sound s (b ∷ t) (shapeOf (b ∷ t) s)
-    unfolding shapeOf octets good unitAt unitOf
-    sound b t o =
-        is (λ x. x ∷ t) b 0x1B (sound-escape t (λ i. o (suc i)))
-        (is (λ x. x ∷ t) b 0x9B (sound-csi t)
-        (is (λ x. x ∷ t) b 0x09 (finds (control tab) GL t (search))
-        (is (λ x. x ∷ t) b 0x0A (finds (control newline) GL t (search))
-        (by (ltb b 0x20) (λ _. no)
-        (λ g. by (eqb b 0x7F) (λ _. no)
-        (λ _. by (ltb b 0x80) (λ p. sound-text b t (ltb-false b 0x20 g) (o 0) (λ h. absurd (omega tested)))
-        (λ _. by (ltb b 0xA0) (λ _. no) (λ p. sound-text b t (ltb-false b 0x20 g) (o 0) (λ _. ltb-false b 0xA0 p)))))))))
+    unfolding shapeOf begunBy octets good wide unitAt unitOf
+    sound b t o = told (starts s b)
+      where
+        told : {c : Start} → Starts s b c → Sound s (b ∷ t) (begunBy c b t s)
+        told (start.escape e) = rw e (sound-escape t (λ i. o (suc i)))
+        told (start.mark e) = rw e (sound-csi t)
+        told (start.tab e) = rw e (finds {p = part 2 0 0 0 1 false} (control tab) GL t (search))
+        told (start.newline e) = rw e (finds {p = part 3 0 0 0 1 false} (control newline) GL t (search))
+        told (start.space e n) = rw e (finds {p = part 1 0 0 0 1 true} space GL t (search))
+        told (start.one d h u n) =
+            let p = placed d b h (o 0) in
+            one d (get d s) b refl (p .0) (p .1) (p .2) (o 0) t n (code-used (formOf (get d s)) b n u (p .2))
+        told (start.two d h g w) =
+            let p = placed d b h (o 0) in
+            sound-second d (get d s) b refl (p .0) (p .1) (p .2) (o 0) t w g
+        told start.unused = no

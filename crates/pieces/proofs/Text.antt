@@ -9,6 +9,7 @@ use lib.Dec.{eqb, ltb}
 use lib.ListN.{length, getD}
 use Rattle.base.specs.Choice.{pick}
 use Rattle.base.specs.Kind as kind
+use Rattle.base.specs.Refusal as refusal
 use Rattle.base.proofs.Ladder.{on-lt, on-ge}
 use Rattle.base.proofs.Bools.{and-right, clash, test}
 use Rattle.charset.specs.Charsets.{form-94x94, no-set, formOf}
@@ -20,7 +21,7 @@ use Rattle.grammar.specs.Reading.{direct}
 use Rattle.grammar.proofs.Good.{two-code}
 use Rattle.state.specs.Directions.{directions, writtenOf, stepOf, inForceOf}
 use Rattle.state.specs.declared.directions.Directions.{Directions}
-use Rattle.state.specs.declared.directions.Step.the-variants.{Goes}
+use Rattle.state.specs.declared.directions.Step.the-variants.{Goes, Stops}
 use Rattle.pieces.specs.PieceKind as pieceKind
 use Rattle.pieces.specs.Pieces.{sideKindOf}
 
@@ -67,13 +68,24 @@ text-side d (ext e xs) t g h = absurd (omega arith)
 
 -- ---- what is in force
 
-written-keeps : (k : ℕ) (d next : Directions) → stepOf true k d ≡ Goes next → inForceOf next ≡ inForceOf d
-unfolding stepOf writtenOf pick inForceOf
-written-keeps k d next e =
-    test (d .marked) (λ a. test (eqb (d .depth) 0) (λ b. clash (cc (rw (a, b) at e))) (λ b. keeps (rw (a, b) at e))) (λ a. keeps (rw a at e))
+abbrev texted : Directions → Directions
+texted d = directions (d .depth) (d .levels) (d .marked) true
+
+-- what the direction rule lets pass, and where
+pub written-goes : (d next : Directions) → writtenOf d ≡ Goes next
+    → (texted d ≡ next) × (pick (d .marked) (pick (eqb (d .depth) 0) false true) true ≡ true)
+unfolding writtenOf pick
+written-goes d next = by (d .marked) (eqb (d .depth) 0)
   where
-    keeps : {m : Bool} → Goes (directions (d .depth) (d .levels) m true) ≡ Goes next → inForceOf next ≡ inForceOf d
-    keeps {m} e = let z : next ≡ directions (d .depth) (d .levels) m true = cc in rw z
+    by : (a b : Bool) → pick a (pick b (Stops refusal.direction) (Goes (texted d))) (Goes (texted d)) ≡ Goes next
+        → (texted d ≡ next) × (pick a (pick b false true) true ≡ true)
+    by true true e = let z : _≡_ {A = ℕ} 0 1 = cc in absurd (omega arith)
+    by true false e = (cc, refl)
+    by false b e = (cc, refl)
+
+written-keeps : (k : ℕ) (d next : Directions) → stepOf true k d ≡ Goes next → inForceOf next ≡ inForceOf d
+unfolding stepOf inForceOf pick
+written-keeps k d next e = rw (← (written-goes d next e .0))
 
 -- the step of a character or a space
 pub text-keeps : (u : TextUnit) (d next : Directions) → kindOf u < 2 → direct d u ≡ Goes next → inForceOf next ≡ inForceOf d

@@ -6,22 +6,22 @@ use native.Mathlib.Omega.{arith}
 use native.Mathlib.Nat.{mod-eq-of-lt}
 use mathlib.Core.Path.{_≡_, refl, ap, sym, _∙_}
 use mathlib.Core.Bool.{Bool, true, false, false≢true}
-use mathlib.Core.List.{List, [], _∷_}
+use mathlib.Core.List.{List, _∷_}
 use lib.Dec.{eqb, leb, ltb}
 use lib.ListN.{length, getD}
 use borrow.Author.Tests.{eqb-true, eqb-false, ltb-true, ltb-false, leb-true, leb-false, le-ltb, le-leb}
 use Rattle.base.specs.Choice.{pick, from}
 use Rattle.base.specs.Kind as kind
 use Rattle.base.specs.Limit as limit
-use Rattle.base.proofs.Ladder.{on-true, on-false, on-eq, on-ne, on-lt, on-ge, on-le, on-gt, from-octet}
+use Rattle.base.proofs.Ladder.{on-false, on-ne, on-lt, on-ge, from-octet}
 use Rattle.base.specs.declared.Unit.{Unit as UnitRecord}
 use Rattle.charset.specs.Charsets.{no-set}
 use Rattle.state.specs.Directions.{stepOf}
 use Rattle.state.specs.Elements.{part}
 use Rattle.state.specs.declared.Sets.{Sets}
-use Rattle.state.specs.declared.elements.Element.{Element}
 use Rattle.state.specs.declared.elements.Element.the-variants.{Found}
 use Rattle.element.specs.Element.{shapeOf, steppedOf, directedOf, elementOf}
+use Rattle.element.specs.Start.{startOf, begunBy}
 use Rattle.element.proofs.Sizes.{found}
 use Rattle.grammar.proofs.Places.{at-passed}
 use Rattle.units.specs.Next.{outcomeOf, nextOf}
@@ -152,11 +152,11 @@ module _ (s : List ℕ) where
         j ∙ lone-advance at k to h (rw e n) (rw e t) i
 
     tab-advance : (at : ℕ) (to : Sets) → at < length s → getD s at 0 ≡ 0x09 → turn (oneAt s at to) (cursor (at + 1) (freed to)) ≡ advanceOf s (cursor at (freed to))
-    unfolding shapeOf directedOf steppedOf stepOf textOctet kindAt ifGraphic pick
+    unfolding shapeOf startOf begunBy directedOf steppedOf stepOf textOctet kindAt ifGraphic pick
     tab-advance at to h e = blank-advance at 0x09 kind.tab to h e (λ q. omega arith) refl refl (λ _. refl)
 
     newline-advance : (at : ℕ) (to : Sets) → at < length s → getD s at 0 ≡ 0x0A → turn (oneAt s at to) (cursor (at + 1) (freed to)) ≡ advanceOf s (cursor at (freed to))
-    unfolding shapeOf directedOf steppedOf stepOf textOctet kindAt ifGraphic pick
+    unfolding shapeOf startOf begunBy directedOf steppedOf stepOf textOctet kindAt ifGraphic pick
     newline-advance at to h e = blank-advance at 0x0A kind.newline to h e (λ q. omega arith) refl refl (λ _. refl)
 
     one-advance : (at : ℕ) (to : Sets) → at < length s → singleOf (getD s at 0) to ≡ true

@@ -9,14 +9,12 @@ use lib.Dec.{leb, ltb}
 use lib.ListN.{length}
 use borrow.Author.Tests.{eq-eqb, lt-ltb, ltb-true, ltb-false, leb-true}
 use Rattle.base.specs.Choice.{pick, from}
-use Rattle.base.specs.Limit as limit
 use Rattle.base.specs.Refusal as refusal
 use Rattle.base.specs.declared.Answer.{Answer}
+use Rattle.base.proofs.Bools.{pick-last}
 use Rattle.base.proofs.Ladder.{on-eq, on-ne}
-use Rattle.charset.specs.Charsets.{no-set, allowed}
-use Rattle.charset.specs.declared.Side.the-variants.{GL, GR}
+use Rattle.charset.specs.Charsets.{no-set}
 use Rattle.element.proofs.Sizes.{Fit, silent, found}
-use Rattle.grammar.specs.Grammar.{Legal}
 use Rattle.grammar.specs.Reading.{Octets}
 use Rattle.grammar.proofs.Places.{ahead, at-end, at-refused, at-passed, step-passed}
 use Rattle.reader.specs.Step.{mayStand}
@@ -203,12 +201,10 @@ may-fit n place st = by (ltb n place) (allowed GL (st .sets .gl)) (allowed GR (s
     by false true true p q r e = (ltb-false n place p, record { left = q; right = r; depth = leb-true (st .directions .depth) limit.depth e })
 
 pub plain-first : (s : List ℕ) (place : ℕ) (state : State) → mayStand (length s) place state ≡ true → Plain s place state place state
+unfolding mayStand
 plain-first s place state e =
     let m = may-fit (length s) place state e in
     record { within = m .0; same = refl; fit = m .1 }
-
-legal-of : {st : State} → Fit st → Legal (st .sets)
-legal-of f = record { left = f .left; right = f .right }
 
 -- a piece that is no run
 other-first : (n : ℕ) (there : ℕ → State) (none : RunStep) (p : Piece) (ps : List Piece) → isRun (p .kind) ≡ false
@@ -294,18 +290,18 @@ module _ (s : List ℕ) (place : ℕ) (state : State) (k : ℕ) (st : State) (a 
       (omega arith) (λ z. omega arith) (sym (extended-same (piece a i k st) (piece i (i + w) k st) (same-kind k low .1))) in
       grown (n .head)
 
-  module _ (o : Octets s) (fit : Fit st) (settled : settledOf (st .directions) ≡ true) where
+  module _ (o : Octets s) (settled : settledOf (st .directions) ≡ true) where
     grow-ones : {first last at i : ℕ} → Single (st .sets) k first last → Ones s first last at i → Grown s place state k st a at
         → Grown s place state k st a i
     grow-ones c spans.none g = g
     grow-ones c (spans.more {i} x h l m) g =
-        grow i 1 (omega arith) (single-piece s o st (legal-of fit) i settled k _ _ low c h l m) (grow-ones c x g)
+        grow i 1 (omega arith) (single-piece s st i settled k _ _ low c h l m) (grow-ones c x g)
 
     grow-twos : {first last at i : ℕ} → Double (st .sets) k first last → Twos s first last at i → Grown s place state k st a at
         → Grown s place state k st a i
     grow-twos c spans.none g = g
     grow-twos c (spans.more {i} x h) g =
-        grow i 2 (omega arith) (double-piece s o st (legal-of fit) i settled k _ _ low c h) (grow-twos c x g)
+        grow i 2 (omega arith) (double-piece s st i settled k _ _ low c h) (grow-twos c x g)
 
     grow-text : {at i : ℕ} → TextTo s (st .sets) k at i → Grown s place state k st a at → Grown s place state k st a i
     grow-text (singly c x) g = grow-ones c (x .are) g
@@ -322,9 +318,9 @@ module _ (s : List ℕ) (place : ℕ) (state : State) (k : ℕ) (st : State) (a 
     ends-text : {at i : ℕ} → TextTo s (st .sets) k at i → pieceAt s i st .kind ≡ k → ⊥
     ends-text {i = i} (singly c x) e =
         let h = inside i e in
-        let z = single-ends s o st (legal-of fit) i k _ _ low c h e in
+        let z = single-ends s st i o k _ _ low c h e in
         x .stop h (z .0) (z .1)
-    ends-text {i = i} (doubly c x) e = x .stop (double-ends s o st (legal-of fit) i k _ _ low c (inside i e) e)
+    ends-text {i = i} (doubly c x) e = x .stop (double-ends s st i o k _ _ low c (inside i e) e)
 
     ending-one : (j : ℕ) → (j ≡ k → ⊥) → 1 ≡ endingOf k j
     ending-one j n = by (followed k j)
@@ -392,7 +388,7 @@ module _ (s : List ℕ) (place : ℕ) (state : State) (at : ℕ) (st : State) (p
       → TextTo s (st .sets) k at i → at < i → q ≡ piece at i k st
       → run ≡ shownOf (length s) q → r ≡ stepTo i st run → r ≡ runFrom s place state
   turn-quick o k i q run r low settled x l e f g =
-      turn-text s at st k st at low o (p .fit) settled q run r (still refl (head-first s at st)) x l e f g ∙ p .same
+      turn-text s at st k st at low o settled q run r (still refl (head-first s at st)) x l e f g ∙ p .same
 
   module _ (q : Piece) (is : q ≡ pieceAt s at st) (low : q .kind < 2) where
     begun-by : {x : Piece} → Step s at st x → x .kind < 2 → Begun s at x
@@ -409,11 +405,10 @@ module _ (s : List ℕ) (place : ℕ) (state : State) (at : ℕ) (st : State) (p
     turn-begun o i u run r x e f g =
         let y = run-begun in
         let n = next-piece s place state at st p q is (λ z. omega (arith, y .more, z)) in
-        let fit : Fit (q .state) = rw is (fit-piece s at st (elementAt s at st) refl (p .fit)) in
         let settled : settledOf (q .state .directions) ≡ true = rw is
-        (text-settled s o st (legal-of (p .fit)) at (omega (arith, y .more, y .within)) (lt-ltb (pieceAt s at st .kind) 2 (rw is at low))) in
+        (text-settled s st at (omega (arith, y .more, y .within)) (lt-ltb (pieceAt s at st .kind) 2 (rw is at low))) in
         let z = since-text x in
-        turn-text s at st (q .kind) (q .state) (q .start) low o fit settled u run r (grown (n .head)) x (omega (arith, y .starts, y .more, z)) e f g ∙ p .same
+        turn-text s at st (q .kind) (q .state) (q .start) low o settled u run r (grown (n .head)) x (omega (arith, y .starts, y .more, z)) e f g ∙ p .same
 
   -- all octets are read
   pub turn-over : (r : RunStep) → length s ≤ at → r ≡ stopAt at st (elementAt s at st) → r ≡ runFrom s place state

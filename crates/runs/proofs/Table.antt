@@ -10,12 +10,13 @@ use Rattle.charset.specs.Charsets.{mayUse, formOf, fitsOf, find, setOf}
 use Rattle.control.specs.Escape.{designatesOf, designationOf, multiOctetOf, escapeOf}
 use Rattle.control.specs.Mark.{beginOf, csiOf}
 use Rattle.element.specs.Element.{shapeOf, steppedOf, directedOf}
+use Rattle.element.specs.Start.{usedIn, characterStart, leftStart, startOf, begunBy}
 use Rattle.grammar.specs.Reading.{onward, elements, answerOf, checkOf}
 use Rattle.segment.specs.Segment.{nameOctetOf, nameOf, textWidthOf, contentOf, bodyOf, lengthsOf, extendedOf}
 use Rattle.state.specs.Directions.{writtenOf, deeperOf, begunOf, revertedOf, stepOf, inForceOf}
 use Rattle.state.specs.Elements.{next}
 use Rattle.state.specs.State.{put}
-use Rattle.text.specs.Text.{graphicOf, secondOctetOf, characterOf, textOf}
+use Rattle.text.specs.Text.{graphicOf, secondOctetOf}
 use Rattle.pieces.specs.Pieces.{sideKindOf, pieceKindOf, pieceOf, sameRunOf, joined, piecesFrom, piecesOf, setIn}
 use Rattle.runs.specs.Runs.{runsIn, runsOf, widthOf, bounds, shownOf, noRun, nthOf, runAt}
 use Rattle.runs.specs.declared.Bounds.{Bounds}
@@ -71,5 +72,8 @@ expected [] = []
 expected (r ∷ rs) = r .given ∷ expected rs
 
 pub table : found rows ≡ expected rows
-unfolding pick mayUse formOf fitsOf find setOf put next graphicOf secondOctetOf characterOf textOf nameOctetOf nameOf textWidthOf contentOf bodyOf lengthsOf extendedOf beginOf csiOf designatesOf designationOf multiOctetOf escapeOf writtenOf deeperOf begunOf revertedOf stepOf inForceOf shapeOf steppedOf directedOf onward elements answerOf checkOf sideKindOf pieceKindOf pieceOf sameRunOf joined piecesFrom piecesOf setIn runsIn runsOf widthOf shownOf nthOf runAt
+unfolding pick mayUse formOf fitsOf find setOf put next graphicOf secondOctetOf nameOctetOf nameOf textWidthOf contentOf bodyOf lengthsOf extendedOf
+    beginOf csiOf designatesOf designationOf multiOctetOf escapeOf writtenOf deeperOf begunOf revertedOf stepOf inForceOf usedIn characterStart
+    leftStart startOf begunBy shapeOf steppedOf directedOf onward elements answerOf checkOf sideKindOf pieceKindOf pieceOf sameRunOf joined piecesFrom
+    piecesOf setIn runsIn runsOf widthOf shownOf nthOf runAt
 table = refl

@@ -5,19 +5,21 @@ use Rattle.charset.specs.Charsets.{mayUse, allowed, formOf, fitsOf, find, setOf
 use Rattle.state.specs.State.{put}
 use Rattle.state.specs.Directions.{writtenOf, deeperOf, begunOf, revertedOf, stepOf}
 use Rattle.state.specs.Elements.{next}
-use Rattle.text.specs.Text.{graphicOf, secondOctetOf, characterOf, textOf}
+use Rattle.text.specs.Text.{graphicOf, secondOctetOf}
 use Rattle.segment.specs.Segment.{nameOctetOf, nameOf, textWidthOf, contentOf, bodyOf, lengthsOf, extendedOf}
 use Rattle.control.specs.Mark.{beginOf, csiOf}
 use Rattle.control.specs.Escape.{intermediatesOf, designatesOf, designationOf, multiOctetOf, escapeOf}
 use Rattle.element.specs.Element.{shapeOf, steppedOf, directedOf}
+use Rattle.element.specs.Start.{usedIn, characterStart, leftStart, startOf, begunBy}
 use Rattle.grammar.specs.Units.{unitOf, wide, octets, designation}
 use Rattle.grammar.specs.Reading.{onward, elements, answerOf, checkOf, unitAt, unitsOf, readingOf}
 use Rattle.shortest.specs.Writing.{stands, price, met, need, least, size, cost, choose, used, writing}
 use Rattle.shortest.specs.CheckedStrings.{table, refusals, defined, expected, answersDefined, answersExpected}
 
 pub checked-strings : (defined table ≡ expected table) × (answersDefined refusals ≡ answersExpected refusals)
-unfolding pick mayUse allowed formOf fitsOf find setOf put writtenOf deeperOf begunOf revertedOf stepOf next graphicOf secondOctetOf characterOf
-    textOf nameOctetOf nameOf textWidthOf contentOf bodyOf lengthsOf extendedOf beginOf csiOf intermediatesOf designatesOf designationOf multiOctetOf
-    escapeOf shapeOf steppedOf directedOf unitOf wide octets designation onward elements answerOf checkOf unitAt unitsOf readingOf stands price met
+unfolding pick mayUse allowed formOf fitsOf find setOf put writtenOf deeperOf begunOf revertedOf stepOf next graphicOf secondOctetOf
+    nameOctetOf nameOf textWidthOf contentOf bodyOf lengthsOf extendedOf beginOf csiOf intermediatesOf designatesOf designationOf multiOctetOf
+    escapeOf usedIn characterStart leftStart startOf begunBy shapeOf steppedOf directedOf
+    unitOf wide octets designation onward elements answerOf checkOf unitAt unitsOf readingOf stands price met
     need least size cost choose used writing
 checked-strings = (refl, refl)

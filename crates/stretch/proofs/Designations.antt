@@ -1,21 +1,22 @@
 -- A designation that is found by its octets is the reader's element: where its set is one of the fifteen, the final octet is one that the
 -- table has, and the octets before it lead to its form.
-use Prim.Native.Nat.{ℕ, suc, _+_, _-_, _<_, _≤_}
+use Prim.Native.Nat.{ℕ, _+_, _-_, _<_, _≤_}
 use native.Mathlib.Omega.{arith}
 use mathlib.Core.Path.{_≡_, refl, ap, sym, _∙_, subst}
 use mathlib.Core.Bool.{Bool, true, false}
 use mathlib.Core.List.{List, [], _∷_}
-use lib.Dec.{eqb, leb, ltb}
+use lib.Dec.{eqb}
 use lib.ListN.{length, getD}
-use borrow.Author.Tests.{eqb-true, leb-true}
+use borrow.Author.Tests.{eqb-true}
 use Rattle.base.specs.Choice.{pick, from}
 use Rattle.base.proofs.Ladder.{on-eq, on-ne, on-lt, on-ge, from-octet, from-length}
-use Rattle.charset.specs.Charsets.{form-94, form-96, form-94x94, no-set, rowOf, setOf}
+use Rattle.charset.specs.Charsets.{form-94, form-96, form-94x94, no-set, setOf}
 use Rattle.charset.specs.declared.Side.{Side}
 use Rattle.charset.specs.declared.Side.the-variants.{GL, GR}
-use Rattle.charset.proofs.Laws.{set-named, final-range}
+use Rattle.charset.proofs.Laws.{final-range}
 use Rattle.control.specs.Escape.{designatesOf, designationOf, multiOctetOf, escapeOf}
 use Rattle.element.specs.Element.{shapeOf, directedOf, elementOf}
+use Rattle.element.specs.Start.{startOf, begunBy}
 use Rattle.state.specs.Elements.{next}
 use Rattle.state.specs.State.{designatedOf}
 use Rattle.state.specs.declared.Sets.{Sets}
@@ -87,13 +88,13 @@ no = is {d = quick.absent} (λ h. absurd (omega arith))
 
 module _ (t : List ℕ) (s : Sets) where
   multi-octet : (c d : ℕ) → Is (0x1B ∷ 0x24 ∷ c ∷ d ∷ t) s (quick.multiOctetOf c d)
-  unfolding quick.multiOctetOf shapeOf escapeOf multiOctetOf next pick
+  unfolding quick.multiOctetOf shapeOf startOf begunBy escapeOf multiOctetOf next pick
   multi-octet c d =
       by (eqb c 0x28) (λ e. rw (eqb-true c 0x28 e) (is {d = quick.byFinalOf 4 form-94x94 GL d} (λ h. four-octets form-94x94 GL d h refl t)))
       (λ _. by (eqb c 0x29) (λ e. rw (eqb-true c 0x29 e) (is {d = quick.byFinalOf 4 form-94x94 GR d} (λ h. four-octets form-94x94 GR d h refl t))) (λ _. no))
 
   sequence : (b c d : ℕ) → Is (0x1B ∷ b ∷ c ∷ d ∷ t) s (quick.sequenceOf b c d)
-  unfolding quick.sequenceOf shapeOf escapeOf next pick
+  unfolding quick.sequenceOf shapeOf startOf begunBy escapeOf next pick
   sequence b c d =
       by (eqb b 0x24) (λ e. rw (eqb-true b 0x24 e) (multi-octet c d))
       (λ _. by (eqb b 0x28) (λ e. rw (eqb-true b 0x28 e) (is {d = quick.byFinalOf 3 form-94 GL c} (λ h. three-octets form-94 GL c h (λ q. omega arith) (d ∷ t))))

@@ -5,11 +5,11 @@ use mathlib.Core.Path.{_≡_, refl, ap, sym, _∙_}
 use mathlib.Core.Bool.{Bool, true, false, not}
 use mathlib.Core.List.{List, [], _∷_}
 use lib.ListN.{length, getD}
-use borrow.Author.Tests.{lt-ltb, le-ltb, le-leb}
+use borrow.Author.Tests.{lt-ltb, le-ltb}
 use Rattle.base.specs.Choice.{pick, from}
 use Rattle.base.proofs.Ladder.{ladder, on-true, on-false, on-eq, on-ne, on-ge, from-octet, from-end, from-length}
 use Rattle.charset.specs.Charsets.{form-94, form-96, form-94x94}
-use Rattle.text.specs.Text.{graphicOf}
+use Rattle.element.proofs.Starts.{graphic}
 use Rattle.stretch.specs.Characters.{graphicOn, singleOf, leadOf, oneAt, twoAt, singlesOf, pairsOf, Within, Four, Along, Spans, Filled, glOctet, grOctet}
 
 pub flip : (b : Bool) → not b ≡ pick b false true
@@ -76,19 +76,15 @@ module _ (first last : ℕ) (s : List ℕ) (at : ℕ) where
 
 -- ---- spans
 
+graphic-on : (side b : ℕ) → b / 128 ≡ side → 0x21 ≤ b % 128 → b % 128 ≤ 0x7E → graphicOn side b ≡ true
+unfolding graphicOn
+graphic-on side b e h k = sym (on-eq (b / 128) side _ _ _ e (sym (graphic (b % 128) h k)))
+
 graphic-right : (b : ℕ) → Within 0xA1 0xFE b → graphicOn 1 b ≡ true
-unfolding graphicOn graphicOf
-graphic-right b w =
-    let l = w .low in
-    let h = w .high in
-    sym (on-eq (b / 128) 1 _ _ _ (omega arith) (on-ge (b % 128) 0x21 _ _ _ (omega arith) (sym (le-leb (b % 128) 0x7E (omega arith)))))
+graphic-right b w = graphic-on 1 b (omega (arith, w .low, w .high)) (omega (arith, w .low, w .high)) (omega (arith, w .low, w .high))
 
 graphic-left : (b : ℕ) → Within 0x21 0x7E b → graphicOn 0 b ≡ true
-unfolding graphicOn graphicOf
-graphic-left b w =
-    let l = w .low in
-    let h = w .high in
-    sym (on-eq (b / 128) 0 _ _ _ (omega arith) (on-ge (b % 128) 0x21 _ _ _ (omega arith) (sym (le-leb (b % 128) 0x7E (omega arith)))))
+graphic-left b w = graphic-on 0 b (omega (arith, w .high)) (omega (arith, w .low, w .high)) (omega (arith, w .high))
 
 module _ (left right : ℕ) where
   -- four units of one octet

@@ -1,31 +1,38 @@
--- What starts where a test of the stretches passes: an element of one octet, or of two, that gives a unit and leaves the state. Of text this
--- holds in a state that text leaves as it is, and of a tab or newline in any.
+-- Each test of the stretches says which class the octet is of (`single-start`, `pair-start`), and where a class starts a unit it is an element
+-- that leaves the state: text in a state that text leaves as it is, a tab or newline in any.
 use Prim.Native.Nat.{ℕ, _+_, _*_, _/_, _%_, _<_, _≤_}
 use native.Mathlib.Omega.{arith}
-use native.Mathlib.Nat.{eq-or-lt-of-le, mod-eq-of-lt}
-use mathlib.Core.Path.{_≡_, refl, ap, sym, _∙_}
+use native.Mathlib.Nat.{eq-or-lt-of-le}
+use mathlib.Core.Path.{_≡_, refl, ap, sym, _∙_, subst}
 use mathlib.Core.Bool.{Bool, true, false, false≢true}
 use mathlib.Core.List.{List, [], _∷_}
 use mathlib.Core.Logic.{_⊎_, inl, inr, ⊎-elim}
 use lib.Dec.{eqb, ltb}
-use borrow.Author.Tests.{eqb-true, eqb-false, ltb-true, ltb-false, leb-true, le-leb}
+use borrow.Author.Tests.{eqb-true, eq-eqb, ltb-true, ltb-false, leb-true}
 use Rattle.base.specs.Choice.{pick}
 use Rattle.base.specs.Kind as kind
-use Rattle.base.proofs.Ladder.{on-true, on-false, on-eq, on-ne, on-lt, on-ge}
+use Rattle.base.proofs.Ladder.{on-true, on-false}
 use Rattle.base.proofs.Bools.{pick-both, pick-last}
 use Rattle.charset.specs.Charsets.{form-94, form-96, form-94x94, formOf}
+use Rattle.charset.specs.declared.Side.{Side}
+use Rattle.charset.specs.declared.Side.the-variants.{GL, GR}
 use Rattle.element.specs.Element.{shapeOf, steppedOf, directedOf, elementOf}
+use Rattle.element.specs.Start.{Start, usedIn, startOf, leftStart, startIn, begunBy}
+use Rattle.element.specs.Start as start
+use Rattle.element.proofs.Starts.{On, wideIn, graphic-low, graphic, graphic-used, all-used, starts-one, starts-two}
 use Rattle.grammar.specs.Reading.{size}
 use Rattle.state.specs.Directions.{directions, writtenOf, stepOf}
-use Rattle.state.specs.Elements.{part, unit, next}
+use Rattle.state.specs.Elements.{part, next}
+use Rattle.state.specs.State.{get}
+use Rattle.state.specs.declared.Sets.{Sets}
 use Rattle.state.specs.declared.State.{State}
 use Rattle.state.specs.declared.directions.Directions.{Directions}
 use Rattle.state.specs.declared.directions.Step.the-variants.{Goes}
 use Rattle.state.specs.declared.elements.Part.{Part}
-use Rattle.state.specs.declared.elements.Element.{Element}
+use Rattle.state.specs.declared.elements.Element.the-variants.{Found}
 use Rattle.state.specs.declared.elements.Shape.{Shape}
 use Rattle.state.specs.declared.elements.Shape.the-variants.{Gives}
-use Rattle.text.specs.Text.{graphicOf, oneOctetOf, twoOctetsOf, secondOctetOf, characterOf, textOf}
+use Rattle.text.specs.Text.{graphicOf, secondOctetOf}
 use Rattle.stretch.specs.Characters.{glOctet, graphicOn, grOctet, singleOf, oneAt, twoAt, settledOf}
 use Rattle.stretch.proofs.Law.{One}
 
@@ -43,17 +50,87 @@ gl-octet b e =
     let h = pick-last (ltb b 0x20) _ e in
     (ltb-false b 0x20 (h .0), ltb-true b 0x7F (h .1))
 
-graphic : (c : ℕ) → graphicOf c ≡ true → (0x21 ≤ c) × (c ≤ 0x7E)
-unfolding graphicOf
-graphic c e =
-    let h = pick-last (ltb c 0x21) _ e in
-    (ltb-false c 0x21 (h .0), leb-true c 0x7E (h .1))
-
 graphic-on : (side b : ℕ) → graphicOn side b ≡ true → (b / 128 ≡ side) × (graphicOf (b % 128) ≡ true)
 unfolding graphicOn
 graphic-on side b e =
     let h = pick-both (eqb (b / 128) side) _ e in
     (eqb-true _ _ (h .0), h .1)
+
+-- ---- which class it is
+
+data Blank : Start → Type 0 where
+  tab : Blank start.tab
+  newline : Blank start.newline
+
+-- text of one octet
+pub data Text : Start → Type 0 where
+  space : Text start.space
+  one : (d : Side) → Text (start.one d)
+
+data Lone : Start → Type 0 where
+  blank : {c : Start} → Blank c → Lone c
+  text : {c : Start} → Text c → Lone c
+
+module _ (s : Sets) (b : ℕ) where
+  blank-start : 0x09 ≤ b → b < 0x0B → Blank (startIn s b)
+  unfolding startOf pick
+  blank-start h k =
+      ⊎-elim
+      (λ (q : 0x09 ≡ b). rw (← q) tab)
+      (λ (q : 0x09 < b). let z : b ≡ 0x0A = omega arith in rw z newline)
+      (eq-or-lt-of-le h)
+
+  pub one-start : (d : Side) → On d b → usedIn (formOf (get d s)) b ≡ true → wideIn d s ≡ false → Text (startIn s b)
+  one-start d h u w = subst Text (starts-one s b d h u w) (one d)
+
+  pub left-start : 0x20 ≤ b → b < 0x7F → wideIn GL s ≡ false → Text (startIn s b)
+  unfolding startOf leftStart pick
+  left-start h k n =
+      ⊎-elim
+      (λ (q : 0x20 ≡ b). rw (← q, n) space)
+      (λ (q : 0x20 < b). one-start GL (omega arith, k) (graphic-used (formOf (s .gl)) b (graphic (b % 128) (omega arith) (omega arith))) n)
+      (eq-or-lt-of-le h)
+
+  right-start : grOctet (formOf (s .gr)) b ≡ true → Text (startIn s b)
+  unfolding grOctet
+  right-start e =
+      let l = pick-last (ltb b 0xA0) _ e in
+      let h = ltb-false b 0xA0 (l .0) in
+      ⊎-elim
+      (λ k.
+      let z : formOf (s .gr) ≡ form-96 = eqb-true _ _ (k .0) in
+      one-start GR h (all-used _ b z) (rw z))
+      (λ k.
+      let x = pick-both (eqb (formOf (s .gr)) form-94) _ (k .1) in
+      let z : formOf (s .gr) ≡ form-94 = eqb-true _ _ (x .0) in
+      one-start GR h (graphic-used _ b (graphic-on 1 b (x .1) .1)) (rw z))
+      (which (eqb (formOf (s .gr)) form-96) _ _ (l .1))
+
+  single-start : singleOf (formOf (s .gl)) (formOf (s .gr)) b ≡ true → Lone (startIn s b)
+  unfolding singleOf
+  single-start e =
+      ⊎-elim
+      (λ k. let r = gl-octet b (k .0) in text (left-start (r .0) (r .1) (pick-last (wideIn GL s) true (k .1) .0)))
+      (λ k. ⊎-elim
+      (λ x. blank (blank-start (leb-true 0x09 b (x .1)) (ltb-true b 0x0B (x .0))))
+      (λ x. text (right-start (x .1)))
+      (which (ltb b 0x0B) _ _ (k .1)))
+      (which (glOctet b) _ _ e)
+
+-- the sides by number
+abbrev pub number : Side → ℕ
+number GL = 0
+number GR = 1
+
+pair-start : (d : Side) (b : ℕ) → graphicOn (number d) b ≡ true → On d b
+pair-start GL b e =
+    let h = graphic-on 0 b e in
+    let k = graphic-low (b % 128) (h .1) in
+    (omega (arith, h .0, k .0), omega (arith, h .0, k .1))
+pair-start GR b e =
+    let h = graphic-on 1 b e in
+    let k = graphic-low (b % 128) (h .1) in
+    omega (arith, h .0, k .0)
 
 -- ---- a step that leaves the directions
 
@@ -82,161 +159,80 @@ module _ (d : Directions) (settled : settledOf d ≡ true) where
 -- ---- elements that are no text, in any state
 
 module _ (st : State) where
-  -- an element, by its shape and its step
-  leaves : (t : List ℕ) (n : ℕ) (p : Part) → Goes (st .directions) ≡ stepOf (p .text) (p .kind) (st .directions) → size p ≡ n → Gives p ≡ shapeOf t (st .sets) → One n st (elementOf t st)
+  -- a unit that the direction rule lets pass and that leaves the directions
+  leaves : (p : Part) → Goes (st .directions) ≡ stepOf (p .text) (p .kind) (st .directions) → directedOf (Gives p) st ≡ Found p st
   unfolding directedOf steppedOf
-  leaves t n p h k e = record { unit = p; is = rw (← e, ← h); sized = k }
+  leaves p h = rw (← h)
 
-  -- a tab or newline, which is no text
-  blank : (b k : ℕ) (t : List ℕ) → Goes (st .directions) ≡ stepOf false k (st .directions) → Gives (part k 0 0 0 1 false) ≡ shapeOf (b ∷ t) (st .sets) → One 1 st (elementOf (b ∷ t) st)
-  blank b k t h e = leaves (b ∷ t) 1 (part k 0 0 0 1 false) h refl e
-
-  blank-by : (b : ℕ) (t : List ℕ) → 0x09 ≤ b → b < 0x0B → One 1 st (elementOf (b ∷ t) st)
-  unfolding shapeOf stepOf pick
-  blank-by b t h k =
-      ⊎-elim
-      (λ (q : 0x09 ≡ b). blank b kind.tab t refl (rw (← q)))
-      (λ (q : 0x09 < b). let z : b ≡ 0x0A = omega arith in blank b kind.newline t refl (rw z))
-      (eq-or-lt-of-le h)
+  blank-one : (b : ℕ) (t : List ℕ) {c : Start} → Blank c → One 1 st (directedOf (begunBy c b t (st .sets)) st)
+  unfolding begunBy stepOf pick
+  blank-one b t tab = record { unit = part kind.tab 0 0 0 1 false; is = leaves _ refl; sized = refl }
+  blank-one b t newline = record { unit = part kind.newline 0 0 0 1 false; is = leaves _ refl; sized = refl }
 
   pub blank-octet : (b : ℕ) (t : List ℕ) → oneAt form-94x94 0 (b ∷ t) ≡ true → One 1 st (elementOf (b ∷ t) st)
-  unfolding oneAt singleOf grOctet pick
+  unfolding shapeOf oneAt singleOf grOctet pick
   blank-octet b t e =
       ⊎-elim
       (λ k. absurd (false≢true (k .1)))
       (λ k. ⊎-elim
-      (λ x. blank-by b t (leb-true 0x09 b (x .1)) (ltb-true b 0x0B (x .0)))
+      (λ x. blank-one b t (blank-start (st .sets) b (leb-true 0x09 b (x .1)) (ltb-true b 0x0B (x .0))))
       (λ x. absurd (false≢true (pick-last (ltb b 0xA0) _ (x .1) .1)))
       (which (ltb b 0x0B) _ _ (k .1)))
       (which (glOctet b) _ _ e)
 
--- ---- elements of a settled state
+-- ---- text, in a settled state
+
+-- a shape of n octets that gives a character or space
+pub record Written (n : ℕ) (x : Shape) : Type 0 where
+  pub unit : Part
+  pub is : x ≡ Gives unit
+  pub text : unit .text ≡ true
+  pub kind : unit .kind < 2
+  pub sized : size unit ≡ n
+
+module _ (s : Sets) (b : ℕ) where
+  pub written-one : (t : List ℕ) {c : Start} → Text c → Written 1 (begunBy c b t s)
+  unfolding begunBy
+  written-one t space = record { unit = part kind.space 0 0 0 1 true; is = refl; text = refl; kind = omega arith; sized = refl }
+  written-one t (one d) =
+      record { unit = part kind.character (get d s) (b % 128) 0 1 true; is = refl; text = refl; kind = omega arith; sized = refl }
+
+  pub written-two : (d : Side) (y : ℕ) (t : List ℕ) → wideIn d s ≡ true → On d b → graphicOf (b % 128) ≡ true → y / 128 ≡ b / 128
+      → graphicOf (y % 128) ≡ true → Written 2 (shapeOf (b ∷ y ∷ t) s)
+  unfolding shapeOf begunBy secondOctetOf next pick
+  written-two d y t w h g e i =
+      record {
+        unit = part kind.character (get d s) (b % 128 * 256 + y % 128) 0 2 true;
+        is = rw (← (starts-two s b d h g w), eq-eqb (y / 128) (b / 128) e, i);
+        text = refl;
+        kind = omega arith;
+        sized = refl;
+      }
 
 module _ (st : State) (settled : settledOf (st .directions) ≡ true) where
-  -- text
-  found : (t : List ℕ) (n : ℕ) (p : Part) → p .text ≡ true → size p ≡ n → Gives p ≡ shapeOf t (st .sets) → One n st (elementOf t st)
+  pub written-found : {n : ℕ} {x : Shape} (w : Written n x) → directedOf x st ≡ Found (w .unit) st
   unfolding stepOf
-  found t n p h k e = leaves st t n p (on-true (p .text) _ _ _ h (written (st .directions) settled)) k e
+  written-found w = rw (w .is) (leaves st (w .unit) (on-true (w .unit .text) _ _ _ (w .text) (written (st .directions) settled)))
 
-  left-shape : (b : ℕ) (t : List ℕ) (r : Shape) → 0x20 ≤ b → b < 0x7F → r ≡ textOf b t (st .sets) → r ≡ shapeOf (b ∷ t) (st .sets)
-  unfolding shapeOf
-  left-shape b t r h k e =
-      on-ne b 0x1B _ _ _ (λ q. omega arith)
-      (on-ne b 0x9B _ _ _ (λ q. omega arith)
-      (on-ne b 0x09 _ _ _ (λ q. omega arith)
-      (on-ne b 0x0A _ _ _ (λ q. omega arith)
-      (on-ge b 0x20 _ _ _ h
-      (on-ne b 0x7F _ _ _ (λ q. omega arith) (on-lt b 0x80 _ _ _ (omega arith) e))))))
+  found : {n : ℕ} {x : Shape} → Written n x → One n st (directedOf x st)
+  found w = record { unit = w .unit; is = written-found w; sized = w .sized }
 
-  right-shape : (b : ℕ) (t : List ℕ) (r : Shape) → 0xA0 ≤ b → r ≡ textOf b t (st .sets) → r ≡ shapeOf (b ∷ t) (st .sets)
-  unfolding shapeOf
-  right-shape b t r h e =
-      on-ne b 0x1B _ _ _ (λ q. omega arith)
-      (on-ne b 0x9B _ _ _ (λ q. omega arith)
-      (on-ne b 0x09 _ _ _ (λ q. omega arith)
-      (on-ne b 0x0A _ _ _ (λ q. omega arith)
-      (on-ge b 0x20 _ _ _ (omega arith)
-      (on-ne b 0x7F _ _ _ (λ q. omega arith)
-      (on-ge b 0x80 _ _ _ (omega arith) (on-ge b 0xA0 _ _ _ h e)))))))
-
-  left-text : (b : ℕ) (t : List ℕ) (r : Shape) → 0x21 ≤ b → b < 0x7F → r ≡ characterOf (st .sets .gl) b t → r ≡ shapeOf (b ∷ t) (st .sets)
-  unfolding textOf
-  left-text b t r h k e =
-      left-shape b t r (omega arith) k (on-ne b 0x20 _ _ _ (λ q. omega arith) (on-lt b 0x80 _ _ _ (omega arith) e))
-
-  right-text : (b : ℕ) (t : List ℕ) (r : Shape) → 0xA0 ≤ b → r ≡ characterOf (st .sets .gr) b t → r ≡ shapeOf (b ∷ t) (st .sets)
-  unfolding textOf
-  right-text b t r h e =
-      right-shape b t r h (on-ne b 0x20 _ _ _ (λ q. omega arith) (on-ge b 0x80 _ _ _ (omega arith) e))
-
-  -- a character of one octet
-  one-of : (set b : ℕ) (t : List ℕ) → (formOf set ≡ form-94x94 → ⊥) → graphicOf (b % 128) ≡ true → (k : Bool) → eqb (formOf set) form-96 ≡ k → oneOctetOf set b ≡ characterOf set b t
-  unfolding characterOf
-  one-of set b t h g true k = on-true _ _ _ _ k refl
-  one-of set b t h g false k = on-false _ _ _ _ k (on-true _ _ _ _ g (on-ne (formOf set) form-94x94 _ _ _ h refl))
-
-  one-96 : (set b : ℕ) (t : List ℕ) → formOf set ≡ form-96 → oneOctetOf set b ≡ characterOf set b t
-  unfolding characterOf
-  one-96 set b t h = on-eq (formOf set) form-96 _ _ _ h refl
-
-  -- and of two
-  two-of : (set b d : ℕ) (t : List ℕ) (side : ℕ) → formOf set ≡ form-94x94 → graphicOn side b ≡ true → graphicOn side d ≡ true → twoOctetsOf set b d ≡ characterOf set b (d ∷ t)
-  unfolding characterOf secondOctetOf next
-  two-of set b d t side h g i =
-      let x = graphic-on side b g in
-      let y = graphic-on side d i in
-      on-ne (formOf set) form-96 _ _ _ (λ q. omega arith)
-      (on-true _ _ _ _ (x .1)
-      (on-eq (formOf set) form-94x94 _ _ _ h (on-eq (d / 128) (b / 128) _ _ _ (y .0 ∙ sym (x .0)) (on-true _ _ _ _ (y .1) refl))))
-
-  left-one : (b : ℕ) (t : List ℕ) → (formOf (st .sets .gl) ≡ form-94x94 → ⊥) → 0x21 ≤ b → b < 0x7F → One 1 st (elementOf (b ∷ t) st)
-  unfolding graphicOf
-  left-one b t h l k =
-      let m : b % 128 ≡ b = mod-eq-of-lt (omega arith) in
-      let g : true ≡ graphicOf b = on-ge b 0x21 _ _ _ l (sym (le-leb b 0x7E (omega arith))) in
-      found (b ∷ t) 1 (part kind.character (st .sets .gl) (b % 128) 0 1 true) refl refl
-      (left-text b t _ l k (one-of (st .sets .gl) b t h (rw m (sym g)) (eqb (formOf (st .sets .gl)) form-96) refl))
-
-  space-one : (b : ℕ) (t : List ℕ) → (formOf (st .sets .gl) ≡ form-94x94 → ⊥) → b ≡ 0x20 → One 1 st (elementOf (b ∷ t) st)
-  unfolding textOf
-  space-one b t h e =
-      found (b ∷ t) 1 (part kind.space 0 0 0 1 true) refl refl
-      (left-shape b t _ (omega arith) (omega arith) (on-eq b 0x20 _ _ _ e (on-ne (formOf (st .sets .gl)) form-94x94 _ _ _ h refl)))
-
-  right-one : (b : ℕ) (t : List ℕ) → 0xA0 ≤ b → oneOctetOf (st .sets .gr) b ≡ characterOf (st .sets .gr) b t → One 1 st (elementOf (b ∷ t) st)
-  right-one b t h e = found (b ∷ t) 1 (part kind.character (st .sets .gr) (b % 128) 0 1 true) refl refl (right-text b t _ h e)
-
-  right-94 : (b : ℕ) (t : List ℕ) → 0xA0 ≤ b → formOf (st .sets .gr) ≡ form-94 → graphicOn 1 b ≡ true → One 1 st (elementOf (b ∷ t) st)
-  right-94 b t h k g =
-      right-one b t h (one-of (st .sets .gr) b t (λ q. omega arith) (graphic-on 1 b g .1) (eqb (formOf (st .sets .gr)) form-96) refl)
-
-  right-by : (b : ℕ) (t : List ℕ) → grOctet (formOf (st .sets .gr)) b ≡ true → One 1 st (elementOf (b ∷ t) st)
-  unfolding grOctet
-  right-by b t e =
-      let l = pick-last (ltb b 0xA0) _ e in
-      let h = ltb-false b 0xA0 (l .0) in
-      ⊎-elim
-      (λ k. right-one b t h (one-96 (st .sets .gr) b t (eqb-true _ _ (k .0))))
-      (λ k. let x = pick-both (eqb (formOf (st .sets .gr)) form-94) _ (k .1) in right-94 b t h (eqb-true _ _ (x .0)) (x .1))
-      (which (eqb (formOf (st .sets .gr)) form-96) _ _ (l .1))
-
-  left-by : (b : ℕ) (t : List ℕ) → (0x20 ≤ b) × (b < 0x7F) → pick (eqb (formOf (st .sets .gl)) form-94x94) false true ≡ true → One 1 st (elementOf (b ∷ t) st)
-  left-by b t h e =
-      let n : formOf (st .sets .gl) ≡ form-94x94 → ⊥ = eqb-false _ _ (pick-last (eqb (formOf (st .sets .gl)) form-94x94) true e .0) in
-      ⊎-elim
-      (λ (q : 0x20 ≡ b). space-one b t n (sym q))
-      (λ (q : 0x20 < b). left-one b t n (omega arith) (h .1))
-      (eq-or-lt-of-le (h .0))
+  lone-one : (b : ℕ) (t : List ℕ) {c : Start} → Lone c → One 1 st (directedOf (begunBy c b t (st .sets)) st)
+  lone-one b t (blank k) = blank-one st b t k
+  lone-one b t (text k) = found (written-one (st .sets) b t k)
 
   -- one octet
   pub one-octet : (b : ℕ) (t : List ℕ) → oneAt (formOf (st .sets .gl)) (formOf (st .sets .gr)) (b ∷ t) ≡ true → One 1 st (elementOf (b ∷ t) st)
-  unfolding oneAt singleOf
-  one-octet b t e =
-      ⊎-elim
-      (λ k. left-by b t (gl-octet b (k .0)) (k .1))
-      (λ k. ⊎-elim
-      (λ x. blank-by st b t (leb-true 0x09 b (x .1)) (ltb-true b 0x0B (x .0)))
-      (λ x. right-by b t (x .1))
-      (which (ltb b 0x0B) _ _ (k .1)))
-      (which (glOctet b) _ _ e)
+  unfolding shapeOf oneAt
+  one-octet b t e = lone-one b t (single-start (st .sets) b e)
 
-  -- two octets, in GL and in GR
-  pub two-left : formOf (st .sets .gl) ≡ form-94x94 → (b : ℕ) (t : List ℕ) → twoAt 0 (b ∷ t) ≡ true → One 2 st (elementOf (b ∷ t) st)
+  -- two octets of a side
+  pub two-octets : (d : Side) → wideIn d (st .sets) ≡ true → (b : ℕ) (t : List ℕ) → twoAt (number d) (b ∷ t) ≡ true
+      → One 2 st (elementOf (b ∷ t) st)
   unfolding twoAt
-  two-left k b [] e = absurd (false≢true e)
-  two-left k b (d ∷ t) e =
-      let x = pick-both (graphicOn 0 b) _ e in
-      let y = graphic-on 0 b (x .0) in
-      let z = graphic (b % 128) (y .1) in
-      found (b ∷ d ∷ t) 2 (part kind.character (st .sets .gl) (b % 128 * 256 + d % 128) 0 2 true) refl refl
-      (left-text b (d ∷ t) _ (omega (arith, y .0)) (omega (arith, y .0)) (two-of (st .sets .gl) b d t 0 k (x .0) (x .1)))
-
-  pub two-right : formOf (st .sets .gr) ≡ form-94x94 → (b : ℕ) (t : List ℕ) → twoAt 1 (b ∷ t) ≡ true → One 2 st (elementOf (b ∷ t) st)
-  unfolding twoAt
-  two-right k b [] e = absurd (false≢true e)
-  two-right k b (d ∷ t) e =
-      let x = pick-both (graphicOn 1 b) _ e in
-      let y = graphic-on 1 b (x .0) in
-      let z = graphic (b % 128) (y .1) in
-      found (b ∷ d ∷ t) 2 (part kind.character (st .sets .gr) (b % 128 * 256 + d % 128) 0 2 true) refl refl
-      (right-text b (d ∷ t) _ (omega (arith, y .0)) (two-of (st .sets .gr) b d t 1 k (x .0) (x .1)))
+  two-octets d w b [] e = absurd (false≢true e)
+  two-octets d w b (y ∷ t) e =
+      let x = pick-both (graphicOn (number d) b) _ e in
+      let g = graphic-on (number d) b (x .0) in
+      let i = graphic-on (number d) y (x .1) in
+      found (written-two (st .sets) b d y t w (pair-start d b (x .0)) (g .1) (i .0 ∙ sym (g .0)) (i .1))

@@ -1,21 +1,24 @@
 -- A stretch's octets are as many elements as it has units (`stretch-ahead`): each of the three kinds of stretch is the law of its width.
-use Prim.Native.Nat.{ℕ, _+_, _*_, _<_, _≤_}
+use Prim.Native.Nat.{ℕ, _*_, _<_, _≤_}
 use native.Mathlib.Omega.{arith}
-use mathlib.Core.Path.{_≡_, refl, ap, sym, _∙_, subst}
+use mathlib.Core.Path.{_≡_, refl, sym, subst}
 use mathlib.Core.Bool.{Bool, true, false}
-use mathlib.Core.List.{List, [], _∷_}
+use mathlib.Core.List.{List, _∷_}
 use lib.Dec.{eqb, ltb}
 use lib.ListN.{length}
-use borrow.Author.Tests.{eqb-true}
 use Rattle.base.specs.Choice.{pick, from}
 use Rattle.base.proofs.Ladder.{on-lt, on-ge, from-end, from-length}
 use Rattle.charset.specs.Charsets.{form-94x94, formOf}
+use Rattle.charset.specs.declared.Side.{Side}
+use Rattle.charset.specs.declared.Side.the-variants.{GL, GR}
 use Rattle.element.specs.Element.{elementOf}
+use Rattle.element.proofs.Starts.{wideIn}
+use Rattle.state.specs.State.{get}
 use Rattle.state.specs.declared.State.{State}
 use Rattle.stretch.specs.Characters.{leadOf, oneAt, twoAt, singlesOf, pairsOf, settledOf, stretch, twosOf, byFormsOf, stretchAt}
 use Rattle.stretch.specs.declared.characters.Stretch.{Stretch}
 use Rattle.stretch.proofs.Law.{One, Ahead, leads, lead-fits}
-use Rattle.stretch.proofs.Starts.{blank-octet, one-octet, two-left, two-right}
+use Rattle.stretch.proofs.Starts.{number, blank-octet, one-octet, two-octets}
 
 -- ---- the choice of a stretch, by what the code has found
 
@@ -70,26 +73,19 @@ module _ (s : List ℕ) (at : ℕ) (st : State) where
 
   module _ (inside : at ≤ length s) (settled : settledOf (st .directions) ≡ true) where
     -- characters of two octets on a side, which are elements of the state
-    twos : (side set : ℕ) → (formOf set ≡ form-94x94 → Passes (stretch (2 * pairsOf side (from at s)) (pairsOf side (from at s)))) → Passes (twosOf (formOf set) side (from at s))
-    twos side set f = by (eqb (formOf set) form-94x94) (λ e. f (eqb-true _ _ e)) (λ _. nothing)
-
-    lefts : formOf (st .sets .gl) ≡ form-94x94 → Passes (stretch (2 * pairsOf 0 (from at s)) (pairsOf 0 (from at s)))
-    lefts k =
-        let n : ℕ = pairsOf 0 (from at s) in
-        let f : 2 * n ≤ length (from at s) = lead-fits (twoAt 0) 1 st (two-left st settled k) (from at s) in
-        passes {r = stretch (2 * n) n}
-        (λ h. leads _ 1 st (two-left st settled k) s at n (2 * n) refl refl (omega arith) (omega (arith, f, from-length s at)))
-
-    rights : formOf (st .sets .gr) ≡ form-94x94 → Passes (stretch (2 * pairsOf 1 (from at s)) (pairsOf 1 (from at s)))
-    rights k =
-        let n : ℕ = pairsOf 1 (from at s) in
-        let f : 2 * n ≤ length (from at s) = lead-fits (twoAt 1) 1 st (two-right st settled k) (from at s) in
-        passes {r = stretch (2 * n) n}
-        (λ h. leads _ 1 st (two-right st settled k) s at n (2 * n) refl refl (omega arith) (omega (arith, f, from-length s at)))
+    twos : (d : Side) → Passes (twosOf (formOf (get d (st .sets))) (number d) (from at s))
+    twos d =
+        by (wideIn d (st .sets))
+        (λ w.
+        let n : ℕ = pairsOf (number d) (from at s) in
+        let one = two-octets st settled d w in
+        let f : 2 * n ≤ length (from at s) = lead-fits (twoAt (number d)) 1 st one (from at s) in
+        passes {r = stretch (2 * n) n} (λ h. leads _ 1 st one s at n (2 * n) refl refl (omega arith) (omega (arith, f, from-length s at))))
+        (λ _. nothing)
 
     forms : Passes (byFormsOf (formOf (st .sets .gl)) (formOf (st .sets .gr)) (from at s))
     unfolding byFormsOf
-    forms = by _ (λ _. twos 0 (st .sets .gl) lefts) (λ _. by _ (λ _. twos 1 (st .sets .gr) rights) (λ _. singles inside _ _ (one-octet st settled)))
+    forms = by _ (λ _. twos GL) (λ _. by _ (λ _. twos GR) (λ _. singles inside _ _ (one-octet st settled)))
 
   stretches : at ≤ length s → Passes (stretchAt (from at s) st)
   unfolding stretchAt

@@ -1,4 +1,4 @@
--- Characters and spaces: functions of a GL or GR octet, of the octets t after it and of the sets in force.
+-- Characters and spaces: functions of a GL or GR octet, of the octets t after it and of the set.
 use Prim.Native.Nat.{ℕ, _+_, _*_, _%_, _/_}
 use mathlib.Core.Bool.{Bool, false}
 use mathlib.Core.List.{List}
@@ -6,9 +6,7 @@ use lib.Dec.{eqb, leb, ltb}
 use Rattle.base.specs.Choice.{pick}
 use Rattle.base.specs.Refusal as refusal
 use Rattle.base.specs.Kind as kind
-use Rattle.charset.specs.Charsets.{form-96, form-94x94, formOf}
 use Rattle.state.specs.Elements.{unit, refused, next}
-use Rattle.state.specs.declared.Sets.{Sets}
 use Rattle.state.specs.declared.elements.Shape.{Shape}
 
 -- an octet less its top bit that a set of 94 uses, and either octet of a set of 94 by 94: 21 to 7E (rules E1b, E1c)
@@ -32,18 +30,3 @@ secondOctetOf set b t =
     next t
     (λ d _.
     pick (eqb (d / 128) (b / 128)) (pick (graphicOf (d % 128)) (twoOctetsOf set b d) (refused refusal.unused)) (refused refusal.unused))
-
--- a character that begins with b, of the set on the side of b: a set of 96 uses all 96 octets of the side, any other all but the first and
--- the last (rules E1b, E1c)
-unfoldable pub characterOf : ℕ → ℕ → List ℕ → Shape
-characterOf set b t =
-    pick (eqb (formOf set) form-96) (oneOctetOf set b)
-    (pick (graphicOf (b % 128))
-    (pick (eqb (formOf set) form-94x94) (secondOctetOf set b t) (oneOctetOf set b))
-    (refused refusal.unused))
-
--- a GL or GR octet b: 20 is a space under a set of one octet, and not used under one of two (rule E1b)
-unfoldable pub textOf : ℕ → List ℕ → Sets → Shape
-textOf b t s =
-    pick (eqb b 0x20) (pick (eqb (formOf (s .gl)) form-94x94) (refused refusal.unused) (spaceOf))
-    (pick (ltb b 0x80) (characterOf (s .gl) b t) (characterOf (s .gr) b t))

@@ -1,7 +1,8 @@
 // Characters and spaces.
 ghost use mathlib.Core.Path.{_≡_};
 ghost use Rattle.base.specs.Choice.{from};
-ghost use Rattle.text.specs.Text.{graphicOf, oneOctetOf, twoOctetsOf, spaceOf, secondOctetOf, characterOf, textOf};
+ghost use Rattle.text.specs.Text.{graphicOf, oneOctetOf, twoOctetsOf, spaceOf, secondOctetOf};
+ghost use Rattle.text.specs.Functions.{characterOf, textOf};
 use base::kind;
 use base::refusal;
 use charset::FORM_94X94;

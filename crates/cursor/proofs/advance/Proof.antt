@@ -1,14 +1,10 @@
 -- `cursor::advance` meets its contract. Assumes nothing.
-use mathlib.Core.Path.{_≡_, ap, _∙_}
+use mathlib.Core.Path.{ap, _∙_}
 use Rattle.cursor.specs.Cursor.{textTurn, passedOf, advanceAt}
 use Rattle.cursor.proofs.Rules.{reading}
 use borrow.Author.Needs.{needs}
 use Rattle.cursor.proofs.advance.Statement.{statement}
 use Rattle.cursor.proofs.advance.Tie as tie
-
-returns : tie.Need-returns
-unfolding advanceAt
-returns c = search reading depth 9
 
 returns-2 : tie.Need-returns-2
 unfolding advanceAt
@@ -16,20 +12,17 @@ returns-2 c =
     let h = c .text-or-element2 .ensures ∙ ap (textTurn _) (c .before .passed2 .ensures ∙ ap (passedOf _) (c .before .before .passed .ensures)) in
     search reading depth 9
 
-returns-3 : tie.Need-returns-3
-unfolding advanceAt
-returns-3 c = search reading depth 9
-
 pub advance-spec : {M : Type 1} → statement M
+unfolding advanceAt
 advance-spec =
     tie.close
     (tie.spec
     (search needs)
-    returns
+    (λ c. search reading depth 9)
     (search needs)
     (search needs)
     (search needs)
     (search needs)
     returns-2
     (search needs)
-    returns-3)
+    (λ c. search reading depth 9))

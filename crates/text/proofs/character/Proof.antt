@@ -1,6 +1,6 @@
 -- `text::character` meets its contract, test by test.
 use Rattle.state.proofs.Steps.{steps}
-use Rattle.text.specs.Text.{characterOf}
+use Rattle.text.specs.Functions.{characterOf}
 use borrow.Author.Needs.{needs}
 use Rattle.text.proofs.character.Statement.{statement}
 use Rattle.text.proofs.character.Tie as tie

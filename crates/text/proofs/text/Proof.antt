@@ -1,6 +1,6 @@
 -- `text::text` meets its contract, test by test.
 use Rattle.state.proofs.Steps.{steps}
-use Rattle.text.specs.Text.{textOf}
+use Rattle.text.specs.Functions.{textOf}
 use borrow.Author.Needs.{needs}
 use Rattle.text.proofs.text.Statement.{statement}
 use Rattle.text.proofs.text.Tie as tie
