@@ -5,12 +5,14 @@ use mathlib.Core.List.{List}
 use lib.Dec.{eqb}
 use Rattle.runs.specs.Steps.{position, firstPosition, nextRunOf}
 use Rattle.runs.specs.declared.Bounds.{Bounds}
+use Rattle.runs.specs.declared.listed.RunsStep.{RunsStep}
 use Rattle.runs.specs.declared.stepping.RunPosition.{RunPosition}
 use Rattle.state.specs.Directions.{directions}
 use Rattle.state.specs.State.{sets, state}
 use Rattle.ctext.specs.Stepping.{flagOf}
 use Rattle.ctext.specs.declared.running.RunReader.{RunReader}
 use Rattle.ctext.specs.declared.running.RunHanded.{RunHanded}
+use Rattle.ctext.specs.declared.running.RunsHanded.{RunsHanded}
 
 -- a flag is read as yes wherever it is not 0
 unfoldable pub positionIn : RunReader → RunPosition
@@ -41,3 +43,7 @@ unfoldable pub nextOf : List ℕ → RunReader → RunHanded
 nextOf s p =
     let t = nextRunOf s (positionIn p) in
     record { reader = packed (t .position); run = t .run }
+
+-- what a step of several runs gives
+unfoldable pub handedOf : RunsStep → RunsHanded
+handedOf t = record { reader = packed (t .position); answer = t .answer }

@@ -1,7 +1,10 @@
 // The runs of a string one after the other, for C: the caller keeps the string, and this value beside it.
 ghost use mathlib.Core.Path.{_≡_};
-ghost use Rattle.ctext.specs.Running.{positionIn, packed, opened, nextOf};
+ghost use lib.ListN.{length};
+ghost use Rattle.runs.specs.Listed.{storedFrom, nextRunsOf};
+ghost use Rattle.ctext.specs.Running.{positionIn, packed, opened, nextOf, handedOf};
 use crate::stepping::flag;
+use base::Answer;
 use runs::Bounds;
 use runs::stepping::RunPosition;
 use state::Sets;
@@ -84,5 +87,24 @@ pub extern "C" fn ctext_next_run(s: &[u8], p: RunReader) -> RunHanded
     RunHanded {
         reader: reader_of(position),
         run: run,
+    }
+}
+
+// The reader after several runs, and the answer: how many were stored, or why none could be.
+#[repr(C)]
+pub struct RunsHanded {
+    pub reader: RunReader,
+    pub answer: Answer,
+}
+
+// The next runs, as many as the list has room for, and where the reader then stands.
+#[no_mangle]
+pub extern "C" fn ctext_next_runs(s: &[u8], p: RunReader, out: &mut [u64]) -> RunsHanded {
+    let t = runs::listed::next_runs(s, position_in(p), out);
+    let position = t.position;
+    let answer = t.answer;
+    RunsHanded {
+        reader: reader_of(position),
+        answer: answer,
     }
 }

@@ -1,6 +1,6 @@
 -- A turn of the loop of `run_from`, on plain values: the first run, counted from the piece that was read last, is the first run from the place
 -- where the loop began; and so are the state at each later place, and what is answered where no run is left.
-use Prim.Native.Nat.{ℕ, _+_, _≤_, _<_}
+use Prim.Native.Nat.{ℕ, suc, _+_, _≤_, _<_}
 use native.Mathlib.Omega.{arith}
 use mathlib.Core.Path.{_≡_, refl, ap, sym, _∙_}
 use mathlib.Core.Bool.{Bool, true, false, false≢true}
@@ -34,7 +34,9 @@ use Rattle.pieces.specs.PieceKind as pieceKind
 use Rattle.pieces.specs.Pieces.{piece, noPiece, sideKindOf, pieceOf, isRun, sameRunOf, extendedTo, joined, endingOf, stateAt}
 use Rattle.pieces.specs.declared.Piece.{Piece}
 use Rattle.pieces.proofs.Joined.{Followed, same, over, other, followed, joined-apart, joined-same, extended-same, extended-apart}
-use Rattle.pieces.specs.Partition.{stateFrom}
+use Rattle.pieces.specs.Partition.{EndToEnd, stateFrom}
+use Rattle.pieces.specs.Partition as tile
+use Rattle.pieces.proofs.Partition.{tiled}
 use Rattle.pieces.proofs.Laws.{state-after, first-state}
 use Rattle.pieces.proofs.Step.{Step, stops, goes, step, elementAt, pieceAt, rest, fits, on-past}
 use Rattle.runs.specs.Runs.{shownOf}
@@ -182,10 +184,10 @@ module _ (s : List ℕ) (place : ℕ) (state : State) (at : ℕ) (st : State) (l
 
 -- ---- the loop of `run_from`: what is passed by its octets
 
--- no run has begun
+-- no run has begun: the first run from here is that from the start
 pub record Plain (s : List ℕ) (place : ℕ) (state : State) (at : ℕ) (st : State) : Type 0 where
   pub within : at ≤ length s
-  pub head : Head s place state at st (noPiece at)
+  pub same : runFrom s at st ≡ runFrom s place state
   pub fit : Fit st
 
 -- a position that may be
@@ -203,7 +205,7 @@ may-fit n place st = by (ltb n place) (allowed GL (st .sets .gl)) (allowed GR (s
 pub plain-first : (s : List ℕ) (place : ℕ) (state : State) → mayStand (length s) place state ≡ true → Plain s place state place state
 plain-first s place state e =
     let m = may-fit (length s) place state e in
-    record { within = m .0; head = head-first s place state; fit = m .1 }
+    record { within = m .0; same = refl; fit = m .1 }
 
 legal-of : {st : State} → Fit st → Legal (st .sets)
 legal-of f = record { left = f .left; right = f .right }
@@ -214,6 +216,15 @@ other-first : (n : ℕ) (there : ℕ → State) (none : RunStep) (p : Piece) (ps
 unfolding joined sameRunOf pick
 other-first n there none p [] e = first-other n there none p [] e
 other-first n there none p (q ∷ qs) e = rw e (first-other n there none p (q ∷ qs) e)
+
+-- the first run among pieces from a place on asks for no state before that place
+agree : (n : ℕ) (none : RunStep) {f g : ℕ → State} {a e : ℕ} {ps : List Piece} → EndToEnd a e ps → ((i : ℕ) → a ≤ i → f i ≡ g i)
+    → firstOf n f none ps ≡ firstOf n g none ps
+unfolding firstOf
+agree n none tile.none h = refl
+agree n none {f} {g} (tile.more {p} {ps} b l t) h =
+    ap (λ (x : State). pick (isRun (p .kind)) (stepTo (p .end) x (shownOf n p)) (firstOf n f none ps)) (h (p .end) (omega arith)) ∙
+    ap (λ (r : RunStep). pick (isRun (p .kind)) (stepTo (p .end) (g (p .end)) (shownOf n p)) r) (agree n none t (λ i k. h i (omega arith)))
 
 pub fit-piece : (s : List ℕ) (at : ℕ) (st : State) (e : Element) → elementAt s at st ≡ e → Fit st → Fit (pieceOf s at e .state)
 unfolding pieceOf
@@ -232,12 +243,9 @@ unfolding sameRunOf pick
 no-same k = refl
 
 module _ (s : List ℕ) (place : ℕ) (state : State) (at : ℕ) (st : State) (p : Plain s place state at st) (q : Piece) (is : q ≡ pieceAt s at st) where
-  abbrev begun : Next s place state at st (noPiece at) q 0 (p .head) is (no-ending (q .kind)) q → Head s place state (q .end) (q .state) q
-  begun n = n .head
-
   -- a piece that is passed
-  next-piece : (q .end ≡ at → ⊥) → Next s place state at st (noPiece at) q 0 (p .head) is (no-ending (q .kind)) q
-  next-piece i = turn-next s place state at st (noPiece at) q 0 (p .head) is (no-ending (q .kind)) q (omega arith) i
+  next-piece : (q .end ≡ at → ⊥) → Next s at st at st (noPiece at) q 0 (head-first s at st) is (no-ending (q .kind)) q
+  next-piece i = turn-next s at st at st (noPiece at) q 0 (head-first s at st) is (no-ending (q .kind)) q (omega arith) i
       (sym (extended-apart (noPiece at) q (no-same (q .kind))))
 
   pub record Past : Type 0 where
@@ -252,20 +260,16 @@ module _ (s : List ℕ) (place : ℕ) (state : State) (at : ℕ) (st : State) (p
         more = x .more;
         plain = record {
           within = x .within;
-          head = record {
-            starts = omega arith;
-            ends = refl;
-            later = h .later;
-            left = h .left;
-            first = no-run-first _ _ _ (q .end) (rest s (q .end) (q .state)) ∙ (sym (other-first _ _ _ q (rest s (q .end) (q .state)) n) ∙ h .first);
-          };
+          same = ap (λ (r : RunStep). firstOf (length s) (stateFrom s (q .end) (q .state)) r (rest s (q .end) (q .state))) (sym (h .left)) ∙
+              (agree (length s) (lastFrom s at st) (tiled s (suc (length s)) (q .end) (q .state) (x .within) (omega arith) .tiles) (λ i k. sym (h .later i k)) ∙
+              (sym (other-first _ _ _ q (rest s (q .end) (q .state)) n) ∙ (h .first ∙ p .same)));
           fit = rw is (fit-piece s at st (elementAt s at st) refl (p .fit));
         };
       }
 
   -- the walk stops where no piece is
   pub turn-none : (r : RunStep) → q .end ≡ at → r ≡ stopAt at st (elementAt s at st) → r ≡ runFrom s place state
-  turn-none r i e = turn-stop s place state at st (noPiece at) q 0 (p .head) is (no-ending (q .kind)) r (omega arith) i e
+  turn-none r i e = turn-stop s at st at st (noPiece at) q 0 (head-first s at st) is (no-ending (q .kind)) r (omega arith) i e ∙ p .same
 
 -- ---- a run that grows
 
@@ -382,34 +386,33 @@ module _ (s : List ℕ) (place : ℕ) (state : State) (at : ℕ) (st : State) (p
       (ap (pieceOf s at) is) (λ y. omega (arith, z .0, y)) refl in
       record { some = z .0; plain = x .plain }
 
-  module _ (o : Octets s) (inside : at < length s) where
-    -- text that leaves the state
-    pub turn-quick : (k i : ℕ) (q : Piece) (run : Bounds) (r : RunStep) → k < 2 → settledOf (st .directions) ≡ true → TextTo s (st .sets) k at i
-        → at < i → q ≡ piece at i k st
-        → run ≡ shownOf (length s) q → r ≡ stepTo i st run → r ≡ runFrom s place state
-    turn-quick k i q run r low settled x l e f g =
-        turn-text s place state k st at low o (p .fit) settled q run r (still refl (p .head)) x l e f g
+  -- text that leaves the state
+  pub turn-quick : Octets s → (k i : ℕ) (q : Piece) (run : Bounds) (r : RunStep) → k < 2 → settledOf (st .directions) ≡ true → TextTo s (st .sets) k at i
+      → at < i → q ≡ piece at i k st
+      → run ≡ shownOf (length s) q → r ≡ stepTo i st run → r ≡ runFrom s place state
+  turn-quick o k i q run r low settled x l e f g =
+      turn-text s at st k st at low o (p .fit) settled q run r (still refl (head-first s at st)) x l e f g ∙ p .same
 
-    module _ (q : Piece) (is : q ≡ pieceAt s at st) (low : q .kind < 2) where
-      begun-by : {x : Piece} → Step s at st x → x .kind < 2 → Begun s at x
-      begun-by (stops e x) h = absurd (omega arith)
-      begun-by (goes b l u e x) h = record { starts = b; more = l; within = u }
+  module _ (q : Piece) (is : q ≡ pieceAt s at st) (low : q .kind < 2) where
+    begun-by : {x : Piece} → Step s at st x → x .kind < 2 → Begun s at x
+    begun-by (stops e x) h = absurd (omega arith)
+    begun-by (goes b l u e x) h = record { starts = b; more = l; within = u }
 
-      pub run-begun : Begun s at q
-      run-begun = begun-by (rw is (step s at st)) low
+    pub run-begun : Begun s at q
+    run-begun = begun-by (rw is (step s at st)) low
 
-      -- the first text of a string, or of what a position made by hand leaves open
-      pub turn-begun : (i : ℕ) (u : Piece) (run : Bounds) (r : RunStep) → TextTo s (q .state .sets) (q .kind) (q .end) i
-          → u ≡ piece (q .start) i (q .kind) (q .state)
-          → run ≡ shownOf (length s) u → r ≡ stepTo i (q .state) run → r ≡ runFrom s place state
-      turn-begun i u run r x e f g =
-          let y = run-begun in
-          let n = next-piece s place state at st p q is (λ z. omega (arith, y .more, z)) in
-          let fit : Fit (q .state) = rw is (fit-piece s at st (elementAt s at st) refl (p .fit)) in
-          let settled : settledOf (q .state .directions) ≡ true = rw is
-          (text-settled s o st (legal-of (p .fit)) at inside (lt-ltb (pieceAt s at st .kind) 2 (rw is at low))) in
-          let z = since-text x in
-          turn-text s place state (q .kind) (q .state) (q .start) low o fit settled u run r (grown (n .head)) x (omega (arith, y .starts, y .more, z)) e f g
+    -- the first text of a string, or of what a position made by hand leaves open
+    pub turn-begun : Octets s → (i : ℕ) (u : Piece) (run : Bounds) (r : RunStep) → TextTo s (q .state .sets) (q .kind) (q .end) i
+        → u ≡ piece (q .start) i (q .kind) (q .state)
+        → run ≡ shownOf (length s) u → r ≡ stepTo i (q .state) run → r ≡ runFrom s place state
+    turn-begun o i u run r x e f g =
+        let y = run-begun in
+        let n = next-piece s place state at st p q is (λ z. omega (arith, y .more, z)) in
+        let fit : Fit (q .state) = rw is (fit-piece s at st (elementAt s at st) refl (p .fit)) in
+        let settled : settledOf (q .state .directions) ≡ true = rw is
+        (text-settled s o st (legal-of (p .fit)) at (omega (arith, y .more, y .within)) (lt-ltb (pieceAt s at st .kind) 2 (rw is at low))) in
+        let z = since-text x in
+        turn-text s at st (q .kind) (q .state) (q .start) low o fit settled u run r (grown (n .head)) x (omega (arith, y .starts, y .more, z)) e f g ∙ p .same
 
   -- all octets are read
   pub turn-over : (r : RunStep) → length s ≤ at → r ≡ stopAt at st (elementAt s at st) → r ≡ runFrom s place state

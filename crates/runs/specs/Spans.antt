@@ -49,3 +49,7 @@ pub data Double (sets : Sets) (k : ℕ) : ℕ → ℕ → Type 0 where
 pub data TextTo (s : List ℕ) (sets : Sets) (k at i : ℕ) : Type 0 where
   singly : {first last : ℕ} → Single sets k first last → OnesTo s first last at i → TextTo s sets k at i
   doubly : {first last : ℕ} → Double sets k first last → TwosTo s first last at i → TextTo s sets k at i
+
+-- a run of any kind but GL's
+abbrev pub RightTo : List ℕ → Sets → ℕ → ℕ → Type 0
+RightTo s sets at i = (k : ℕ) → (k ≡ 0 → ⊥) → TextTo s sets k at i

@@ -10,6 +10,8 @@ use charset::FORM_94X94;
 use pieces::Piece;
 use state::State;
 
+mod ends;
+pub mod listed;
 pub mod stepping;
 pub mod view;
 

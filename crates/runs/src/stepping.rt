@@ -1,25 +1,20 @@
 // The runs of a string one after the other, in one pass: a step from run to run.
 ghost use mathlib.Core.Path.{_≡_};
 ghost use mathlib.Core.Bool.{true};
-ghost use Prim.Native.Nat.{_≤_};
 ghost use lib.ListN.{length};
 ghost use Rattle.base.specs.Choice.{from};
 ghost use Rattle.element.specs.Element.{elementOf};
 ghost use Rattle.pieces.specs.Pieces.{piece};
 ghost use Rattle.reader.specs.Step.{mayStand};
-ghost use Rattle.runs.specs.Spans.{OnesTo, TwosTo, TextTo};
 ghost use Rattle.runs.specs.Steps.{firstPosition, stays, stepTo, stopAt, runFrom, knownOf, checkedFrom, nextRunOf};
 use crate::Bounds;
+use crate::ends::text_end;
 use base::Answer;
 use base::limit;
 use base::refusal;
-use charset::FORM_94X94;
-use charset::FORM_96;
 use charset::NO_SET;
-use pieces::GL_RUN;
 use pieces::Piece;
 use pieces::TAB;
-use state::Sets;
 use state::State;
 use state::elements::Element;
 use stretch::characters::settled;
@@ -73,7 +68,7 @@ fn step_to(place: usize, state: State, run: Bounds) -> RunStep
     }
 }
 
-fn run_of(start: usize, end: usize, kind: u8, state: State) -> Piece
+pub fn run_of(start: usize, end: usize, kind: u8, state: State) -> Piece
     ensures { λ r. ⌜ r ≡ piece start end kind state ⌝ }
 {
     Piece {
@@ -85,7 +80,7 @@ fn run_of(start: usize, end: usize, kind: u8, state: State) -> Piece
 }
 
 // No run is left where an element is reached.
-fn stop_at(s: &[u8], at: usize, st: State) -> RunStep
+pub fn stop_at(s: &[u8], at: usize, st: State) -> RunStep
     ensures { λ r. ⌜ r ≡ stopAt at st (elementOf (from at (now (s .entry))) st) ⌝ }
 {
     let none = Answer::refused(refusal::BAD_UNIT, 0);
@@ -99,72 +94,6 @@ fn stop_at(s: &[u8], at: usize, st: State) -> RunStep
         Element::Silent(octets, next) => step_to(at, st, crate::no_run(none)),
         Element::Found(part, next) => step_to(at, st, crate::no_run(none)),
     }
-}
-
-// The end of the octets of a span that start at a place.
-fn ones(s: &[u8], at: usize, first: u8, last: u8) -> usize
-    requires { ⌜ at ≤ length (now s) ⌝ }
-    ensures { λ r. ⌜ OnesTo (now (s .entry)) first last at r ⌝ }
-{
-    let mut i = at;
-    while i < s.len() {
-        let b = s[i];
-        if b < first {
-            return i;
-        }
-        if last < b {
-            return i;
-        }
-        i += 1;
-    }
-    i
-}
-
-// The end of the octets of a span that start at a place, two by two.
-fn twos(s: &[u8], at: usize, first: u8, last: u8) -> usize
-    requires { ⌜ at ≤ length (now s) ⌝ }
-    ensures { λ r. ⌜ TwosTo (now (s .entry)) first last at r ⌝ }
-{
-    let mut i = at;
-    while 1 < s.len() - i {
-        let b = s[i];
-        let d = s[i + 1];
-        if b < first {
-            return i;
-        }
-        if last < b {
-            return i;
-        }
-        if d < first {
-            return i;
-        }
-        if last < d {
-            return i;
-        }
-        i += 2;
-    }
-    i
-}
-
-// The end of a run of a kind that reaches a place, in a state that text leaves as it is.
-fn text_end(s: &[u8], at: usize, sets: Sets, kind: u8) -> usize
-    requires { ⌜ at ≤ length (now s) ⌝ }
-    ensures { λ r. ⌜ TextTo (now (s .entry)) sets kind at r ⌝ }
-{
-    if kind == GL_RUN {
-        if charset::form_of(sets.gl) == FORM_94X94 {
-            return twos(s, at, 0x21, 0x7E);
-        }
-        return ones(s, at, 0x20, 0x7E);
-    }
-    let form = charset::form_of(sets.gr);
-    if form == FORM_96 {
-        return ones(s, at, 0xA0, 0xFF);
-    }
-    if form == FORM_94X94 {
-        return twos(s, at, 0xA1, 0xFE);
-    }
-    ones(s, at, 0xA1, 0xFE)
 }
 
 // The first run from a place and a state on. Designations, and text that leaves the state as it is, are passed by their octets, and any other
@@ -211,7 +140,7 @@ fn run_from(s: &[u8], place: usize, state: State) -> RunStep
 }
 
 // The answer of the check, which is not asked for where it is known that it accepts.
-fn known(s: &[u8], checked: bool) -> Answer
+pub fn known(s: &[u8], checked: bool) -> Answer
     ensures { λ r. ⌜ r ≡ knownOf (now (s .entry)) checked ⌝ }
 {
     if checked {

@@ -51,27 +51,26 @@ returns c =
     ∙ c .before .before .before .before .before .before .if3 .taken in
     let text = c .before .before .before .before .text-end .ensures in
     turn-quick _ _ _ _ _ (turn .before .loop .inv) (λ i. omega (arith, turn .before .before .shared-slice-known .given i))
-    (turn .loop-test .taken) _ _ _ _ _ (rw low (side-low _)) settled text (c .before .before .before .if4 .taken)
+    _ _ _ _ _ (rw low (side-low _)) settled text (c .before .before .before .if4 .taken)
     (c .before .before .run-of .ensures) (c .before .shown .ensures) (c .step-to .ensures)
 
 text-end-requires-2 : tie.Need-text-end-requires-2 Inv-loop μ-loop
 text-end-requires-2 c κs =
     let turn = c .before .before .before .before .before .before in
-    run-begun _ _ _ _ _ (turn .before .loop .inv) (λ i. omega (arith, turn .before .before .shared-slice-known .given i)) (turn .loop-test .taken) _
-    (c .before .before .before .piece-at .ensures) (c .if5 .taken) .within
+    run-begun _ _ _ _ _ (turn .before .loop .inv) _ (c .before .before .before .piece-at .ensures) (c .if5 .taken) .within
 
 shown-requires-2 : tie.Need-shown-requires-2 Inv-loop μ-loop
 shown-requires-2 c κs =
     let turn = c .before .before .before .before .before .before .before .before in
-    let begun = run-begun _ _ _ _ _ (turn .before .loop .inv) (λ i. omega (arith, turn .before .before .shared-slice-known .given i))
-    (turn .loop-test .taken) _ (c .before .before .before .before .before .piece-at .ensures) (c .before .before .if5 .taken) in
+    let begun = run-begun _ _ _ _ _ (turn .before .loop .inv) _ (c .before .before .before .before .before .piece-at .ensures)
+    (c .before .before .if5 .taken) in
     rw (c .run-of2 .ensures) (omega (arith, begun .starts, begun .more, since-text (c .before .text-end2 .ensures)))
 
 returns-2 : tie.Need-returns-2 Inv-loop μ-loop
 returns-2 c =
     let turn = c .before .before .before .before .before .before .before .before .before .before in
-    turn-begun _ _ _ _ _ (turn .before .loop .inv) (λ i. omega (arith, turn .before .before .shared-slice-known .given i)) (turn .loop-test .taken) _
-    (c .before .before .before .before .before .before .before .piece-at .ensures) (c .before .before .before .before .if5 .taken) _ _ _ _
+    turn-begun _ _ _ _ _ (turn .before .loop .inv) _ (c .before .before .before .before .before .before .before .piece-at .ensures)
+    (c .before .before .before .before .if5 .taken) (λ i. omega (arith, turn .before .before .shared-slice-known .given i)) _ _ _ _
     (c .before .before .before .text-end2 .ensures) (c .before .before .run-of2 .ensures) (c .before .shown2 .ensures) (c .step-to2 .ensures)
 
 returns-3 : tie.Need-returns-3 Inv-loop μ-loop

@@ -1,11 +1,11 @@
--- `stepping::ones` meets its contract. The invariant: only octets of the span stand from `at` to `i`.
+-- `ends::ones` meets its contract. The invariant: only octets of the span stand from `at` to `i`.
 use Prim.Native.Nat.{_-_}
 use native.Mathlib.Omega.{arith}
 use borrow.Author.Needs.{needs}
 use lib.ListN.{length}
 use Rattle.runs.proofs.Spans.{OnesSoFar, ones-first, ones-more, ones-stop}
-use Rattle.runs.proofs.stepping.ones.Statement.{statement}
-use Rattle.runs.proofs.stepping.ones.Tie as tie
+use Rattle.runs.proofs.ends.ones.Statement.{statement}
+use Rattle.runs.proofs.ends.ones.Tie as tie
 
 abbrev Inv-loop : tie.InvT-loop
 Inv-loop s at first last i₀ i = OnesSoFar s first last at i

@@ -1,11 +1,11 @@
--- `stepping::twos` meets its contract. The invariant: only octets of the span stand from `at` to `i`, two by two.
+-- `ends::twos` meets its contract. The invariant: only octets of the span stand from `at` to `i`, two by two.
 use Prim.Native.Nat.{_-_}
 use native.Mathlib.Omega.{arith}
 use borrow.Author.Needs.{needs}
 use lib.ListN.{length}
 use Rattle.runs.proofs.Spans.{TwosSoFar, twos-first, twos-more, twos-stop}
-use Rattle.runs.proofs.stepping.twos.Statement.{statement}
-use Rattle.runs.proofs.stepping.twos.Tie as tie
+use Rattle.runs.proofs.ends.twos.Statement.{statement}
+use Rattle.runs.proofs.ends.twos.Tie as tie
 
 abbrev Inv-loop : tie.InvT-loop
 Inv-loop s at first last i₀ i = TwosSoFar s first last at i

@@ -1,0 +1,99 @@
+-- Several runs a call, into a list that the caller lends (rule R7): the runs that steps one after the other show, as many as the list has room
+-- for, each stored as one word.
+use Prim.Native.Nat.{ℕ, zero, suc, _+_, _-_, _*_, _≤_}
+use mathlib.Core.Bool.{true}
+use mathlib.Core.Path.{_≡_}
+use mathlib.Core.List.{List, [], _∷_}
+use lib.Dec.{eqb, ltb}
+use lib.ListN.{length, set}
+use Rattle.base.specs.Answers.{answer, refusedAt}
+use Rattle.base.specs.Choice.{pick}
+use Rattle.base.specs.Limit as limit
+use Rattle.base.specs.Refusal as refusal
+use Rattle.base.specs.declared.Answer.{Answer}
+use Rattle.state.specs.declared.State.{State}
+use Rattle.reader.specs.Step.{mayStand}
+use Rattle.runs.specs.Runs.{widthOf, shownOf}
+use Rattle.runs.specs.Steps.{position, runFrom, knownOf}
+use Rattle.runs.specs.declared.Bounds.{Bounds}
+use Rattle.runs.specs.declared.listed.Stand.{Stand}
+use Rattle.runs.specs.declared.listed.RunsStep.{RunsStep}
+use Rattle.runs.specs.declared.stepping.RunPosition.{RunPosition}
+
+-- ---- a run as a word
+
+-- from its lowest octet on, its start and its end in two octets each, and in one each its set, octet width and direction
+abbrev pub wordOf : Bounds → ℕ
+wordOf b = b .start + b .end * 0x10000 + (b .set * 0x100000000 + b .width * 0x10000000000 + b .direction * 0x1000000000000)
+
+-- the part that the runs of a set have in common under a direction
+abbrev pub upperOf : ℕ → ℕ → ℕ
+upperOf c direction = c * 0x100000000 + widthOf c * 0x10000000000 + direction * 0x1000000000000
+
+-- runs stored into a list from a place on, one after the other; all else in it stays
+unfoldable pub storedFrom : ℕ → List Bounds → List ℕ → List ℕ
+storedFrom k [] out = out
+storedFrom k (b ∷ bs) out = storedFrom (suc k) bs (set out k (wordOf b))
+
+-- ---- the runs that are given
+
+abbrev pub runsStep : RunPosition → Answer → RunsStep
+runsStep p a = record { position = p; answer = a }
+
+-- the runs, and the position and the answer after them
+pub record Given : Type 0 where
+  pub runs : List Bounds
+  pub step : RunsStep
+
+abbrev pub before : Bounds → Given → Given
+before b g = record { runs = b ∷ g .runs; step = g .step }
+
+-- no run: the position and the answer
+abbrev pub givesNone : RunPosition → Answer → Given
+givesNone p a = record { runs = []; step = runsStep p a }
+
+-- the answer where a step from a string of n octets shows none and k runs are given: how many they are, 0 where none is left. A refused element,
+-- which only a position made by hand can reach, is answered where no run is given; else the runs before it are, and the next call answers it
+unfoldable pub endOf : ℕ → ℕ → Answer → Answer
+endOf n k a =
+    pick (eqb k 0) (pick (eqb (a .number) refusal.bad-unit) (answer refusal.accepted n 0) a) (answer refusal.accepted n k)
+
+-- the runs from a place and a state on, m at most, where k are given before them
+unfoldable pub givenFrom : List ℕ → ℕ → ℕ → ℕ → State → Given
+givenFrom s k zero at st = givesNone (position at st true) (answer refusal.accepted (length s) k)
+givenFrom s k (suc m) at st =
+    let r = runFrom s at st in
+    pick (eqb (r .run .answer .number) refusal.accepted)
+    (before (r .run) (givenFrom s (suc k) m (r .position .place) (r .position .state)))
+    (givesNone (r .position) (endOf (length s) k (r .run .answer)))
+
+-- of accepted strings alone, as for a single step
+unfoldable pub checkedRuns : List ℕ → RunPosition → ℕ → Given
+checkedRuns s p room =
+    pick (eqb (knownOf s (p .checked) .number) refusal.accepted) (givenFrom s 0 room (p .place) (p .state))
+    (givesNone p (knownOf s (p .checked)))
+
+-- from any position, also one made by hand
+unfoldable pub nextRunsOf : List ℕ → RunPosition → ℕ → Given
+nextRunsOf s p room =
+    pick (ltb limit.octets (length s)) (givesNone p (refusedAt refusal.too-long 0))
+    (pick (mayStand (length s) (p .place) (p .state)) (checkedRuns s p room) (givesNone p (refusedAt refusal.bad-unit 0)))
+
+-- ---- where a list has come to
+
+abbrev pub stand : ℕ → ℕ → State → Stand
+stand place count st = record { place = place; count = count; state = st }
+
+-- what is still given from there on, and the list once that is stored
+abbrev pub leftOf : List ℕ → Stand → List ℕ → Given
+leftOf s l out = givenFrom s (l .count) (length out - l .count) (l .place) (l .state)
+
+abbrev pub finished : List ℕ → Stand → List ℕ → RunsStep × List ℕ
+finished s l out = (leftOf s l out .step, storedFrom (l .count) (leftOf s l out .runs) out)
+
+-- one has come from l to r, and the list from o to n: the end is the same
+pub record Onward (s : List ℕ) (l : Stand) (o : List ℕ) (r : Stand) (n : List ℕ) : Type 0 where
+  pub same : finished s r n ≡ finished s l o
+  pub may : mayStand (length s) (r .place) (r .state) ≡ true
+  pub further : l .place ≤ r .place
+  pub long : length n ≡ length o
