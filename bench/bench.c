@@ -111,11 +111,11 @@ static size_t run_next_runs(size_t i)
     static uint64_t list[LISTED_RUNS];
     struct note n = corpus.notes[i];
     size_t runs = 0;
-    ctext_runs_step step = ctext_next_runs(n.octets, n.length, ctext_open_runs(), list, LISTED_RUNS);
-    while (step.answer.count > 0) {
-        runs += step.answer.count;
+    ctext_runs_step step = {.reader = ctext_open_runs()};
+    do {
         step = ctext_next_runs(n.octets, n.length, step.reader, list, LISTED_RUNS);
-    }
+        runs += step.answer.count;
+    } while (step.answer.count > 0);
     return runs;
 }
 

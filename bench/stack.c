@@ -45,8 +45,9 @@ static void run_next_runs(void)
 {
     static ctext_runs_step step;
     static uint64_t list[3];
-    step = ctext_next_runs(text, length, ctext_open_runs(), list, 3);
-    while (step.answer.count > 0) step = ctext_next_runs(text, length, step.reader, list, 3);
+    step.reader = ctext_open_runs();
+    do step = ctext_next_runs(text, length, step.reader, list, 3);
+    while (step.answer.count > 0);
 }
 
 struct function {

@@ -57,14 +57,14 @@ static void print_run(const uint8_t *note, size_t index, uint64_t run)
 static void print_runs(const uint8_t *note, size_t n)
 {
     uint64_t runs[2];
-    ctext_runs_step step = ctext_next_runs(note, n, ctext_open_runs(), runs, 2);
+    ctext_runs_step step;
     size_t shown = 0, i;
-    while (step.answer.count > 0) {
-        for (i = 0; i < step.answer.count; i++)
-            print_run(note, shown + i, runs[i]);
-        shown += step.answer.count;
+    step.reader = ctext_open_runs();
+    do {
         step = ctext_next_runs(note, n, step.reader, runs, 2);
-    }
+        for (i = 0; i < step.answer.count; i++)
+            print_run(note, shown++, runs[i]);
+    } while (step.answer.count > 0);
 }
 
 /* The shortest form of the note, which is never longer than the note. */

@@ -264,23 +264,24 @@ typedef struct ctext_runs_step {
    a string:
 
        uint64_t runs[64];
-       ctext_runs_step step = ctext_next_runs(s, n, ctext_open_runs(), runs, 64);
-       while (step.answer.count > 0) {
-           .. runs[0] to runs[step.answer.count - 1] ..
+       ctext_runs_step step;
+       step.reader = ctext_open_runs();
+       do {
            step = ctext_next_runs(s, n, step.reader, runs, 64);
-       }
+           .. runs[0] to runs[step.answer.count - 1] ..
+       } while (step.answer.count > 0);
        .. step.answer is accepted, or the refusal of the string ..
 
    The first call checks the whole string, and each further one reads on from
-   where the reader stands, so all runs of a string take time in proportion to n
-   and to the number of calls. One word of room is enough, and n words always
-   suffice for all runs at once; a list of some dozens costs the least.
+   where the reader stands, so all runs of a string take time in proportion to
+   n. One word of room is enough, n words always hold all runs at once, and from
+   some dozens on a longer list gains little.
 
    Refused: no word is touched. A string over 65,535 octets, a reader made by
    hand that cannot be, and a refused string where checked is 0 give what they
    give for ctext_next_run, in this order, whatever the room. An element that is
    refused, which only a reader made by hand comes to, ends the runs: those
-   before it are stored, and the call that would store none gives its refusal. */
+   before it are stored, and the next call that has room gives its refusal. */
 ctext_runs_step ctext_next_runs(const uint8_t *s, size_t n, ctext_run_reader reader,
                                 uint64_t *runs, size_t room);
 
