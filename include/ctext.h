@@ -168,7 +168,7 @@ ctext_answer ctext_read(const uint8_t *s, size_t n, ctext_unit *units, size_t ro
    or GR, with no other octet between them. Three functions show the runs of a
    string, and they show the same:
    ctext_next_runs  several a call, into a list that the caller lends: for all
-                    runs of a string, in the least time
+                    runs of a string, the quickest where they are many
    ctext_next_run   the next one, by value: where no list is at hand, or not all
                     runs are wanted
    ctext_run        the one of a number: for a few runs, since each call checks
