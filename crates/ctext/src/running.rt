@@ -1,7 +1,7 @@
 // The runs of a string one after the other, for C: the caller keeps the string, and this value beside it.
 ghost use mathlib.Core.Path.{_≡_};
 ghost use lib.ListN.{length};
-ghost use Rattle.runs.specs.Listed.{storedFrom, nextRunsOf};
+ghost use Rattle.runs.specs.Listed.{listAfter, nextRunsOf};
 ghost use Rattle.ctext.specs.Running.{positionIn, packed, opened, nextOf, handedOf};
 use crate::stepping::flag;
 use base::Answer;
@@ -97,9 +97,13 @@ pub struct RunsHanded {
     pub answer: Answer,
 }
 
-// The next runs, as many as the list has room for, and where the reader then stands.
+// The next runs, as many as the list has room for, are stored from its first place on, each as a word, and the rest of it stays; and where the
+// reader then stands.
 #[no_mangle]
-pub extern "C" fn ctext_next_runs(s: &[u8], p: RunReader, out: &mut [u64]) -> RunsHanded {
+pub extern "C" fn ctext_next_runs(s: &[u8], p: RunReader, out: &mut [u64]) -> RunsHanded
+    ensures { λ r. ⌜ (r ≡ handedOf (nextRunsOf (now (s .entry)) (positionIn p) (length (now (out .entry))) .step))
+        × (now (out .exit) ≡ listAfter (nextRunsOf (now (s .entry)) (positionIn p) (length (now (out .entry))) .runs) (now (out .entry))) ⌝ }
+{
     let t = runs::listed::next_runs(s, position_in(p), out);
     let position = t.position;
     let answer = t.answer;

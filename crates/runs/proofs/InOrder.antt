@@ -14,7 +14,6 @@ use Rattle.base.specs.Answers.{refusedAt}
 use Rattle.base.specs.Choice.{pick, from}
 use Rattle.base.specs.Limit as limit
 use Rattle.base.specs.Refusal as refusal
-use Rattle.base.specs.declared.Answer.{Answer}
 use Rattle.element.proofs.Sizes.{Fit}
 use Rattle.grammar.specs.Reading.{Elements, checkOf, noneRefused}
 use Rattle.grammar.proofs.Places.{Ahead, ends, passes, reads, ahead-from, from-start}
@@ -24,13 +23,11 @@ use Rattle.reader.specs.Step.{mayStand}
 use Rattle.reader.proofs.Whole.{may-stand, fresh-fit}
 use Rattle.state.specs.State.{fresh}
 use Rattle.state.specs.declared.State.{State}
-use Rattle.state.specs.declared.elements.Element.{Element}
-use Rattle.state.specs.declared.elements.Element.the-variants.{End, Refused, Silent, Found}
-use Rattle.pieces.specs.Pieces.{pieceOf, isRun, sameRunOf, longer, joined, piecesFrom, piecesOf}
+use Rattle.pieces.specs.Pieces.{isRun, sameRunOf, longer, joined, piecesFrom, piecesOf}
 use Rattle.pieces.specs.declared.Piece.{Piece}
 use Rattle.pieces.specs.Partition.{stateFrom}
 use Rattle.pieces.proofs.Laws.{StateAfter, state-after, first-state}
-use Rattle.pieces.proofs.Step.{Step, stops, goes, step, elementAt, pieceAt, rest, noRefusal}
+use Rattle.pieces.proofs.Step.{Step, stops, goes, step, elementAt, rest, noRefusal}
 use Rattle.runs.specs.Runs.{runsIn, runsOf, shownOf, noRun, nthOf, runAt}
 use Rattle.runs.specs.Steps.{firstPosition, stays, stepTo, stopAt, lastOf, firstOf, runFrom, knownOf, checkedFrom, nextRunOf, positionAfter}
 use Rattle.runs.specs.declared.stepping.RunPosition.{RunPosition}
@@ -138,12 +135,12 @@ last-done s (reads t m e a) h f n = last-done s a (t .fits) (t .fit f) n
 -- ---- the steps of an accepted string
 
 -- what a check that accepts says
-record Good (s : List ℕ) : Type 0 where
-  accepted : eqb (checkOf s .number) refusal.accepted ≡ true
-  short : length s ≤ limit.octets
-  clear : noRefusal s 0 fresh ≡ true
+pub record Good (s : List ℕ) : Type 0 where
+  pub accepted : eqb (checkOf s .number) refusal.accepted ≡ true
+  pub short : length s ≤ limit.octets
+  pub clear : noRefusal s 0 fresh ≡ true
 
-good : (s : List ℕ) → eqb (checkOf s .number) refusal.accepted ≡ true → Good s
+pub good : (s : List ℕ) → eqb (checkOf s .number) refusal.accepted ≡ true → Good s
 unfolding checkOf pick from
 good s e = by (ltb limit.octets (length s)) refl
   where
@@ -154,28 +151,32 @@ good s e = by (ltb limit.octets (length s)) refl
         record { accepted = e; short = ltb-false limit.octets (length s) l; clear = zero-none s 0 (from-start s) z }
 
 -- a position from which the runs are those of the string from number k on
-record Stands (s : List ℕ) (k : ℕ) (p : RunPosition) : Type 0 where
-  within : p .place ≤ length s
-  fit : Fit (p .state)
-  clear : noRefusal s (p .place) (p .state) ≡ true
-  runs : (j : ℕ) → nthOf (length s) j (runsIn (rest s (p .place) (p .state))) ≡ nthOf (length s) (k + j) (runsOf s)
+pub record Stands (s : List ℕ) (k : ℕ) (p : RunPosition) : Type 0 where
+  pub within : p .place ≤ length s
+  pub fit : Fit (p .state)
+  pub clear : noRefusal s (p .place) (p .state) ≡ true
+  pub runs : (j : ℕ) → nthOf (length s) j (runsIn (rest s (p .place) (p .state))) ≡ nthOf (length s) (k + j) (runsOf s)
 
 -- the k-th run is shown, and the position then stands before the next
-record Stepped (s : List ℕ) (k : ℕ) (r : RunStep) : Type 0 where
-  shown : r .run ≡ nthOf (length s) k (runsOf s)
-  after : Stands s (suc k) (r .position)
+pub record Stepped (s : List ℕ) (k : ℕ) (r : RunStep) : Type 0 where
+  pub shown : r .run ≡ nthOf (length s) k (runsOf s)
+  pub after : Stands s (suc k) (r .position)
 
 module _ (s : List ℕ) (g : Good s) (k : ℕ) (p : RunPosition) (h : Stands s k p) where
-  known-by : (b : Bool) → p .checked ≡ b → checkedFrom s p ≡ runFrom s (p .place) (p .state)
-  unfolding checkedFrom knownOf pick
-  known-by true e = rw e
-  known-by false e = rw (e, g .accepted)
+  pub is-known : knownOf s (p .checked) .number ≡ refusal.accepted
+  unfolding knownOf pick
+  is-known = by (p .checked) refl
+    where
+      by : (b : Bool) → p .checked ≡ b → knownOf s (p .checked) .number ≡ refusal.accepted
+      by true e = rw e
+      by false e = rw e (eqb-true _ _ (g .accepted))
+
+  pub is-may : mayStand (length s) (p .place) (p .state) ≡ true
+  is-may = may-stand (length s) (p .place) (p .state) (h .within) (h .fit)
 
   is-run : nextRunOf s p ≡ runFrom s (p .place) (p .state)
-  unfolding nextRunOf pick
-  is-run =
-      rw (le-ltb limit.octets (length s) (g .short), may-stand (length s) (p .place) (p .state) (h .within) (h .fit))
-      (known-by (p .checked) refl)
+  unfolding nextRunOf checkedFrom pick
+  is-run = rw (le-ltb limit.octets (length s) (g .short), is-may, is-known)
 
   abbrev left : List Piece
   left = rest s (p .place) (p .state)
@@ -214,14 +215,17 @@ module _ (s : List ℕ) (g : Good s) (k : ℕ) (p : RunPosition) (h : Stands s k
         };
       })
 
-  one-step : Stepped s k (nextRunOf s p)
-  one-step =
-      rw is-run (one-by (last-done s (ahead-from s (p .place) (p .state)) (h .within) (h .fit) (h .clear))
+  pub from-step : Stepped s k (runFrom s (p .place) (p .state))
+  from-step =
+      one-by (last-done s (ahead-from s (p .place) (p .state)) (h .within) (h .fit) (h .clear))
       (walked s there true (lastFrom s (p .place) (p .state)) left
-      (cuts s there true (suc (length s)) (p .place) (p .state) (h .fit) (omega arith) (λ i l. refl) (h .clear))))
+      (cuts s there true (suc (length s)) (p .place) (p .state) (h .fit) (omega arith) (λ i l. refl) (h .clear)))
+
+  one-step : Stepped s k (nextRunOf s p)
+  one-step = rw is-run from-step
 
 module _ (s : List ℕ) (g : Good s) where
-  stands-first : Stands s 0 firstPosition
+  pub stands-first : Stands s 0 firstPosition
   unfolding runsOf piecesOf from
   stands-first = record { within = zero-le; fit = fresh-fit; clear = g .clear; runs = λ j. let n : 0 + j ≡ j = omega arith in rw n }
 

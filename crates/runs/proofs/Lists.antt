@@ -1,13 +1,14 @@
 -- The turns of the loops of `listed`, on plain values. What is still given from where a list has come to is, by one step: a run before what is
 -- given after it (`finish-shown`), what is given from a later place where the first run is the same (`finish-passed`), or nothing
 -- (`finish-none`). So the end stays the same from turn to turn (`Onward`).
-use Prim.Native.Nat.{ℕ, zero, suc, _+_, _-_, _*_, _^_, _≤_, _<_}
+use Prim.Native.Nat.{ℕ, zero, suc, _+_, _-_, _*_, _^_, _≤_, _<_, zero-le}
 use native.Mathlib.Omega.{arith}
 use mathlib.Core.Path.{_≡_, refl, ap, sym, _∙_}
 use mathlib.Core.Bool.{Bool, true, false}
-use mathlib.Core.List.{List, [], _∷_}
+use mathlib.Core.List.{List, map}
 use lib.Dec.{eqb}
-use lib.ListN.{length, set, length-set}
+use lib.ListN.{length, set, length-set, length-map}
+use lib.Seq.{sets, sets-eq}
 use borrow.Author.Tests.{eq-eqb, ne-eqb, le-ltb}
 use Rattle.base.specs.Answers.{answer, refusedAt}
 use Rattle.base.specs.Choice.{pick, from}
@@ -38,7 +39,7 @@ use Rattle.runs.specs.Runs.{shownOf}
 use Rattle.state.specs.declared.Sets.{Sets}
 use Rattle.runs.specs.Spans.{TextTo, RightTo, singly, doubly}
 use Rattle.runs.specs.Steps.{position, stepTo, stopAt, runFrom, knownOf}
-use Rattle.runs.specs.Listed.{wordOf, upperOf, storedFrom, runsStep, Given, before, givesNone, endOf, givenFrom}
+use Rattle.runs.specs.Listed.{wordOf, upperOf, listAfter, runsStep, Given, before, givesNone, endOf, givenFrom}
 use Rattle.runs.specs.Listed.{checkedRuns, nextRunsOf, stand, finished, Onward}
 use Rattle.runs.specs.declared.Bounds.{Bounds}
 use Rattle.runs.specs.declared.listed.RunsStep.{RunsStep}
@@ -51,14 +52,33 @@ use Rattle.runs.proofs.Steps.{turn-designation, turn-quick, turn-begun,
 -- ---- what is given, by one step
 
 -- what a step gives, where k runs are given before it and there is room for m after it
-abbrev stepped : List ℕ → ℕ → ℕ → RunStep → Given
+abbrev pub stepped : List ℕ → ℕ → ℕ → RunStep → Given
 stepped s k m r =
     pick (eqb (r .run .answer .number) refusal.accepted)
     (before (r .run) (givenFrom s (suc k) m (r .position .place) (r .position .state)))
     (givesNone (r .position) (endOf (length s) k (r .run .answer)))
 
 abbrev filled : ℕ → List ℕ → Given → RunsStep × List ℕ
-filled k out g = (g .step, storedFrom k (g .runs) out)
+filled k out g = (g .step, sets out k (map wordOf (g .runs)))
+
+-- no more than there is room for
+pub given-fits : (s : List ℕ) (k m at : ℕ) (st : State) → length (givenFrom s k m at st .runs) ≤ m
+unfolding givenFrom pick
+given-fits s k zero at st = zero-le
+given-fits s k (suc m) at st =
+    by (runFrom s at st) (eqb (runFrom s at st .run .answer .number) refusal.accepted) refl (λ b next. given-fits s (suc k) m b next)
+  where
+    by : (r : RunStep) (b : Bool) → eqb (r .run .answer .number) refusal.accepted ≡ b
+        → ((i : ℕ) (next : State) → length (givenFrom s (suc k) m i next .runs) ≤ m) → length (stepped s k m r .runs) ≤ suc m
+    by r true e f = let z = f (r .position .place) (r .position .state) in rw e (omega arith)
+    by r false e f = rw e zero-le
+
+list-after : (bs : List Bounds) (o : List ℕ) → length bs ≤ length o → sets o 0 (map wordOf bs) ≡ listAfter bs o
+unfolding listAfter
+list-after bs o h =
+    let n : length (map wordOf bs) ≡ length bs = length-map bs wordOf in
+    let z : 0 + length (map wordOf bs) ≡ length bs = omega arith in
+    sets-eq (map wordOf bs) o 0 (omega arith) ∙ rw z
 
 module _ (s : List ℕ) (at k : ℕ) (st : State) (out : List ℕ) where
   -- a list that is full
@@ -73,7 +93,7 @@ module _ (s : List ℕ) (at k : ℕ) (st : State) (out : List ℕ) where
   pub finish-shown : (e : ℕ) (next : State) (run : Bounds) (w : ℕ) → k < length out → stepTo e next run ≡ runFrom s at st
       → run .answer .number ≡ refusal.accepted → w ≡ wordOf run
       → finished s (stand e (k + 1) next) (set out k w) ≡ finished s (stand at k st) out
-  unfolding storedFrom pick
+  unfolding pick
   finish-shown e next run w h is a v =
       let n : length (set out k w) ≡ length out = length-set out k w in
       let z : k + 1 ≡ suc k = omega arith in
@@ -83,21 +103,22 @@ module _ (s : List ℕ) (at k : ℕ) (st : State) (out : List ℕ) where
   -- no run is shown
   pub finish-none : (r : RunStep) → k < length out → r ≡ runFrom s at st → (r .run .answer .number ≡ refusal.accepted → ⊥)
       → finished s (stand at k st) out ≡ (runsStep (r .position) (endOf (length s) k (r .run .answer)), out)
-  unfolding storedFrom pick
+  unfolding pick
   finish-none r h is a =
       let y = ne-eqb _ _ a in
       finish-step h ∙ (ap (λ (x : RunStep). filled k out (stepped s k (length out - (k + 1)) x)) (sym is) ∙ rw y)
 
 -- the first run from a later place is the same
-pub finish-passed : (s : List ℕ) (at k : ℕ) (st : State) (out : List ℕ) (b : ℕ) (next : State) → k < length out → runFrom s b next ≡ runFrom s at st
-    → finished s (stand b k next) out ≡ finished s (stand at k st) out
+pub finish-passed : (s : List ℕ) (at k : ℕ) (st : State) (out : List ℕ) (b : ℕ) (next : State) → k < length out
+    → runFrom s b next ≡ runFrom s at st → finished s (stand b k next) out ≡ finished s (stand at k st) out
 finish-passed s at k st out b next h is =
     finish-step s b k next out h ∙
     (ap (λ (r : RunStep). filled k out (stepped s k (length out - (k + 1)) r)) is ∙ sym (finish-step s at k st out h))
 
 -- where an element stops the steps, the position stays and no run is shown
 module _ (s : List ℕ) (at : ℕ) (st : State) where
-  stop-by : (e : Element) → elementAt s at st ≡ e → (stopAt at st e .position ≡ position at st true) × (stopAt at st e .run .answer .number ≡ refusal.accepted → ⊥)
+  stop-by : (e : Element) → elementAt s at st ≡ e
+      → (stopAt at st e .position ≡ position at st true) × (stopAt at st e .run .answer .number ≡ refusal.accepted → ⊥)
   unfolding stopAt
   stop-by End is = (refl, λ z. omega (arith, z))
   stop-by (Refused n o) is = let y = refused-number s at st (elementAt s at st) refl is in (refl, λ z. omega (arith, z, y))
@@ -114,8 +135,8 @@ pub on-first : (s : List ℕ) (l : Stand) (o : List ℕ) → mayStand (length s)
 on-first s l o may = record { same = refl; may = may; further = omega arith; long = refl }
 
 module _ {s : List ℕ} {l : Stand} {o : List ℕ} {at k : ℕ} {st : State} {out : List ℕ} (h : Onward s l o (stand at k st) out) where
-  on-then : {b j : ℕ} {next : State} {n : List ℕ} → finished s (stand b j next) n ≡ finished s (stand at k st) out → at ≤ b → b ≤ length s → Fit next
-      → length n ≡ length out → Onward s l o (stand b j next) n
+  on-then : {b j : ℕ} {next : State} {n : List ℕ} → finished s (stand b j next) n ≡ finished s (stand at k st) out → at ≤ b → b ≤ length s
+      → Fit next → length n ≡ length out → Onward s l o (stand b j next) n
   on-then {b} {next = next} e m w f z =
       record { same = e ∙ h .same; may = may-stand (length s) b next w f; further = omega (arith, h .further, m); long = z ∙ h .long }
 
@@ -165,7 +186,7 @@ module _ {s : List ℕ} {l : Stand} {o : List ℕ} {at k : ℕ} {st : State} {ou
   -- where it ends
   abbrev pub Ends : ℕ → State → RunsStep → Type 0
   Ends place state r =
-      (r ≡ givenFrom s 0 (length o) place state .step) × (out ≡ storedFrom 0 (givenFrom s 0 (length o) place state .runs) o)
+      (r ≡ givenFrom s 0 (length o) place state .step) × (out ≡ listAfter (givenFrom s 0 (length o) place state .runs) o)
 
   module _ (place : ℕ) (state : State) (from-start : l ≡ stand place 0 state) (r : RunsStep) where
     ends-by : finished s (stand at k st) out ≡ (r, out) → Ends place state r
@@ -173,10 +194,10 @@ module _ {s : List ℕ} {l : Stand} {o : List ℕ} {at k : ℕ} {st : State} {ou
         let n : length o - 0 ≡ length o = omega arith in
         let z : (r, out) ≡ filled 0 o (givenFrom s 0 (length o) place state) = rw n at
         (sym e ∙ (h .same ∙ ap (λ (x : Stand). finished s x o) from-start)) in
-        (ap (λ (x : RunsStep × List ℕ). x .0) z, ap (λ (x : RunsStep × List ℕ). x .1) z)
+        (ap (λ (x : RunsStep × List ℕ). x .0) z, ap (λ (x : RunsStep × List ℕ). x .1) z ∙ list-after _ o (given-fits s 0 (length o) place state))
 
     pub ends-full : length out ≤ k → r ≡ runsStep (position at st true) (answer refusal.accepted (length s) k) → Ends place state r
-    unfolding givenFrom storedFrom
+    unfolding givenFrom
     ends-full room e = ends-by (finish-full s at k st out room ∙ ap (λ (x : RunsStep). (x, out)) (sym e))
 
     pub ends-stopped : (q : Piece) (t : RunStep) → k < length out → q ≡ pieceAt s at st → q .end ≡ at → t ≡ stopAt at st (elementAt s at st)
@@ -185,7 +206,8 @@ module _ {s : List ℕ} {l : Stand} {o : List ℕ} {at k : ℕ} {st : State} {ou
         let b = stop-by s at st (elementAt s at st) refl in
         let there : t .position ≡ position at st true = ap (λ (x : RunStep). x .position) e ∙ b .0 in
         ends-by
-        (finish-none s at k st out t room (turn-none s at st at st here q is t i e) (λ z. b .1 (ap (λ (x : RunStep). x .run .answer .number) (sym e) ∙ z)) ∙
+        (finish-none s at k st out t room (turn-none s at st at st here q is t i e)
+        (λ z. b .1 (ap (λ (x : RunStep). x .run .answer .number) (sym e) ∙ z)) ∙
         ap (λ (x : RunsStep). (x, out)) (ap (λ (x : RunPosition). runsStep x (endOf (length s) k (t .run .answer))) there ∙ sym f))
 
 -- what is done from a place on is done from the start
@@ -285,10 +307,10 @@ module _ {s : List ℕ} {l : Stand} {o : List ℕ} {direction at k : ℕ} {st : 
 
 -- what is answered and stored is what is given
 abbrev pub Gave : Given → List ℕ → RunsStep → List ℕ → Type 0
-Gave g o r n = (r ≡ g .step) × (n ≡ storedFrom 0 (g .runs) o)
+Gave g o r n = (r ≡ g .step) × (n ≡ listAfter (g .runs) o)
 
 pub gave-none : {g : Given} {o : List ℕ} {r : RunsStep} (p : RunPosition) (a : Answer) → r ≡ runsStep p a → g ≡ givesNone p a → Gave g o r o
-unfolding storedFrom
+unfolding listAfter
 gave-none p a e is = rw is (e, refl)
 
 pub gave-same : {g h : Given} (o : List ℕ) {r : RunsStep} {n : List ℕ} → g ≡ h → Gave h o r n → Gave g o r n
@@ -312,6 +334,7 @@ module _ (s : List ℕ) (p : RunPosition) (room : ℕ) where
   unfolding nextRunsOf
   on-may h m = sym (on-ge _ _ _ _ _ h (on-true _ _ _ _ m refl))
 
-  pub on-none : length s ≤ limit.octets → mayStand (length s) (p .place) (p .state) ≡ false → nextRunsOf s p room ≡ givesNone p (refusedAt refusal.bad-unit 0)
+  pub on-none : length s ≤ limit.octets → mayStand (length s) (p .place) (p .state) ≡ false
+      → nextRunsOf s p room ≡ givesNone p (refusedAt refusal.bad-unit 0)
   unfolding nextRunsOf
   on-none h m = sym (on-ge _ _ _ _ _ h (on-false _ _ _ _ m refl))

@@ -3,13 +3,13 @@
 -- of characters, the second by the unit that an element is.
 use Prim.Native.Nat.{ℕ, zero, suc, _+_, _-_, _/_, _%_, _≤_, _<_}
 use native.Mathlib.Omega.{arith}
-use mathlib.Core.Path.{_≡_, refl, ap, sym, _∙_, subst}
+use mathlib.Core.Path.{_≡_, refl, ap, sym, _∙_}
 use mathlib.Core.Bool.{Bool, true, false, _&&_, cond, false≢true}
-use mathlib.Core.List.{List, [], _∷_, _++_}
+use mathlib.Core.List.{List, _∷_, _++_}
 use lib.Dec.{eqb, leb, ltb}
 use lib.ListN.{length, getD}
 use lib.Seq.{getD-drop}
-use borrow.Author.Tests.{eqb-true, eqb-false, ltb-true, ltb-false, lt-ltb, le-ltb, le-leb, leb-true, eq-eqb, ne-eqb}
+use borrow.Author.Tests.{eqb-true, eqb-false, ltb-true, ltb-false, lt-ltb, le-ltb, le-leb, leb-true}
 use Rattle.base.specs.Choice.{pick, from}
 use Rattle.base.specs.Refusal as refusal
 use Rattle.base.proofs.Ladder.{on-true, on-false, on-eq, on-ne, on-lt, on-ge, from-octet, from-length}
@@ -17,15 +17,15 @@ use Rattle.charset.specs.Charsets.{form-94, form-96, form-94x94, no-set, formOf
 use Rattle.charset.specs.declared.Side.{Side}
 use Rattle.charset.specs.declared.Side.the-variants.{GL, GR}
 use Rattle.charset.proofs.Laws.{formRule, form-rule, allowed-below, left-form}
-use Rattle.element.specs.Element.{elementOf, shapeOf, directedOf}
+use Rattle.element.specs.Element.{elementOf}
 use Rattle.grammar.specs.Grammar.{Legal}
-use Rattle.grammar.specs.Reading.{size, direct, Octets}
-use Rattle.grammar.specs.Units.{TextUnit, char, space, control, tab, newline, ltr, rtl, revert, ext, kindOf, counts, wide, top, shown, octets, codeUsed, good}
+use Rattle.grammar.specs.Reading.{direct, Octets}
+use Rattle.grammar.specs.Units.{TextUnit, char, space, control, tab, newline, ltr, rtl, revert, ext, kindOf, wide, top, shown, octets, codeUsed, good}
 use Rattle.grammar.proofs.Agrees.{Right, refused, passed, read, right}
 use Rattle.base.proofs.Bools.{and-left, and-right}
 use Rattle.grammar.proofs.Sound.{Shown, sound, graphic-low}
 use Rattle.state.specs.Directions.{directions, writtenOf, stepOf}
-use Rattle.state.specs.State.{get, state}
+use Rattle.state.specs.State.{get}
 use Rattle.state.specs.declared.State.{State}
 use Rattle.state.specs.declared.Sets.{Sets}
 use Rattle.state.specs.declared.directions.Directions.{Directions}
@@ -37,7 +37,6 @@ use Rattle.stretch.specs.Characters.{glOctet, graphicOn, grOctet, singleOf, one
 use Rattle.stretch.proofs.Law.{One}
 use Rattle.stretch.proofs.Starts.{one-octet, two-left, two-right}
 use Rattle.text.specs.Text.{graphicOf}
-use Rattle.pieces.specs.PieceKind as pieceKind
 use Rattle.pieces.specs.Pieces.{piece, sideKindOf, pieceKindOf, pieceOf, isRun}
 use Rattle.pieces.specs.declared.Piece.{Piece}
 use Rattle.pieces.proofs.Laws.{run-kind}

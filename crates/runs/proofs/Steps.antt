@@ -5,7 +5,7 @@ use native.Mathlib.Omega.{arith}
 use mathlib.Core.Path.{_≡_, refl, ap, sym, _∙_}
 use mathlib.Core.Bool.{Bool, true, false, false≢true}
 use mathlib.Core.List.{List, [], _∷_}
-use lib.Dec.{eqb, leb, ltb}
+use lib.Dec.{leb, ltb}
 use lib.ListN.{length}
 use borrow.Author.Tests.{eq-eqb, lt-ltb, ltb-true, ltb-false, leb-true}
 use Rattle.base.specs.Choice.{pick, from}
@@ -31,7 +31,7 @@ use Rattle.stretch.specs.Designation.{designationAt}
 use Rattle.stretch.specs.declared.designation.Designation.{Designation}
 use Rattle.stretch.proofs.Designations.{designation-silent}
 use Rattle.pieces.specs.PieceKind as pieceKind
-use Rattle.pieces.specs.Pieces.{piece, noPiece, sideKindOf, pieceOf, isRun, sameRunOf, extendedTo, joined, endingOf, stateAt}
+use Rattle.pieces.specs.Pieces.{piece, noPiece, sideKindOf, pieceOf, isRun, sameRunOf, extendedTo, joined, endingOf}
 use Rattle.pieces.specs.declared.Piece.{Piece}
 use Rattle.pieces.proofs.Joined.{Followed, same, over, other, followed, joined-apart, joined-same, extended-same, extended-apart}
 use Rattle.pieces.specs.Partition.{EndToEnd, stateFrom}
@@ -261,7 +261,8 @@ module _ (s : List ℕ) (place : ℕ) (state : State) (at : ℕ) (st : State) (p
         plain = record {
           within = x .within;
           same = ap (λ (r : RunStep). firstOf (length s) (stateFrom s (q .end) (q .state)) r (rest s (q .end) (q .state))) (sym (h .left)) ∙
-              (agree (length s) (lastFrom s at st) (tiled s (suc (length s)) (q .end) (q .state) (x .within) (omega arith) .tiles) (λ i k. sym (h .later i k)) ∙
+              (agree (length s) (lastFrom s at st) (tiled s (suc (length s)) (q .end) (q .state) (x .within) (omega arith) .tiles)
+              (λ i k. sym (h .later i k)) ∙
               (sym (other-first _ _ _ q (rest s (q .end) (q .state)) n) ∙ (h .first ∙ p .same)));
           fit = rw is (fit-piece s at st (elementAt s at st) refl (p .fit));
         };
@@ -387,8 +388,8 @@ module _ (s : List ℕ) (place : ℕ) (state : State) (at : ℕ) (st : State) (p
       record { some = z .0; plain = x .plain }
 
   -- text that leaves the state
-  pub turn-quick : Octets s → (k i : ℕ) (q : Piece) (run : Bounds) (r : RunStep) → k < 2 → settledOf (st .directions) ≡ true → TextTo s (st .sets) k at i
-      → at < i → q ≡ piece at i k st
+  pub turn-quick : Octets s → (k i : ℕ) (q : Piece) (run : Bounds) (r : RunStep) → k < 2 → settledOf (st .directions) ≡ true
+      → TextTo s (st .sets) k at i → at < i → q ≡ piece at i k st
       → run ≡ shownOf (length s) q → r ≡ stepTo i st run → r ≡ runFrom s place state
   turn-quick o k i q run r low settled x l e f g =
       turn-text s at st k st at low o (p .fit) settled q run r (still refl (head-first s at st)) x l e f g ∙ p .same

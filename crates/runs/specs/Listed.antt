@@ -1,11 +1,12 @@
 -- Several runs a call, into a list that the caller lends (rule R7): the runs that steps one after the other show, as many as the list has room
 -- for, each stored as one word.
-use Prim.Native.Nat.{ℕ, zero, suc, _+_, _-_, _*_, _≤_}
+use Prim.Native.Nat.{ℕ, zero, suc, _+_, _-_, _*_, _≤_, _<_}
 use mathlib.Core.Bool.{true}
 use mathlib.Core.Path.{_≡_}
-use mathlib.Core.List.{List, [], _∷_}
+use mathlib.Core.List.{List, [], _∷_, _++_, map}
 use lib.Dec.{eqb, ltb}
-use lib.ListN.{length, set}
+use lib.ListN.{length, drop}
+use lib.Seq.{sets}
 use Rattle.base.specs.Answers.{answer, refusedAt}
 use Rattle.base.specs.Choice.{pick}
 use Rattle.base.specs.Limit as limit
@@ -13,7 +14,7 @@ use Rattle.base.specs.Refusal as refusal
 use Rattle.base.specs.declared.Answer.{Answer}
 use Rattle.state.specs.declared.State.{State}
 use Rattle.reader.specs.Step.{mayStand}
-use Rattle.runs.specs.Runs.{widthOf, shownOf}
+use Rattle.runs.specs.Runs.{widthOf, noRun, runAt}
 use Rattle.runs.specs.Steps.{position, runFrom, knownOf}
 use Rattle.runs.specs.declared.Bounds.{Bounds}
 use Rattle.runs.specs.declared.listed.Stand.{Stand}
@@ -30,10 +31,9 @@ wordOf b = b .start + b .end * 0x10000 + (b .set * 0x100000000 + b .width * 0x10
 abbrev pub upperOf : ℕ → ℕ → ℕ
 upperOf c direction = c * 0x100000000 + widthOf c * 0x10000000000 + direction * 0x1000000000000
 
--- runs stored into a list from a place on, one after the other; all else in it stays
-unfoldable pub storedFrom : ℕ → List Bounds → List ℕ → List ℕ
-storedFrom k [] out = out
-storedFrom k (b ∷ bs) out = storedFrom (suc k) bs (set out k (wordOf b))
+-- a list after runs are stored: their words stand at its start, and the rest stays
+unfoldable pub listAfter : List Bounds → List ℕ → List ℕ
+listAfter bs out = map wordOf bs ++ drop (length bs) out
 
 -- ---- the runs that are given
 
@@ -79,6 +79,29 @@ nextRunsOf s p room =
     pick (ltb limit.octets (length s)) (givesNone p (refusedAt refusal.too-long 0))
     (pick (mayStand (length s) (p .place) (p .state)) (checkedRuns s p room) (givesNone p (refusedAt refusal.bad-unit 0)))
 
+-- ---- call after call
+
+-- the position after calls with lists of these lengths, and how many runs they gave
+unfoldable pub afterCalls : List ℕ → RunPosition → List ℕ → RunPosition
+afterCalls s p [] = p
+afterCalls s p (room ∷ rooms) = afterCalls s (nextRunsOf s p room .step .position) rooms
+
+unfoldable pub givenBy : List ℕ → RunPosition → List ℕ → ℕ
+givenBy s p [] = 0
+givenBy s p (room ∷ rooms) = length (nextRunsOf s p room .runs) + givenBy s (nextRunsOf s p room .step .position) rooms
+
+-- n runs of a string, by their numbers from k on
+unfoldable pub runsAt : List ℕ → ℕ → ℕ → List Bounds
+runsAt s k zero = []
+runsAt s k (suc n) = runAt s k ∷ runsAt s (suc k) n
+
+-- what a call gives of an accepted string of which k runs are given: the next ones, as many as there is room for; fewer, where no more are left
+pub record Next (s : List ℕ) (k room : ℕ) (g : Given) : Type 0 where
+  pub runs : g .runs ≡ runsAt s k (length (g .runs))
+  pub counts : g .step .answer ≡ answer refusal.accepted (length s) (length (g .runs))
+  pub fits : length (g .runs) ≤ room
+  pub all : length (g .runs) < room → runAt s (k + length (g .runs)) ≡ noRun (refusedAt refusal.bad-unit 0)
+
 -- ---- where a list has come to
 
 abbrev pub stand : ℕ → ℕ → State → Stand
@@ -89,7 +112,7 @@ abbrev pub leftOf : List ℕ → Stand → List ℕ → Given
 leftOf s l out = givenFrom s (l .count) (length out - l .count) (l .place) (l .state)
 
 abbrev pub finished : List ℕ → Stand → List ℕ → RunsStep × List ℕ
-finished s l out = (leftOf s l out .step, storedFrom (l .count) (leftOf s l out .runs) out)
+finished s l out = (leftOf s l out .step, sets out (l .count) (map wordOf (leftOf s l out .runs)))
 
 -- one has come from l to r, and the list from o to n: the end is the same
 pub record Onward (s : List ℕ) (l : Stand) (o : List ℕ) (r : Stand) (n : List ℕ) : Type 0 where

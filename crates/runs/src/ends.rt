@@ -1,5 +1,4 @@
 // The octets of a run, in a state that text leaves as it is.
-ghost use mathlib.Core.Path.{_≡_};
 ghost use Prim.Native.Nat.{_≤_};
 ghost use lib.ListN.{length};
 ghost use Rattle.runs.specs.Spans.{OnesTo, TwosTo, TextTo, RightTo};

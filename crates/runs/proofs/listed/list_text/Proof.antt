@@ -1,9 +1,8 @@
 -- `listed::list_text` meets its contract: each turn shows and stores a run, or passes a designation, and the end stays the same.
 use Prim.Native.Nat.{_-_}
 use native.Mathlib.Omega.{arith}
-use mathlib.Core.Path.{sym}
 use borrow.Author.Needs.{needs}
-use lib.ListN.{length, length-set}
+use lib.ListN.{length}
 use Rattle.runs.specs.Listed.{stand}
 use Rattle.runs.proofs.Lists.{Texts, words-of, texts-first, texts-end, within-text, left-run, right-run, designates, designates-within}
 use Rattle.runs.proofs.listed.list_text.Statement.{statement}

@@ -7,7 +7,8 @@ use Rattle.runs.proofs.listed.word.Tie as tie
 
 returns : tie.Need-returns
 unfolding shownOf
-returns c = rw (c .joined .ensures, c .before .upper .ensures .0, c .before .before .in-force .ensures, c .before .before .before .before .before .set-in .ensures) refl
+returns c =
+    rw (c .joined .ensures, c .before .upper .ensures .0, c .before .before .in-force .ensures, c .before .before .before .before .before .set-in .ensures) refl
 
 pub word-spec : {M : Type 1} → statement M
 word-spec = tie.close (tie.spec (search needs) (search needs) (search needs) (search needs) returns)
