@@ -93,7 +93,6 @@ static size_t run_next(size_t i)
 // One call more, at the end.
 static size_t run_next_at_end(size_t i) { return ctext_next(corpus.notes[i].octets, corpus.notes[i].length, prepared[i].end).answer.place; }
 
-#ifdef WITH_NEXT_RUN
 // All runs, one after the other.
 static size_t run_next_run(size_t i)
 {
@@ -103,7 +102,22 @@ static size_t run_next_run(size_t i)
     for (; step.run.answer.number == CTEXT_ACCEPTED; runs++) step = ctext_next_run(n.octets, n.length, step.reader);
     return runs;
 }
-#endif
+
+// All runs, by a list of so many words, used again for each call.
+enum { LISTED_RUNS = 64 };
+
+static size_t run_next_runs(size_t i)
+{
+    static uint64_t list[LISTED_RUNS];
+    struct note n = corpus.notes[i];
+    size_t runs = 0;
+    ctext_runs_step step = {.reader = ctext_open_runs()};
+    do {
+        step = ctext_next_runs(n.octets, n.length, step.reader, list, LISTED_RUNS);
+        runs += step.answer.count;
+    } while (step.answer.count > 0);
+    return runs;
+}
 
 static size_t run_x11_read(size_t i) { return x11_read(corpus.notes[i].octets, corpus.notes[i].length); }
 
@@ -115,12 +129,19 @@ struct function {
     size_t turns; // how often the whole corpus is gone through in a slice
 };
 
-enum { YARDSTICK, LIMIT, CHECK, READ, WRITE, RUN, NEXT, NEXT_RUN, X11_READ, X11_WRITE, FUNCTIONS };
+enum { YARDSTICK, LIMIT, CHECK, READ, WRITE, RUN, NEXT, NEXT_RUN, NEXT_RUNS, X11_READ, X11_WRITE, FUNCTIONS };
 
 static struct function functions[FUNCTIONS] = {
-    [YARDSTICK] = {"yardstick", run_yardstick, 0}, [LIMIT] = {"limit_table", NULL, 0},    [CHECK] = {"check", run_check, 0},
-    [READ] = {"read", run_read, 0},                [WRITE] = {"write", run_write, 0},     [RUN] = {"run", run_run, 0},
-    [NEXT] = {"next", run_next, 0},                [NEXT_RUN] = {"next_run", NULL, 0},    [X11_READ] = {"libX11 read", run_x11_read, 0},
+    [YARDSTICK] = {"yardstick", run_yardstick, 0},
+    [LIMIT] = {"limit_table", NULL, 0},
+    [CHECK] = {"check", run_check, 0},
+    [READ] = {"read", run_read, 0},
+    [WRITE] = {"write", run_write, 0},
+    [RUN] = {"run", run_run, 0},
+    [NEXT] = {"next", run_next, 0},
+    [NEXT_RUN] = {"next_run", run_next_run, 0},
+    [NEXT_RUNS] = {"next_runs", run_next_runs, 0},
+    [X11_READ] = {"libX11 read", run_x11_read, 0},
     [X11_WRITE] = {"libX11 write", run_x11_write, 0},
 };
 
@@ -170,9 +191,8 @@ static void prepare_runs(const char *path, size_t i)
     size_t runs = prepared[i].runs = runs_of(n, prepared[i].units, prepared[i].count);
     require(ctext_run(n.octets, n.length, runs).answer.number == CTEXT_BAD_UNIT, "it has more runs", path, i);
     require(!runs || ctext_run(n.octets, n.length, runs - 1).answer.number == 0, "it has fewer runs", path, i);
-#ifdef WITH_NEXT_RUN
-    require(run_next_run(i) == runs, "next_run gives another number of runs", path, i);
-#endif
+    require(!functions[NEXT_RUN].run || run_next_run(i) == runs, "next_run gives another number of runs", path, i);
+    require(!functions[NEXT_RUNS].run || run_next_runs(i) == runs, "next_runs gives another number of runs", path, i);
 }
 
 static void prepare_next(const char *path, size_t i)
@@ -421,9 +441,8 @@ int main(int count, char **words)
     if (!functions[READ].run || !ctext_run) functions[RUN].run = NULL;
     if (!functions[READ].run || !ctext_next) functions[NEXT].run = NULL;
     if (!functions[WRITE].run || !functions[NEXT].run) others[0].run = others[1].run = NULL;
-#ifdef WITH_NEXT_RUN
-    functions[NEXT_RUN].run = functions[RUN].run ? run_next_run : NULL;
-#endif
+    if (!functions[RUN].run || !ctext_open_runs || !ctext_next_run) functions[NEXT_RUN].run = NULL;
+    if (!functions[RUN].run || !ctext_open_runs || !ctext_next_runs) functions[NEXT_RUNS].run = NULL;
     if (wants_table) x11_open();
     if (wants_table) table((size_t)count - 2, words + 2);
     else

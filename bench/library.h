@@ -10,6 +10,9 @@
 #pragma weak ctext_write
 #pragma weak ctext_run
 #pragma weak ctext_next
+#pragma weak ctext_open_runs
+#pragma weak ctext_next_run
+#pragma weak ctext_next_runs
 
 enum { WORK_ROOM = CTEXT_WORK_ROOM(CTEXT_MOST_UNITS) };
 

@@ -14,7 +14,7 @@ from pathlib import Path
 import plot
 
 ROOM, DOCS = Path(sys.argv[1]), Path(sys.argv[2])
-FUNCTIONS = ["check", "read", "write", "run", "next", "next_run", "libX11 read", "libX11 write"]
+FUNCTIONS = ["check", "read", "write", "run", "next", "next_run", "next_runs", "libX11 read", "libX11 write"]
 PLOTTED = ["notes", "ascii", "kanji", "designations", "directions", "segments"]
 
 
@@ -76,7 +76,7 @@ TARGETS = [
     ("read", "check", 3.0, ["notes", "designations"]),
     ("read", "check", 3.0, None),
     ("write", "base", 4.5, ["notes"]),
-    ("next_run", "check", 3.0, ["notes", "alternating", "kanji-ascii"]),
+    ("next_runs", "check", 3.0, ["notes", "alternating", "kanji-ascii"]),
 ]
 
 
@@ -194,8 +194,8 @@ def page(corpora):
         "Each figure is a ratio: the processor time of a function on all strings of a corpus, to that of the yardstick on the same strings in the "
         "same run (the median over the repetitions of the ratio in each). `check`, `read` (into a list) and `write` (checking the units, planning "
         "and writing) are the proved library's, with one list and one work room used again; `run` is the last run asked for by its number, `next` all "
-        "units one by one, `next_run` all runs one after the other. The yardstick is `bench/yardstick.c`, which answers "
-        "the number and the place of a refusal alone. libX11's functions convert to and from UTF-8; where nothing stands, libX11 does not convert "
+        "units one by one, `next_run` all runs one after the other, `next_runs` all runs by a list of 64 words. The yardstick is "
+        "`bench/yardstick.c`, which answers the number and the place of a refusal alone. libX11's functions convert to and from UTF-8; where nothing stands, libX11 does not convert "
         "the corpus, or is not installed.",
         ratios(corpora, "yardstick"),
     ]

@@ -34,14 +34,21 @@ static void run_next(void)
     while (step.given);
 }
 
-#ifdef WITH_NEXT_RUN
 static void run_next_run(void)
 {
     static ctext_run_step step;
     step = ctext_next_run(text, length, ctext_open_runs());
     while (step.run.answer.number == CTEXT_ACCEPTED) step = ctext_next_run(text, length, step.reader);
 }
-#endif
+
+static void run_next_runs(void)
+{
+    static ctext_runs_step step;
+    static uint64_t list[3];
+    step.reader = ctext_open_runs();
+    do step = ctext_next_runs(text, length, step.reader, list, 3);
+    while (step.answer.count > 0);
+}
 
 struct function {
     const char *name;
@@ -49,12 +56,17 @@ struct function {
     size_t most;
 };
 
-enum { NOTHING, CHECK, READ, WRITE, RUN, NEXT, NEXT_RUN, FUNCTIONS };
+enum { NOTHING, CHECK, READ, WRITE, RUN, NEXT, NEXT_RUN, NEXT_RUNS, FUNCTIONS };
 
 static struct function functions[FUNCTIONS] = {
-    [NOTHING] = {"nothing", run_nothing, 0},   [CHECK] = {"ctext_check", run_check, 0}, [READ] = {"ctext_read", run_read, 0},
-    [WRITE] = {"ctext_write", run_write, 0}, [RUN] = {"ctext_run", run_run, 0},       [NEXT] = {"ctext_next", run_next, 0},
-    [NEXT_RUN] = {"ctext_next_run", NULL, 0},
+    [NOTHING] = {"nothing", run_nothing, 0},
+    [CHECK] = {"ctext_check", run_check, 0},
+    [READ] = {"ctext_read", run_read, 0},
+    [WRITE] = {"ctext_write", run_write, 0},
+    [RUN] = {"ctext_run", run_run, 0},
+    [NEXT] = {"ctext_next", run_next, 0},
+    [NEXT_RUN] = {"ctext_next_run", run_next_run, 0},
+    [NEXT_RUNS] = {"ctext_next_runs", run_next_runs, 0},
 };
 
 // The octets of the stack that a function changes.
@@ -121,9 +133,8 @@ int main(int n, char **words)
     if (!ctext_read || !ctext_write) functions[WRITE].run = NULL;
     if (!ctext_run) functions[RUN].run = NULL;
     if (!ctext_next) functions[NEXT].run = NULL;
-#ifdef WITH_NEXT_RUN
-    functions[NEXT_RUN].run = run_next_run;
-#endif
+    if (!ctext_open_runs || !ctext_next_run) functions[NEXT_RUN].run = NULL;
+    if (!ctext_open_runs || !ctext_next_runs) functions[NEXT_RUNS].run = NULL;
     for (int i = 1; i < n; i++) {
         struct corpus c = corpus_load(words[i]);
         for (size_t k = 0; k < c.count && k < 40; k++) {

@@ -46,18 +46,25 @@ static void print_unit(size_t index, ctext_unit unit)
     printf(", octets %" PRIu32 " to %" PRIu32 "\n", unit.start, unit.start + unit.length);
 }
 
-/* The runs one after the other, until none is left. */
+static void print_run(const uint8_t *note, size_t index, uint64_t run)
+{
+    printf("  run %zu: set %d, width %d, direction %s:", index, ctext_run_set(run),
+           ctext_run_width(run), DIRECTIONS[ctext_run_direction(run)]);
+    print_octets(note + ctext_run_start(run), ctext_run_end(run) - ctext_run_start(run));
+}
+
+/* The runs, as many at a time as the list has room for, until none is left. */
 static void print_runs(const uint8_t *note, size_t n)
 {
-    ctext_run_step step = ctext_next_run(note, n, ctext_open_runs());
-    size_t k;
-    for (k = 0; step.run.answer.number == CTEXT_ACCEPTED; k++) {
-        ctext_run_bounds run = step.run;
-        printf("  run %zu: set %d, width %d, direction %s:", k, run.set, run.width,
-               DIRECTIONS[run.direction]);
-        print_octets(ctext_run_octets(note, run), run.end - run.start);
-        step = ctext_next_run(note, n, step.reader);
-    }
+    uint64_t runs[2];
+    ctext_runs_step step;
+    size_t shown = 0, i;
+    step.reader = ctext_open_runs();
+    do {
+        step = ctext_next_runs(note, n, step.reader, runs, 2);
+        for (i = 0; i < step.answer.count; i++)
+            print_run(note, shown++, runs[i]);
+    } while (step.answer.count > 0);
 }
 
 /* The shortest form of the note, which is never longer than the note. */

@@ -6,12 +6,12 @@
    of threads may call.
 
    What the library relies on, because C cannot guarantee it:
-   - A pointer and the length after it tell the truth: so many octets or
-     records stand there for the whole call. Beside a length of 0 the pointer
+   - A pointer and the length after it tell the truth: so many octets, records
+     or words stand there for the whole call. Beside a length of 0 the pointer
      is not followed and may be null.
-   - What is lent for an answer (units of ctext_read, work and out of
-     ctext_write, out of ctext_program) overlaps nothing else that is lent to
-     the same call.
+   - What is lent for an answer (units of ctext_read, runs of ctext_next_runs,
+     work and out of ctext_write, out of ctext_program) overlaps nothing else
+     that is lent to the same call.
    - While a call runs, nobody else writes to what it was lent, and nobody
      else looks at what it was lent for an answer.
    Nothing else is left to the caller. Any octets, records, readers and
@@ -55,8 +55,9 @@ extern "C" {
            refused: where the offending element starts in the string, or the
            index of the offending unit; 0 for 1, 10, 12, and for a run or a
            reader that does not exist
-   count   accepted: the units read, or the octets written or shown;
-           refused: 0, but under CTEXT_NO_ROOM the records or octets needed */
+   count   accepted: the units read, the octets written or shown, or the runs
+           stored; refused: 0, but under CTEXT_NO_ROOM the records or octets
+           needed */
 typedef struct ctext_answer {
     size_t place;
     size_t count;
@@ -163,6 +164,16 @@ ctext_answer ctext_read(const uint8_t *s, size_t n, ctext_unit *units, size_t ro
 
 /* ---- Runs -------------------------------------------------------------- */
 
+/* A run is as many characters and spaces as follow each other on one side, GL
+   or GR, with no other octet between them. Three functions show the runs of a
+   string, and they show the same:
+   ctext_next_runs  several a call, into a list that the caller lends: for all
+                    runs of a string, the quickest where they are many
+   ctext_next_run   the next one, by value: where no list is at hand, or not all
+                    runs are wanted
+   ctext_run        the one of a number: for a few runs, since each call checks
+                    the string and reads it from its start */
+
 /* The direction in force. */
 enum ctext_direction {
     CTEXT_DIRECTION_NONE = 0,
@@ -181,14 +192,12 @@ typedef struct ctext_run_bounds {
     uint8_t direction;
 } ctext_run_bounds;
 
-/* The run of number k, from 0, of the n octets at s. A run is as many
-   characters and spaces as follow each other on one side, GL or GR, with no
-   other octet between them.
+/* The run of number k, from 0, of the n octets at s.
    Shown: 0, n and the run's octets. A refused string: its refusal. Past the
    last run: CTEXT_BAD_UNIT at 0. Beside a refusal all else is 0. Reads s,
    touches nothing. Each call checks all n octets and reads on to run k, so all
    runs of a string by number take time in the square of n: go through them by
-   ctext_next_run. */
+   ctext_next_runs or ctext_next_run. */
 ctext_run_bounds ctext_run(const uint8_t *s, size_t n, size_t k);
 
 /* The run's octets, end - start of them, where they stand in the string. */
@@ -238,6 +247,72 @@ ctext_run_reader ctext_open_runs(void);
    gives its refusal, and the end of the string CTEXT_BAD_UNIT at 0. Reads s,
    touches nothing. */
 ctext_run_step ctext_next_run(const uint8_t *s, size_t n, ctext_run_reader reader);
+
+/* How many runs were stored, or why none could be, and the reader after them. */
+typedef struct ctext_runs_step {
+    ctext_run_reader reader;
+    ctext_answer answer;
+} ctext_runs_step;
+
+/* The next runs of the n octets at s, as many as there is room for. The caller
+   lends room words at runs, and each run is stored as one word (its parts are
+   below). They are the runs that ctext_next_run shows from the same reader on.
+
+   Accepted: 0, n and the number of runs that were stored, from runs[0] on. The
+   rest of the list stays as it was, and the reader stands after the last of
+   them. The number is 0 where no run is left, or there is no room. All runs of
+   a string:
+
+       uint64_t runs[64];
+       ctext_runs_step step;
+       step.reader = ctext_open_runs();
+       do {
+           step = ctext_next_runs(s, n, step.reader, runs, 64);
+           .. runs[0] to runs[step.answer.count - 1] ..
+       } while (step.answer.count > 0);
+       .. step.answer is accepted, or the refusal of the string ..
+
+   The first call checks the whole string, and each further one reads on from
+   where the reader stands, so all runs of a string take time in proportion to
+   n. One word of room is enough, n words always hold all runs at once, and from
+   some dozens on a longer list gains little.
+
+   Refused: no word is touched. A string over 65,535 octets, a reader made by
+   hand that cannot be, and a refused string where checked is 0 give what they
+   give for ctext_next_run, in this order, whatever the room. An element that is
+   refused, which only a reader made by hand comes to, ends the runs: those
+   before it are stored, and the next call that has room gives its refusal. */
+ctext_runs_step ctext_next_runs(const uint8_t *s, size_t n, ctext_run_reader reader,
+                                uint64_t *runs, size_t room);
+
+/* The parts of a run of ctext_next_runs, as in ctext_run_bounds: its octets are
+   start to end of the string, end not included. From its lowest octet on the
+   word holds start and end in two octets each, then set, width and direction in
+   one each; the highest octet is 0. */
+static inline size_t ctext_run_start(uint64_t run)
+{
+    return run & 0xFFFF;
+}
+
+static inline size_t ctext_run_end(uint64_t run)
+{
+    return (run >> 16) & 0xFFFF;
+}
+
+static inline uint8_t ctext_run_set(uint64_t run)
+{
+    return (run >> 32) & 0xFF;
+}
+
+static inline uint8_t ctext_run_width(uint64_t run)
+{
+    return (run >> 40) & 0xFF;
+}
+
+static inline uint8_t ctext_run_direction(uint64_t run)
+{
+    return (run >> 48) & 0xFF;
+}
 
 /* ---- A reader that steps ----------------------------------------------- */
 
@@ -358,6 +433,7 @@ typedef char ctext_layout[sizeof(ctext_answer) == 24 && sizeof(ctext_unit) == 12
                           && sizeof(ctext_run_bounds) == 48 && sizeof(ctext_printed) == 32
                           && sizeof(ctext_run_reader) == 24
                           && sizeof(ctext_run_step) == 72
+                          && sizeof(ctext_runs_step) == 48
                           && sizeof(ctext_reader) == 32 && sizeof(ctext_step) == 72
                           ? 1 : -1];
 

@@ -105,6 +105,70 @@ static void runs_in_order(const uint8_t *s, size_t n)
     }
 }
 
+static int same_run_reader(ctext_run_reader a, ctext_run_reader b)
+{
+    return a.levels == b.levels && a.place == b.place && a.gl == b.gl && a.gr == b.gr
+        && a.depth == b.depth && a.marked == b.marked && a.texted == b.texted
+        && a.checked == b.checked;
+}
+
+static int same_listed(uint64_t listed, ctext_run_bounds run)
+{
+    return ctext_run_start(listed) == run.start && ctext_run_end(listed) == run.end
+        && ctext_run_set(listed) == run.set && ctext_run_width(listed) == run.width
+        && ctext_run_direction(listed) == run.direction && listed >> 56 == 0;
+}
+
+/* One call, into a list of exactly so many words. The runs stored are those that
+   ctext_next_run shows, and the reader then stands where that one does; the rest
+   of the list stays, the whole of it beside a refusal. */
+static ctext_runs_step listed(const uint8_t *s, size_t n, ctext_run_reader from, size_t room)
+{
+    uint64_t *list = (uint64_t *)lend(room * sizeof *list);
+    ctext_run_step step = { from, { 0, 0, { 0, 0, 0 }, 0, 0, 0 } };
+    ctext_runs_step all;
+    size_t k;
+    if (room > 0)
+        memset(list, PATTERN, room * sizeof *list);
+    all = ctext_next_runs(s, n, from, list, room);
+    expect(all.answer.count <= room, "more runs than there is room for", s, n);
+    for (k = 0; k < all.answer.count && k < room; k++) {
+        step = ctext_next_run(s, n, step.reader);
+        expect(same_listed(list[k], step.run), "a run of a list", s, n);
+    }
+    expect(k == room || untouched(list + k, (room - k) * sizeof *list), "the rest of a list", s, n);
+    if (k < room) {
+        step = ctext_next_run(s, n, step.reader);
+        expect(step.run.answer.number != CTEXT_ACCEPTED, "a run that is left out", s, n);
+    }
+    if (all.answer.number == CTEXT_ACCEPTED)
+        expect(all.answer.place == n, "the place of a list", s, n);
+    else if (room > 0)
+        expect(same_answer(all.answer, step.run.answer), "the refusal of a list", s, n);
+    if (room == 0)
+        step.reader.checked = all.answer.number == CTEXT_ACCEPTED || from.checked != 0;
+    expect(same_run_reader(all.reader, step.reader), "the reader after a list", s, n);
+    free(list);
+    return all;
+}
+
+/* Lists of no room, of little and of more than enough, up to the end and past it. */
+static void runs_listed(const uint8_t *s, size_t n, ctext_answer check)
+{
+    size_t room;
+    for (room = 0; room <= n + 1 && room < 6; room++) {
+        ctext_run_reader reader = ctext_open_runs();
+        unsigned past = 0;
+        while (past < 2) {
+            ctext_runs_step step = listed(s, n, reader, room);
+            expect(step.answer.number == check.number && step.answer.place == check.place,
+                   "the answer of a list", s, n);
+            past += step.answer.count == 0;
+            reader = step.reader;
+        }
+    }
+}
+
 /* The runs stand one after the other and hold every character and space. */
 static void runs(const uint8_t *s, size_t n, const ctext_unit *units, ctext_answer check)
 {
@@ -258,6 +322,7 @@ static void try_string(const uint8_t *octets, size_t n)
     runs(s, n, units, check);
     printed(s, n, units, check);
     runs_in_order(s, n);
+    runs_listed(s, n, check);
     if (a.number == CTEXT_ACCEPTED)
         written(s, n, units, a.count);
     expect(n == 0 || memcmp(s, octets, n) == 0, "the string itself", s, n);
@@ -343,7 +408,7 @@ static void try_run_readers(void)
 {
     static const uint8_t octets[] = { 0x41, 0x09, 0xE9 };
     uint8_t *s = (uint8_t *)lend(sizeof octets);
-    unsigned gr, depth, place;
+    unsigned gr, depth, place, room;
     memcpy(s, octets, sizeof octets);
     for (gr = 0; gr < 20; gr++)
         for (depth = 0; depth < 20; depth++)
@@ -363,6 +428,12 @@ static void try_run_readers(void)
                 expect(shown || step.run.start == step.run.end, "no run", s, 3);
                 expect(good || (step.run.answer.number == CTEXT_BAD_UNIT && step.reader.place == place),
                        "a bad reader of runs", s, 3);
+                for (room = 0; room < 3; room++) {
+                    int taken = good && (room == 0 || shown || place == sizeof octets);
+                    ctext_answer a = listed(s, sizeof octets, r, room).answer;
+                    expect((a.number == CTEXT_ACCEPTED) == taken, "a list of a reader", s, 3);
+                    expect(good || a.number == CTEXT_BAD_UNIT, "a list of a bad reader", s, 3);
+                }
             }
     free(s);
 }
@@ -381,6 +452,25 @@ static void try_depth(void)
     expect(a.number == CTEXT_TOO_DEEP && a.place == sizeof s - 3, "seventeen open", s, 3);
 }
 
+/* As many runs as there can be, all in one call, and the rest after some of them;
+   and a string of one octet more. */
+static void try_many_runs(void)
+{
+    size_t most = CTEXT_MOST_OCTETS, some = 1000, i;
+    uint8_t *s = (uint8_t *)lend(most + 1);
+    ctext_runs_step step;
+    for (i = 0; i <= most; i++)
+        s[i] = i % 2 == 0 ? 0x41 : 0xE9;
+    expect(listed(s, most, ctext_open_runs(), most).answer.count == most, "all runs", s, 2);
+    step = listed(s, most, ctext_open_runs(), some);
+    expect(step.answer.count == some, "some runs", s, 2);
+    step = listed(s, most, step.reader, most);
+    expect(step.answer.count == most - some && step.reader.place == most, "the other runs", s, 2);
+    step = listed(s, most + 1, ctext_open_runs(), some);
+    expect(step.answer.number == CTEXT_TOO_LONG && step.answer.place == 0, "runs of too long a string", s, 2);
+    free(s);
+}
+
 /* The longest string and list, and one more. */
 static void try_limits(void)
 {
@@ -397,6 +487,8 @@ static void try_limits(void)
         expect(ctext_run(s, n, 0).answer.number == expected, "a run at the limit", s, 1);
         expect(ctext_next_run(s, n, ctext_open_runs()).run.answer.number == expected,
                "a run in order at the limit", s, 1);
+        expect(listed(s, n, ctext_open_runs(), 2).answer.number == expected,
+               "a list of runs at the limit", s, 1);
         expect(ctext_next(s, n, ctext_open()).given == (expected == CTEXT_ACCEPTED),
                "a step at the limit", s, 1);
         units[most] = units[0];
@@ -418,6 +510,7 @@ int main(int argc, char **argv)
     try_program();
     try_run_readers();
     try_depth();
+    try_many_runs();
     try_limits();
     printf("bounds: %lu strings, %lu accepted, %lu failures\n", strings, accepted, failures);
     return failures != 0;

@@ -3,7 +3,7 @@
 use std::env;
 use std::path::Path;
 
-const FEATURES: [&str; 6] = ["CHECK", "READ", "RUN", "NEXT", "RUNS", "WRITE"];
+const FEATURES: [&str; 7] = ["CHECK", "READ", "RUN", "NEXT", "RUNS", "LISTED", "WRITE"];
 
 fn main() {
     println!("cargo:rerun-if-changed=build.rs");

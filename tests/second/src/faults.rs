@@ -5,7 +5,7 @@ use std::ops::Range;
 
 use crate::ffi::{Lent, Library};
 use crate::reader::{self, State};
-use crate::run_steps::{self, RunReader, RunStep};
+use crate::run_steps::{self, RunList, RunReader, RunStep};
 use crate::runs::{self, Shown};
 use crate::steps::{self, Handed, Position};
 use crate::unit::*;
@@ -54,6 +54,14 @@ pub enum Fault {
     RunBeforeRefusal,
     /// A run of GR octets is joined to that of GL octets behind it.
     RunsJoined,
+    /// A word behind the last run of a list is cleared.
+    WordTooMany,
+    /// The runs before an offence are stored, though the string is refused.
+    WordsOfRefusal,
+    /// A run that a full list has no room for is passed over.
+    RunPassedOver,
+    /// An offence behind the runs of a list is answered in place of their number.
+    RefusalTooEarly,
 }
 
 pub struct Faulty {
@@ -193,6 +201,41 @@ impl Library for Faulty {
             }
         }
         step
+    }
+
+    fn next_runs(
+        &self,
+        memory: &mut [u8],
+        string: Range<usize>,
+        reader: RunReader,
+        list: &mut [u64],
+        room: usize,
+    ) -> (RunReader, Answer) {
+        let s = &memory[string];
+        let lists = run_steps::run_lists(s, reader, room);
+        let RunList {
+            mut words,
+            mut reader,
+            mut answer,
+        } = lists[0].clone();
+        match self.fault {
+            Fault::WordTooMany if answer.is_accepted() => words.push(0),
+            Fault::WordsOfRefusal if !answer.is_accepted() => {
+                let checked = RunReader {
+                    checked: 1,
+                    ..reader
+                };
+                words = run_steps::run_lists(s, checked, room)[0].words.clone();
+            }
+            Fault::RunPassedOver if lists.len() > 2 => reader = lists[1].reader,
+            Fault::RefusalTooEarly if !words.is_empty() => {
+                let next = lists[1].answer;
+                answer = if next.is_accepted() { answer } else { next };
+            }
+            _ => {}
+        }
+        list[..words.len()].copy_from_slice(&words);
+        (reader, answer)
     }
 
     fn write(&self, units: &[Unit], segments: &[u8], work: Lent, out: Lent) -> Answer {

@@ -12,6 +12,7 @@
         feature = "run",
         feature = "next",
         feature = "runs",
+        feature = "listed",
         feature = "write"
     )),
     allow(dead_code)
@@ -45,6 +46,17 @@ pub trait Library {
     /// As for a step.
     fn next_run(&self, memory: &mut [u8], string: Range<usize>, reader: RunReader) -> RunStep;
 
+    /// As for a step, and lends the first `room` words of the list; the rest are
+    /// guards.
+    fn next_runs(
+        &self,
+        memory: &mut [u8],
+        string: Range<usize>,
+        reader: RunReader,
+        list: &mut [u64],
+        room: usize,
+    ) -> (RunReader, Answer);
+
     /// Lends the first octets of the work room and of the output; the rest are
     /// guards.
     fn write(&self, units: &[Unit], segments: &[u8], work: Lent, out: Lent) -> Answer;
@@ -64,6 +76,7 @@ pub struct Functions {
     pub run: bool,
     pub next: bool,
     pub runs: bool,
+    pub listed: bool,
     pub write: bool,
 }
 
@@ -74,6 +87,7 @@ impl Functions {
         run: false,
         next: false,
         runs: false,
+        listed: false,
         write: false,
     };
 }
@@ -85,6 +99,7 @@ pub const LINKED: Functions = Functions {
     run: cfg!(feature = "run"),
     next: cfg!(feature = "next"),
     runs: cfg!(feature = "runs"),
+    listed: cfg!(feature = "listed"),
     write: cfg!(feature = "write"),
 };
 
@@ -182,6 +197,12 @@ struct CRunStep {
     run: CRun,
 }
 
+#[repr(C)]
+struct CRunsStep {
+    reader: CRunReader,
+    answer: CAnswer,
+}
+
 /// The header's sizes.
 const _: () = assert!(
     size_of::<CReader>() == 32 && size_of::<CPassedReader>() == 32 && size_of::<CStep>() == 72
@@ -190,6 +211,7 @@ const _: () = assert!(
     size_of::<CRunReader>() == 24
         && size_of::<CPassedRunReader>() == 24
         && size_of::<CRunStep>() == 72
+        && size_of::<CRunsStep>() == 48
 );
 
 extern "C" {
@@ -200,6 +222,13 @@ extern "C" {
     fn ctext_next(s: *const u8, n: usize, reader: CPassedReader) -> CStep;
     fn ctext_open_runs() -> CRunReader;
     fn ctext_next_run(s: *const u8, n: usize, reader: CPassedRunReader) -> CRunStep;
+    fn ctext_next_runs(
+        s: *const u8,
+        n: usize,
+        reader: CPassedRunReader,
+        runs: *mut u64,
+        room: usize,
+    ) -> CRunsStep;
     fn ctext_write(
         units: *const CUnit,
         count: usize,
@@ -296,6 +325,25 @@ impl Library for Proved {
         }
     }
 
+    fn next_runs(
+        &self,
+        memory: &mut [u8],
+        string: Range<usize>,
+        reader: RunReader,
+        list: &mut [u64],
+        room: usize,
+    ) -> (RunReader, Answer) {
+        assert!(string.start <= string.end && string.end <= memory.len() && room <= list.len());
+        let (s, n) = (memory.as_mut_ptr().wrapping_add(string.start), string.len());
+        let (reader, words) = (run_reader_to_c(reader), list.as_mut_ptr());
+        #[cfg(feature = "listed")]
+        // Safety: so many octets and at least `room` words stand at the pointers.
+        let step = unsafe { ctext_next_runs(s, n, reader, words, room) };
+        #[cfg(not(feature = "listed"))]
+        let step: CRunsStep = not_linked((s, n, reader, words));
+        (run_reader_from_c(step.reader), from_c(step.answer))
+    }
+
     fn write(&self, units: &[Unit], segments: &[u8], work: Lent, out: Lent) -> Answer {
         assert!(work.lent <= work.octets.len() && out.lent <= out.octets.len());
         let records: Vec<CUnit> = units.iter().map(to_c).collect();
@@ -326,6 +374,7 @@ impl Library for Proved {
     feature = "run",
     feature = "next",
     feature = "runs",
+    feature = "listed",
     feature = "write"
 )))]
 fn not_linked<A, B>(_: A) -> B {

@@ -8,6 +8,7 @@ mod compare;
 #[cfg(test)]
 mod faults;
 mod ffi;
+mod listing;
 mod lists;
 mod oracle;
 mod positions;
@@ -36,7 +37,7 @@ use ffi::Functions;
 use session::Plan;
 
 const USAGE: &str = "\
-second compare [--long] [--minutes N] [--seed N] [--only check,read,run,next,runs,write]
+second compare [--long] [--minutes N] [--seed N] [--only check,read,run,next,runs,listed,write]
 second answer|units|runs|write   lines of hexadecimal octets on standard input
 second step                      lines `place gl gr directions marked texted handed octets`";
 
@@ -109,7 +110,7 @@ fn number(word: &str) -> Result<u64, String> {
 /// The functions named, as far as they are linked.
 fn only(names: &str) -> Result<Functions, String> {
     let names: Vec<&str> = names.split(',').collect();
-    let known = ["check", "read", "run", "next", "runs", "write"];
+    let known = ["check", "read", "run", "next", "runs", "listed", "write"];
     if let Some(name) = names.iter().find(|name| !known.contains(name)) {
         return Err(format!("unknown function {name}"));
     }
@@ -119,6 +120,7 @@ fn only(names: &str) -> Result<Functions, String> {
         run: ffi::LINKED.run && names.contains(&"run"),
         next: ffi::LINKED.next && names.contains(&"next"),
         runs: ffi::LINKED.runs && names.contains(&"runs"),
+        listed: ffi::LINKED.listed && names.contains(&"listed"),
         write: ffi::LINKED.write && names.contains(&"write"),
     })
 }

@@ -73,6 +73,60 @@ pub fn run_steps(s: &[u8], from: RunReader) -> Vec<RunStep> {
     steps
 }
 
+/// The words that one call stores, what it hands back, and where the reader
+/// stands after it.
+#[derive(Clone, PartialEq, Eq, Debug)]
+pub struct RunList {
+    pub words: Vec<u64>,
+    pub reader: RunReader,
+    pub answer: Answer,
+}
+
+/// All calls over a string with room for so many runs: those that store some,
+/// and the one that stores none, which repeats from then on.
+pub fn run_lists(s: &[u8], from: RunReader, room: usize) -> Vec<RunList> {
+    let state = from.at.state();
+    let checked = from.checked != 0;
+    if let Some(refusal) = refused_at_once(s, &state, checked) {
+        return vec![list(&[], RunReader::of(&state, checked), refusal)];
+    }
+    let stored = |count| Answer::accepted(s.len(), count);
+    if room == 0 {
+        return vec![list(&[], RunReader::of(&state, true), stored(0))];
+    }
+    let mut steps = run_steps(s, from);
+    let end = steps.pop().expect("the step with the answer");
+    let lists = steps.chunks(room).map(|runs| {
+        // Where there is room left, the rest of the string was read too.
+        let full = runs.get(room - 1);
+        let reader = full.map_or(end.reader, |last| last.reader);
+        list(runs, reader, stored(runs.len()))
+    });
+    let answer = match end.shown.answer.number {
+        11 => stored(0),
+        _ => end.shown.answer,
+    };
+    lists.chain([list(&[], end.reader, answer)]).collect()
+}
+
+fn list(runs: &[RunStep], reader: RunReader, answer: Answer) -> RunList {
+    let words = runs.iter().map(|run| word(&run.shown)).collect();
+    RunList {
+        words,
+        reader,
+        answer,
+    }
+}
+
+/// A run in one word: from the lowest octet on, its start and its end in two
+/// octets each, and in one each its set, width and direction.
+fn word(run: &Shown) -> u64 {
+    let (start, length) = run.part.expect("a run has a part");
+    let [s0, s1] = (start as u16).to_le_bytes();
+    let [e0, e1] = ((start + length) as u16).to_le_bytes();
+    u64::from_le_bytes([s0, s1, e0, e1, run.set, run.width, run.direction, 0])
+}
+
 /// A string that is too long, a reader that cannot be, a refused string: in
 /// this order, and before any run.
 fn refused_at_once(s: &[u8], state: &State, checked: bool) -> Option<Answer> {
@@ -165,5 +219,63 @@ mod tests {
         assert_eq!(none.len(), 1);
         assert_eq!(none[0].shown.answer, Answer::refusal(3, 2));
         assert_eq!(none[0].reader, RunReader::OPENED);
+    }
+
+    #[test]
+    fn a_run_is_one_word() {
+        let s = [
+            0x9B, 0x32, 0x5D, 0x1B, 0x24, 0x29, 0x42, 0xB0, 0xA1, 0x41, 0x0A,
+        ];
+        let lists = run_lists(&s, RunReader::OPENED, 2);
+        let words = [0x0002_020D_0009_0007, 0x0002_0100_000A_0009];
+        assert_eq!(lists[0].words, words);
+        assert_eq!(lists[0].answer, Answer::accepted(11, 2));
+        assert_eq!(lists[0].reader.at.place, 10);
+        assert_eq!(lists[1].words, []);
+        assert_eq!(lists[1].answer, Answer::accepted(11, 0));
+        assert_eq!(lists[1].reader.at.place, 11);
+    }
+
+    #[test]
+    fn listed_runs_are_those_in_order() {
+        let mut random = Random::new(7);
+        for _ in 0..5_000 {
+            let s = random_string(&mut random);
+            let mut runs = run_steps(&s, RunReader::OPENED);
+            runs.pop();
+            let words: Vec<u64> = runs.iter().map(|run| word(&run.shown)).collect();
+            for room in 1..5 {
+                let lists = run_lists(&s, RunReader::OPENED, room);
+                let stored = lists.iter().flat_map(|list| list.words.clone());
+                assert_eq!(stored.collect::<Vec<u64>>(), words, "{s:?}");
+                for (k, list) in lists.iter().enumerate() {
+                    let rest = run_lists(&s, list.reader, room);
+                    let last = lists.len() - 1;
+                    assert_eq!(rest, lists[last.min(k + 1)..], "{s:?}");
+                }
+            }
+        }
+    }
+
+    /// The runs before an offence are listed, and then the refusal, but where
+    /// there is no room for any.
+    #[test]
+    fn a_list_ends_before_an_offence() {
+        let s = [0x41, 0xE9, 0x00];
+        let word = RunReader {
+            checked: 2,
+            ..RunReader::OPENED
+        };
+        let answers = |room| -> Vec<Answer> {
+            let lists = run_lists(&s, word, room);
+            lists.iter().map(|list| list.answer).collect()
+        };
+        let accepted = |count| Answer::accepted(3, count);
+        assert_eq!(answers(5), [accepted(2), Answer::refusal(3, 2)]);
+        assert_eq!(answers(2), [accepted(2), Answer::refusal(3, 2)]);
+        assert_eq!(answers(0), [accepted(0)]);
+        let opened = run_lists(&s, RunReader::OPENED, 5);
+        assert_eq!(opened[0].answer, Answer::refusal(3, 2));
+        assert_eq!(opened[0].reader, RunReader::OPENED);
     }
 }

@@ -23,11 +23,7 @@ impl<L: Library> Comparer<L> {
 
     /// Compares readers of runs made by hand, with what they say of the string.
     pub fn run_readers(&self, s: &[u8], from: Position) -> Compared {
-        let at = Position { count: 0, ..from };
-        for checked in [0, 1, 254] {
-            self.run_reader(s, RunReader { at, checked })?;
-        }
-        Ok(())
+        made_by_hand(from, |reader| self.run_reader(s, reader))
     }
 
     /// Compares every step of a reader of runs, up to the answer and past it.
@@ -69,15 +65,24 @@ impl<L: Library> Comparer<L> {
     }
 }
 
+/// Compares the readers of runs at a position, with all that they say of the string.
+pub fn made_by_hand(at: Position, compare: impl Fn(RunReader) -> Compared) -> Compared {
+    let at = Position { count: 0, ..at };
+    for checked in [0, 1, 254] {
+        compare(RunReader { at, checked })?;
+    }
+    Ok(())
+}
+
 /// The reader without the digits that mean nothing.
-fn meant(reader: RunReader) -> RunReader {
+pub fn meant(reader: RunReader) -> RunReader {
     RunReader {
         at: reader.at.without_idle_digits(),
         ..reader
     }
 }
 
-fn show_reader(reader: &RunReader) -> String {
+pub fn show_reader(reader: &RunReader) -> String {
     let RunReader { at, checked } = reader;
     format!("{} checked {checked}", show_position(at))
 }

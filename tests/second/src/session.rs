@@ -198,6 +198,9 @@ impl<L: Library> Session<L> {
         if self.comparer.functions.runs {
             self.compare_string(s, Comparer::opened_runs);
         }
+        if self.comparer.functions.listed {
+            self.compare_string(s, Comparer::listed_runs);
+        }
         self.report();
     }
 
@@ -210,7 +213,7 @@ impl<L: Library> Session<L> {
 
     fn reader(&mut self, s: &[u8], position: Position) {
         let functions = self.comparer.functions;
-        if !self.goes_on() || !(functions.next || functions.runs) {
+        if !self.goes_on() || !(functions.next || functions.runs || functions.listed) {
             return;
         }
         self.readers += 1;
@@ -219,6 +222,9 @@ impl<L: Library> Session<L> {
         }
         if functions.runs {
             self.compare_reader(s, position, Comparer::run_readers);
+        }
+        if functions.listed {
+            self.compare_reader(s, position, Comparer::listing_readers);
         }
         self.report();
     }
@@ -372,6 +378,7 @@ mod tests {
             run: true,
             next: true,
             runs: true,
+            listed: true,
             write: true,
         };
         let plan = Plan {
@@ -480,6 +487,30 @@ mod tests {
         let (smallest, call) = found(Fault::RunsJoined, &s);
         assert_eq!(smallest, [0xB0, 0x20]);
         assert_eq!(call, "ctext_next_run number 0");
+    }
+
+    #[test]
+    fn faults_of_listed_runs_are_found_and_shrunk() {
+        let s = [0x41, 0x1B, 0x2D, 0x42, 0xB0, 0x20, 0x09, 0x42];
+        let refused = [0x41, 0x41, 0x20, 0x1B, 0x28];
+        let found = |fault, s: &[u8]| smallest_by(Comparer::listed_runs, fault, s);
+        let (smallest, call) = found(Fault::WordTooMany, &s);
+        assert_eq!(smallest, []);
+        assert_eq!(call, "ctext_next_runs number 0 with room 0");
+        let (smallest, call) = found(Fault::WordsOfRefusal, &refused);
+        assert_eq!(smallest, [0x20, 0x1B]);
+        assert_eq!(call, "ctext_next_runs number 0 with room 1");
+        let (smallest, call) = found(Fault::RunPassedOver, &s);
+        assert_eq!(smallest, [0x41, 0xB0]);
+        assert_eq!(call, "ctext_next_runs number 0 with room 1");
+        let session = session(Fault::RefusalTooEarly);
+        assert_eq!(session.comparer.listed_runs(&refused), Ok(()));
+        let opened = Position::OPENED;
+        let compare = Comparer::listing_readers;
+        let first = compare(&session.comparer, &refused, opened).expect_err("a difference");
+        let (smallest, _, difference) = session.smallest_reader(&refused, opened, compare, first);
+        assert_eq!(smallest, [0x20, 0x1B]);
+        assert_eq!(difference.call, "ctext_next_runs number 0 with room 1");
     }
 
     #[test]
