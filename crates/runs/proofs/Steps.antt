@@ -9,11 +9,13 @@ use lib.Dec.{leb, ltb}
 use lib.ListN.{length}
 use borrow.Author.Tests.{eq-eqb, lt-ltb, ltb-true, ltb-false, leb-true}
 use Rattle.base.specs.Choice.{pick, from}
+use Rattle.base.specs.Limit as limit
 use Rattle.base.specs.Refusal as refusal
 use Rattle.base.specs.declared.Answer.{Answer}
 use Rattle.base.proofs.Bools.{pick-last}
 use Rattle.base.proofs.Ladder.{on-eq, on-ne}
-use Rattle.charset.specs.Charsets.{no-set}
+use Rattle.charset.specs.Charsets.{no-set, allowed}
+use Rattle.charset.specs.declared.Side.the-variants.{GL, GR}
 use Rattle.element.proofs.Sizes.{Fit, silent, found}
 use Rattle.grammar.specs.Reading.{Octets}
 use Rattle.grammar.proofs.Places.{ahead, at-end, at-refused, at-passed, step-passed}
