@@ -131,10 +131,11 @@ fn octet(part: &[u8], i: usize) -> u8
     0
 }
 
-// The i-th octet of the k-th run, and 0 past its end: `run` for callers that hold none.
+// The i-th octet of the k-th run, and 0 past its end, for callers that hold no run.
 pub fn run_octet(s: &[u8], k: usize, i: usize) -> u8
     ensures { λ r. ⌜ r ≡ getD (runOctets (now (s .entry)) k) i 0 ⌝ }
 {
-    let r = run(s, k);
-    octet(r.part, i)
+    let b = run_at(s, k);
+    let p = part(s, b.start, b.end);
+    octet(p, i)
 }
