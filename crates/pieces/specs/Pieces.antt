@@ -89,7 +89,7 @@ stateAt st (refused-at at n o) i = st
 stateAt st (silent-at at k next es) i = pick (ltb i (at + k)) st (stateAt next es i)
 stateAt st (found-at at p next es) i = pick (ltb i (at + size p)) st (stateAt next es i)
 
--- ---- what the code asks of two neighbours, and `joined` answers for a list
+-- ---- what is asked of two neighbours, and `joined` answers for a list
 
 -- a piece with its neighbour where they are of one run, and else the neighbour
 unfoldable pub extendedTo : Piece → Piece → Piece

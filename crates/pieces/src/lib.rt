@@ -2,7 +2,7 @@
 ghost use mathlib.Core.Path.{_≡_};
 ghost use Rattle.base.specs.Choice.{from};
 ghost use Rattle.element.specs.Element.{elementOf};
-ghost use Rattle.pieces.specs.Pieces.{noPiece, sideKindOf, pieceKindOf, sameRunOf, extendedTo, pieceOf, setIn, endingOf};
+ghost use Rattle.pieces.specs.Pieces.{noPiece, sideKindOf, pieceKindOf, pieceOf, setIn};
 use base::kind;
 use state::State;
 use state::elements::Element;
@@ -102,28 +102,6 @@ pub fn piece_at(s: &[u8], at: usize, st: State) -> Piece
     }
 }
 
-// Whether two neighbours are of one run.
-pub fn same_run(j: u8, k: u8) -> bool
-    ensures { λ r. ⌜ r ≡ sameRunOf j k ⌝ }
-{
-    if j < TAB {
-        return j == k;
-    }
-    false
-}
-
-// A piece with its neighbour where they are of one run, and else the neighbour.
-pub fn extended(last: Piece, next: Piece) -> Piece
-    ensures { λ r. ⌜ r ≡ extendedTo last next ⌝ }
-{
-    if same_run(last.kind, next.kind) {
-        let mut longer = last;
-        longer.end = next.end;
-        return longer;
-    }
-    next
-}
-
 // The set on the side of a run.
 pub fn set_in(run: Piece) -> u8
     ensures { λ r. ⌜ r ≡ setIn run ⌝ }
@@ -134,17 +112,4 @@ pub fn set_in(run: Piece) -> u8
         return sets.gl;
     }
     sets.gr
-}
-
-// How many runs end where a piece is followed by another: 1 where it is a run and they are not of one run.
-pub fn ending(last: u8, next: u8) -> usize
-    ensures { λ r. ⌜ r ≡ endingOf last next ⌝ }
-{
-    if last < TAB {
-        if last == next {
-            return 0;
-        }
-        return 1;
-    }
-    0
 }

@@ -17,23 +17,14 @@ use Rattle.grammar.specs.Reading.{checkOf}
 use Rattle.reader.proofs.Whole.{may-stand, fresh-fit}
 use Rattle.state.specs.State.{fresh}
 use Rattle.state.specs.declared.State.{State}
-use Rattle.pieces.specs.declared.Piece.{Piece}
-use Rattle.runs.specs.Runs.{runsOf, shownOf, noRun, nthOf, runAt}
+use Rattle.runs.specs.Runs.{runsOf, noRun, nthOf, runAt}
 use Rattle.runs.specs.Steps.{position, firstPosition, runFrom, knownOf}
 use Rattle.runs.specs.Listed.{Given, givesNone, endOf, givenFrom, nextRunsOf, afterCalls, givenBy, runsAt, Next}
 use Rattle.runs.specs.declared.Bounds.{Bounds}
 use Rattle.runs.specs.declared.stepping.RunPosition.{RunPosition}
 use Rattle.runs.specs.declared.stepping.RunStep.{RunStep}
-use Rattle.runs.proofs.InOrder.{Good, good, Stands, Stepped, is-known, is-may, from-step, stands-first}
+use Rattle.runs.proofs.InOrder.{Good, good, Stands, Stepped, nth-past, is-known, is-may, from-step, stands-first}
 use Rattle.runs.proofs.Lists.{stepped, on-good, on-bad, on-long, on-may}
-
--- where a number shows no run, it and all after it are answered 11
-nth-past : (n k j : ℕ) (ps : List Piece) → (nthOf n k ps .answer .number ≡ refusal.accepted → ⊥)
-    → nthOf n (k + j) ps ≡ noRun (refusedAt refusal.bad-unit 0)
-unfolding nthOf shownOf
-nth-past n k j [] h = refl
-nth-past n zero j (p ∷ ps) h = absurd (h refl)
-nth-past n (suc k) j (p ∷ ps) h = let z : suc k + j ≡ suc (k + j) = omega arith in rw z (nth-past n k j ps h)
 
 -- none is left, and c are given
 end-of-none : (n c : ℕ) → endOf n c (refusedAt refusal.bad-unit 0) ≡ answer refusal.accepted n c

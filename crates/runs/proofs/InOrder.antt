@@ -30,10 +30,20 @@ use Rattle.pieces.proofs.Laws.{StateAfter, state-after, first-state}
 use Rattle.pieces.proofs.Step.{Step, stops, goes, step, elementAt, rest, noRefusal}
 use Rattle.runs.specs.Runs.{runsIn, runsOf, shownOf, noRun, nthOf, runAt}
 use Rattle.runs.specs.Steps.{firstPosition, stays, stepTo, stopAt, lastOf, firstOf, runFrom, knownOf, checkedFrom, nextRunOf, positionAfter}
+use Rattle.runs.specs.declared.Bounds.{Bounds}
 use Rattle.runs.specs.declared.stepping.RunPosition.{RunPosition}
 use Rattle.runs.specs.declared.stepping.RunStep.{RunStep}
-use Rattle.runs.proofs.Turn.{runs-first, runs-other}
 use Rattle.runs.proofs.Steps.{first-run, first-other, lastFrom, fit-piece}
+
+-- ---- the runs among pieces
+
+runs-first : (p : Piece) (ps : List Piece) → isRun (p .kind) ≡ true → runsIn (p ∷ ps) ≡ p ∷ runsIn ps
+unfolding runsIn pick
+runs-first p ps e = rw e
+
+runs-other : (p : Piece) (ps : List Piece) → isRun (p .kind) ≡ false → runsIn (p ∷ ps) ≡ runsIn ps
+unfolding runsIn pick
+runs-other p ps e = rw e
 
 -- ---- the pieces that follow a piece
 
@@ -269,3 +279,54 @@ by-check s k false e = rw e (refused-runs s e k)
 -- the run of the step after k steps is the k-th run; past the last run, and of a refused string, each step repeats the answer
 pub in-order : (s : List ℕ) (k : ℕ) → nextRunOf s (positionAfter s k) .run ≡ runAt s k
 in-order s k = by-check s k (eqb (checkOf s .number) refusal.accepted) refl
+
+-- ---- the run of a number, by steps
+
+-- where a number shows no run, it and all after it are answered 11
+pub nth-past : (n k j : ℕ) (ps : List Piece) → (nthOf n k ps .answer .number ≡ refusal.accepted → ⊥)
+    → nthOf n (k + j) ps ≡ noRun (refusedAt refusal.bad-unit 0)
+unfolding nthOf shownOf
+nth-past n k j [] h = refl
+nth-past n zero j (p ∷ ps) h = absurd (h refl)
+nth-past n (suc k) j (p ∷ ps) h = let z : suc k + j ≡ suc (k + j) = omega arith in rw z (nth-past n k j ps h)
+
+-- and so of a string, refused or not
+runs-past : (s : List ℕ) (k j : ℕ) → (runAt s k .answer .number ≡ refusal.accepted → ⊥) → runAt s (k + j) ≡ runAt s k
+unfolding runAt pick
+runs-past s k j = by (eqb (checkOf s .number) refusal.accepted) refl
+  where
+    by : (b : Bool) → eqb (checkOf s .number) refusal.accepted ≡ b → (runAt s k .answer .number ≡ refusal.accepted → ⊥) → runAt s (k + j) ≡ runAt s k
+    by true e h =
+        let n = rw e at h in
+        let z : k + 0 ≡ k = omega arith in
+        rw e (nth-past (length s) k j (runsOf s) n ∙ sym (rw z at (nth-past (length s) k 0 (runsOf s) n)))
+    by false e h = rw e
+
+-- the invariant of `run_at`: so many steps are left to the run that is asked for
+pub record Numbered (s : List ℕ) (k : ℕ) (p : RunPosition) (left : ℕ) : Type 0 where
+  pub fits : left ≤ k
+  pub is : p ≡ positionAfter s (k - left)
+
+pub number-first : (s : List ℕ) (k : ℕ) (p : RunPosition) → p ≡ firstPosition → Numbered s k p k
+unfolding positionAfter
+number-first s k p e = let z : k - k ≡ 0 = omega arith in record { fits = omega arith; is = rw z e }
+
+module _ {s : List ℕ} {k : ℕ} {p : RunPosition} {left : ℕ} (h : Numbered s k p left) (t : RunStep) (e : t ≡ nextRunOf s p) where
+  numbered : t .run ≡ runAt s (k - left)
+  numbered = ap (λ (x : RunStep). x .run) e ∙ (ap (λ (x : RunPosition). nextRunOf s x .run) (h .is) ∙ in-order s (k - left))
+
+  pub at-number : left ≡ 0 → t .run ≡ runAt s k
+  at-number n = let z : k - left ≡ k = omega arith in rw z at numbered
+
+  pub past-number : (t .run .answer .number ≡ refusal.accepted → ⊥) → t .run ≡ runAt s k
+  past-number n =
+      let f = h .fits in
+      let z : k - left + left ≡ k = omega arith in
+      numbered ∙ sym (rw z at (runs-past s (k - left) left (λ y. n (ap (λ (x : Bounds). x .answer .number) numbered ∙ y))))
+
+  pub next-number : (left ≡ 0 → ⊥) → Numbered s k (t .position) (left - 1)
+  unfolding positionAfter
+  next-number n =
+      let f = h .fits in
+      let z : k - (left - 1) ≡ suc (k - left) = omega arith in
+      record { fits = omega arith; is = rw z (ap (λ (x : RunStep). x .position) e ∙ ap (λ (x : RunPosition). nextRunOf s x .position) (h .is)) }

@@ -1,4 +1,3 @@
-pub mod Turn
 pub mod Spans
 pub mod Steps
 pub mod InOrder

@@ -2,6 +2,7 @@
 use Prim.Native.Nat.{ℕ, zero, suc, _≤_, _<_, zero-le}
 use native.Mathlib.Omega.{arith}
 use mathlib.Core.Bool.{Bool, true, false}
+use mathlib.Core.Path.{_≡_}
 use mathlib.Core.List.{List, _∷_}
 use lib.ListN.{length}
 use Rattle.base.specs.Choice.{pick, from}
@@ -42,3 +43,6 @@ unfolding runAt runsOf piecesOf from
 run-lies s k =
     let t = pieces-tiled s in
     lies-by s _ _ _ (nth-lies s (length s) (t .tiles) (t .within) k) (zero-le, zero-le)
+
+pub lies-as : {g : Bounds} (s : List ℕ) (k : ℕ) → g ≡ runAt s k → Lies s g
+lies-as s k e = rw e (run-lies s k)

@@ -47,7 +47,6 @@ use Rattle.runs.specs.declared.Bounds.{Bounds}
 use Rattle.runs.specs.declared.stepping.RunPosition.{RunPosition}
 use Rattle.runs.specs.declared.stepping.RunStep.{RunStep}
 use Rattle.runs.proofs.Spans.{left-octet, right-octet, text-settled, single-piece, double-piece, single-ends, double-ends}
-use Rattle.runs.proofs.Turn.{alone, apart, extends-by, moves}
 
 -- ---- the first run among pieces
 
@@ -87,6 +86,28 @@ module _ (s : List ℕ) (at : ℕ) (st : State) where
   last-later (Refused n o) is h = absurd (h refl)
   last-later (Silent k next) is h = ap (lastOf st) (at-passed s at st (Silent k next) (sym is) silent refl)
   last-later (Found p next) is h = ap (lastOf st) (at-passed s at st (Found p next) (sym is) found refl)
+
+-- ---- a piece before others
+
+module _ (s : List ℕ) (at : ℕ) (st : State) (last : Piece) where
+  alone : rest s at st ≡ [] → joined last (rest s at st) ≡ last ∷ []
+  unfolding joined
+  alone e = rw e
+
+  -- a piece that is not of one run with the next stands by itself
+  apart : {q : Piece} → Step s at st q → sameRunOf (last .kind) (q .kind) ≡ false → joined last (rest s at st) ≡ last ∷ rest s at st
+  apart (stops e x) f = alone e ∙ ap (λ (ps : List Piece). last ∷ ps) (sym e)
+  apart (goes {q} b l u e x) f = rw e (joined-apart last q (rest s (q .end) (q .state)) f)
+
+-- the piece that is read last, once the next is read: it ends where that does, and does not start later
+extends-by : (last q : Piece) (at : ℕ) → last .start ≤ at → q .start ≡ at → at < q .end → Followed (last .kind) (q .kind) → (extendedTo last q .start ≤ q .end) × (extendedTo last q .end ≡ q .end)
+extends-by last q at h b l (same r i f g) = rw (extended-same last q f) (omega arith, refl)
+extends-by last q at h b l (over r f g) = rw (extended-apart last q f) (omega arith, refl)
+extends-by last q at h b l (other r f g) = rw (extended-apart last q f) (omega arith, refl)
+
+moves : {s : List ℕ} {at : ℕ} {st : State} {q : Piece} → Step s at st q → (q .end ≡ at → ⊥) → (q .start ≡ at) × ((at < q .end) × (q .end ≤ length s))
+moves (stops e x) i = absurd (i refl)
+moves (goes b m u e x) i = (b, (m, u))
 
 -- ---- the loop
 

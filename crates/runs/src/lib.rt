@@ -1,14 +1,13 @@
-// Runs: the stretches of text of one side, asked for by number; `stepping` has them one after the other.
+// Runs: the stretches of text of one side, asked for by number; `stepping` has them one after the other, and `listed` several at once.
 ghost use mathlib.Core.Path.{_≡_};
 ghost use Prim.Native.Nat.{_+_, _-_, _≤_};
 ghost use lib.ListN.{length, getD, take, drop};
-ghost use Rattle.runs.specs.Runs.{runsOf, widthOf, shownOf, noRun, nthOf, runAt, runOctets, startsAt, Shown};
+ghost use Rattle.runs.specs.Runs.{widthOf, shownOf, noRun, runAt, runOctets, startsAt, Shown};
 use base::Answer;
 use base::direction;
 use base::refusal;
 use charset::FORM_94X94;
 use pieces::Piece;
-use state::State;
 
 mod ends;
 pub mod listed;
@@ -76,46 +75,27 @@ fn shown(n: usize, run: Piece) -> Bounds
     }
 }
 
-// The k-th run of a string, refused or not, where its runs are those before the offending element. The piece that was read last is
-// kept until the one after it is known.
-fn nth(s: &[u8], k: usize) -> Bounds
-    ensures { λ r. ⌜ r ≡ nthOf (length (now (s .entry))) k (runsOf (now (s .entry))) ⌝ }
-{
-    let mut at: usize = 0;
-    let mut left = k;
-    let mut st = State::FRESH;
-    let mut last = pieces::no_piece(0);
-    loop {
-        let next = pieces::piece_at(s, at, st);
-        let ending = pieces::ending(last.kind, next.kind);
-        if left < ending {
-            return shown(s.len(), last);
-        }
-        if next.end == at {
-            return no_run(Answer {
-                place: 0,
-                count: 0,
-                number: refusal::BAD_UNIT,
-            });
-        }
-        left -= ending;
-        last = pieces::extended(last, next);
-        at = next.end;
-        let state = next.state;
-        st = state;
-    }
-}
-
-// The k-th run of a string: where it lies, and its numbers. Each call checks the string and reads it up to the run that is asked for; for
-// all runs of a string there is `stepping::next_run`.
+// The k-th run of a string: where it lies, and its numbers. Each call checks the string and steps to the run that is asked for; for all runs of a
+// string there are `stepping::next_run` and `listed::next_runs`. Where a step shows none, all after it answer the same.
 pub fn run_at(s: &[u8], k: usize) -> Bounds
     ensures { λ r. ⌜ r ≡ runAt (now (s .entry)) k ⌝ }
 {
-    let answer = check_string::answer(s);
-    if answer.number == refusal::ACCEPTED {
-        return nth(s, k);
+    let mut p = stepping::first_position();
+    let mut left = k;
+    loop {
+        let t = stepping::next_run(s, p);
+        let run = t.run;
+        let answer = run.answer;
+        if left == 0 {
+            return run;
+        }
+        if answer.number != refusal::ACCEPTED {
+            return run;
+        }
+        let next = t.position;
+        p = next;
+        left -= 1;
     }
-    no_run(answer)
 }
 
 // That very part of the string.
@@ -151,10 +131,11 @@ fn octet(part: &[u8], i: usize) -> u8
     0
 }
 
-// The i-th octet of the k-th run, and 0 past its end: `run` for callers that hold none.
+// The i-th octet of the k-th run, and 0 past its end, for callers that hold no run.
 pub fn run_octet(s: &[u8], k: usize, i: usize) -> u8
     ensures { λ r. ⌜ r ≡ getD (runOctets (now (s .entry)) k) i 0 ⌝ }
 {
-    let r = run(s, k);
-    octet(r.part, i)
+    let b = run_at(s, k);
+    let p = part(s, b.start, b.end);
+    octet(p, i)
 }
