@@ -9,7 +9,7 @@ use lib.ListN.{length, length-append}
 use lib.Seq.{take-append-seam}
 use borrow.Author.Tests.{lt-ltb, le-ltb, le-leb, ne-eqb, eq-eqb}
 use Rattle.base.specs.Choice.{pick}
-use Rattle.base.proofs.Bools.{Each, _&_, each, and-left, and-right, off, test, cond-by, from-tests, tested}
+use Rattle.base.proofs.Bools.{Each, each, and-left, and-right, off, test, cond-by, from-tests, tested}
 use Rattle.charset.specs.declared.Side.{Side}
 use Rattle.charset.specs.declared.Side.the-variants.{GL, GR}
 use Rattle.charset.specs.Charsets.{mayUse, allowed, formOf, fitsOf, find, setOf}
@@ -24,7 +24,8 @@ use Rattle.element.specs.Element.{shapeOf}
 use Rattle.state.specs.declared.Sets.{Sets}
 use Rattle.state.specs.declared.elements.Part.{Part}
 use Rattle.state.specs.declared.elements.Shape.the-variants.{Designates, Gives}
-use Rattle.grammar.specs.Units.{TextUnit, char, space, control, tab, newline, ltr, rtl, revert, ext, kindOf, controlOctets, textOctets, counts, unitOf, wide, top, shown, octets, designation, codeUsed, good}
+use Rattle.grammar.specs.Units.{TextUnit, char, space, control, tab, newline, ltr, rtl, revert, ext, kindOf, controlOctets, textOctets, counts, unitOf}
+use Rattle.grammar.specs.Units.{wide, top, shown, octets, designation, codeUsed, good}
 use Rattle.grammar.specs.Grammar.{Shows, Legal}
 use Rattle.grammar.specs.Reading.{unitAt}
 use Rattle.grammar.proofs.Segment.{content}
@@ -39,10 +40,8 @@ module _ (s : Sets) where
 
   starts-at : (t : List ℕ) (d : Side) → Each 15 (Starts t d)
   unfolding allowed mayUse formOf fitsOf find setOf designation shapeOf escapeOf multiOctetOf designationOf designatesOf next pick
-  starts-at t GL = (λ _. refl) & off & (λ _. refl) & off & off & off & off & off & off & off & off & off & (λ _. refl) & (λ _. refl) & (λ _. refl) & tt
-  starts-at t GR =
-      off & (λ _. refl) & off & (λ _. refl) & (λ _. refl) & (λ _. refl) & (λ _. refl) & (λ _. refl) & (λ _. refl) & (λ _. refl) & (λ _. refl) & (λ _. refl)
-      & (λ _. refl) & (λ _. refl) & (λ _. refl) & tt
+  starts-at t GL = search off depth 20
+  starts-at t GR = search off depth 20
 
   pub starts-designation : (d : Side) (c : ℕ) (t : List ℕ) → allowed d c ≡ true
       → shapeOf (designation (on d c) ++ t) s ≡ Designates (length (designation (on d c))) d c
@@ -80,12 +79,13 @@ module _ (s : Sets) where
       )
 
   -- the first octet on a side; a GL octet is no 20 or 7F
-  first-octet : (l : Legal s) (d : Side) (c k : ℕ) (t : List ℕ) → get d s ≡ c → 0x20 ≤ k → k ≤ 0x7F → (eqb (formOf c) 2 ≡ false → (0x21 ≤ k) × (k ≤ 0x7E))
+  first-octet : (l : Legal s) (d : Side) (c k : ℕ) (t : List ℕ) → get d s ≡ c → 0x20 ≤ k → k ≤ 0x7F
+      → (eqb (formOf c) 2 ≡ false → (0x21 ≤ k) × (k ≤ 0x7E))
       → shapeOf ((top d + k) ∷ t) s ≡ characterOf c (top d + k) t
   first-octet l GL c k t e h j r =
       let g = r (left-form c (subst (λ (m : ℕ). allowed GL m ≡ true) e (l .left))) in
       shape-left (0 + k) t (omega arith) (omega arith) ∙ ap (λ (m : ℕ). characterOf m (0 + k) t) e
-  first-octet l GR c k t e h j r = shape-right (128 + k) t (omega arith) ∙ ap (λ (m : ℕ). characterOf m (128 + k) t) e
+  first-octet l GR c k t e h j r = shape-right _ t (omega arith) ∙ ap (λ (m : ℕ). characterOf m (128 + k) t) e
 
   abbrev charPart : ℕ → ℕ → Part
   charPart c k = part 0 c k 0 (cond (wide c) 2 1) true
@@ -108,15 +108,15 @@ module _ (s : Sets) where
           → shapeOf (shown x (top d) k ++ t) s ≡ Gives (part 0 c k 0 (cond x 2 1) true)
       go true true p q u = absurd (omega tested)
       go true false p q u =
-          let g = and-left (graphicOf (k / 256)) _ u in
+          let g = and-left _ _ u in
           let h = and-right (graphicOf (k / 256)) _ u in
-          let a = graphic-low (k / 256) g in
-          let b = graphic-low (k % 256) h in
+          let a = graphic-low _ g in
+          let b = graphic-low _ h in
           let m = top-mod d (k / 256) (omega arith) in
           let n = top-mod d (k % 256) (omega arith) in
           let z : k / 256 * 256 + k % 256 ≡ k = omega arith in
-          first-octet l d c (k / 256) ((top d + k % 256) ∷ t) e (omega arith) (omega arith) (λ _. a)
-          ∙ rw (q, m, n, g, h, p, eq-eqb ((top d + k % 256) / 128) ((top d + k / 256) / 128) (top-div d (k % 256) (k / 256) (omega arith) (omega arith)))
+          first-octet l d c _ _ e (omega arith) (omega arith) (λ _. a)
+          ∙ rw (q, m, n, g, h, p, eq-eqb _ _ (top-div d (k % 256) (k / 256) (omega arith) (omega arith)))
           (ap (λ (j : ℕ). Gives (part 0 c j 0 2 true)) z)
       go false true p q u =
           let b : k ≤ 0x7F = search from-tests in
@@ -127,7 +127,8 @@ module _ (s : Sets) where
 
   -- ---- extended segments
 
-  starts-ext : (e : ℕ) (xs t : List ℕ) → good (ext e xs) ≡ true → shapeOf (octets GL (ext e xs) ++ t) s ≡ Gives (segmentPart e (length xs) (textOctets xs))
+  starts-ext : (e : ℕ) (xs t : List ℕ) → good (ext e xs) ≡ true
+      → shapeOf (octets GL (ext e xs) ++ t) s ≡ Gives (segmentPart e (length xs) (textOctets xs))
   unfolding octets good shapeOf escapeOf extendedOf lengthsOf bodyOf next pick
   starts-ext e xs t g =
       let h = good-segment e xs g in

@@ -26,7 +26,8 @@ use Rattle.state.specs.declared.Sets.{Sets}
 use Rattle.state.specs.declared.elements.Part.{Part}
 use Rattle.state.specs.declared.elements.Shape.{Shape}
 use Rattle.state.specs.declared.elements.Shape.the-variants.{Refuses, Designates, Gives}
-use Rattle.grammar.specs.Units.{TextUnit, char, space, control, tab, newline, ltr, rtl, revert, ext, kindOf, textOctets, counts, unitOf, wide, top, octets, lead, designation, codeUsed, segment, good}
+use Rattle.grammar.specs.Units.{TextUnit, char, space, control, tab, newline, ltr, rtl, revert, ext, kindOf, textOctets, counts, unitOf, wide, top}
+use Rattle.grammar.specs.Units.{octets, lead, designation, codeUsed, segment, good}
 use Rattle.grammar.specs.Grammar.{Shows, Legal}
 use Rattle.grammar.specs.Reading.{Octets, unitAt}
 use Rattle.grammar.proofs.Segment.{content}
@@ -77,7 +78,7 @@ change form d x t n b k =
 pub graphic-low : (k : ℕ) → graphicOf k ≡ true → (0x21 ≤ k) × (k ≤ 0x7E)
 unfolding graphicOf
 graphic-low k e =
-    let h = pick-last (ltb k 0x21) (leb k 0x7E) e in
+    let h = pick-last _ _ e in
     (ltb-false k 0x21 (h .0), leb-true k 0x7E (h .1))
 
 module _ (s : Sets) where
@@ -93,7 +94,8 @@ module _ (s : Sets) where
 
   -- ---- direction marks
 
-  sound-begin : (kind y : ℕ) (t : List ℕ) → ((t : List ℕ) → Sound s (0x9B ∷ y ∷ 0x5D ∷ t) (unit kind 0 0 3)) → Sound s (0x9B ∷ y ∷ t) (beginOf kind t)
+  sound-begin : (kind y : ℕ) (t : List ℕ) → ((t : List ℕ) → Sound s (0x9B ∷ y ∷ 0x5D ∷ t) (unit kind 0 0 3))
+      → Sound s (0x9B ∷ y ∷ t) (beginOf kind t)
   unfolding beginOf next
   sound-begin kind y [] f = no
   sound-begin kind y (z ∷ t) f = is (λ z. 0x9B ∷ y ∷ z ∷ t) z 0x5D (f t) no
@@ -119,7 +121,7 @@ module _ (s : Sets) where
   sound-named form d x t =
       by _
       (λ e. let n = set-named form d x (ltb-true (setOf form d x) 15 e) in
-      by _ (λ k. designates d (setOf form d x) t (change form d x t n true k)) (λ k. designates d (setOf form d x) t (change form d x t n false k)))
+      by _ (λ k. designates d _ t (change form d x t n true k)) (λ k. designates d _ t (change form d x t n false k)))
       (λ _. no)
 
   sound-designation : (form : ℕ) (d : Side) (t : List ℕ) → Sound s (lead form d t) (designationOf form d t)
@@ -139,10 +141,11 @@ module _ (s : Sets) where
 
   module _ (e m l n : ℕ) (t : List ℕ) (le : 0x30 ≤ e) (ge : e < 0x35) (lm : 128 ≤ m) (gm : m < 256) (ll : 128 ≤ l) (gl : l < 256)
       (en : n ≡ (m - 128) * 128 + (l - 128)) where
-    held : n ≤ length t → segment e 0 (take n t) ≡ true → Sound s (0x1B ∷ 0x25 ∷ 0x2F ∷ e ∷ m ∷ l ∷ t) (Gives (segmentPart e n (textOctets (take n t))))
+    held : n ≤ length t → segment e 0 (take n t) ≡ true
+        → Sound s (0x1B ∷ 0x25 ∷ 0x2F ∷ e ∷ m ∷ l ∷ t) (Gives (segmentPart e n (textOctets (take n t))))
     unfolding octets good unitAt unitOf
     held h g =
-        finds {p = segmentPart e n (textOctets (take n t))} (ext e (take n t)) GL (drop n t)
+        finds {p = segmentPart e n (textOctets (take n t))} (ext e (take n t)) GL _
         (record {
           fit = rw (le-leb 0x30 e le, le-leb e 0x34 (omega arith), le-leb (length (take n t)) 16383 (omega (arith, count)), g);
           shows = tt;
@@ -166,7 +169,7 @@ module _ (s : Sets) where
     unfolding bodyOf
     sound-body =
         by (leb n (length t))
-        (λ q. let h = leb-true n (length t) q in
+        (λ q. let h = leb-true n _ q in
         rw (content e n (take n t) 0 (omega (arith, length-take-le n t h))) (by (segment e 0 (take n t)) (λ g. held h g) (λ _. no)))
         (λ _. no)
 
@@ -210,7 +213,8 @@ module _ (s : Sets) where
         finds {p = part 0 c (b % 128) 0 1 true} (char c (b % 128)) d t
         (record { fit = rw (lt-ltb c 15 below, u); shows = here; are = rw n (ap (λ (x : ℕ). x ∷ t) (sym side)); size = rw n; unit = refl; kind = refl; text = refl })
 
-    two : (y : ℕ) (t : List ℕ) → eqb (formOf c) 3 ≡ true → graphicOf (b % 128) ≡ true → y / 128 ≡ b / 128 → graphicOf (y % 128) ≡ true → Sound s (b ∷ y ∷ t) (twoOctetsOf c b y)
+    two : (y : ℕ) (t : List ℕ) → eqb (formOf c) 3 ≡ true → graphicOf (b % 128) ≡ true → y / 128 ≡ b / 128 → graphicOf (y % 128) ≡ true
+        → Sound s (b ∷ y ∷ t) (twoOctetsOf c b y)
     unfolding octets good wide unitAt unitOf codeUsed
     two y t n u e v =
         let k : ℕ = b % 128 * 256 + y % 128 in
@@ -238,7 +242,7 @@ module _ (s : Sets) where
     unfolding characterOf codeUsed
     sound-character t =
         by (eqb (formOf c) 2)
-        (λ e. one t (ap (λ (f : ℕ). eqb f 3) (eqb-true (formOf c) 2 e)) (rw (eqb-true (formOf c) 2 e, le-leb 0x20 (b % 128) low, le-leb (b % 128) 0x7F (omega arith))))
+        (λ e. one t (ap (λ (f : ℕ). eqb f 3) (eqb-true (formOf c) 2 e)) (rw (eqb-true (formOf c) 2 e, le-leb 0x20 _ low, le-leb (b % 128) 0x7F (omega arith))))
         (λ m. by (graphicOf (b % 128))
         (λ u. by (eqb (formOf c) 3) (λ n. sound-second t n u) (λ n. one t n (rw (n, m, u)))) (λ _. no))
 

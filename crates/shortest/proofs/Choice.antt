@@ -19,7 +19,8 @@ use Rattle.state.specs.declared.Sets.{Sets}
 use Rattle.grammar.specs.Units.{TextUnit, char, space, control, ext, octets, good}
 use Rattle.grammar.specs.Grammar.{Shows, Reads, done, designate, show, Legal}
 use Rattle.grammar.proofs.Agrees.{put-legal}
-use Rattle.shortest.specs.Writing.{Need, free, either, stands, met, via, least, choose, after, designated, size, need, placesOf, used, cost, writing, Good}
+use Rattle.shortest.specs.Writing.{Need, free, either, stands, met, via, least, choose, after, designated, size, need, placesOf, used, cost, writing}
+use Rattle.shortest.specs.Writing.{Good}
 use Rattle.shortest.specs.Choice.{Serves, MayPrecede, LeftFirst, Lazy, nil, next, Preferred, Before, here, later, Chosen}
 use Rattle.shortest.proofs.Needs.{spent, Chose, nothing, the-first, the-second, chose, chosen-met}
 use Rattle.shortest.proofs.Costs.{spent-length, size-side, writing-length}
@@ -127,7 +128,8 @@ one-length t u d o = omega (arith, length-append (designated o) (octets d u ++ t
 abbrev Best : TextUnit → Option Standing → Option Standing → Type 0
 Best u chosen o = (o ≡ chosen) ⊎ ((a : Standing) × (b : Standing) × Preferred u a b × (chosen ≡ some a) × (o ≡ some b))
 
-best : (u : TextUnit) (n : Need) (f : Sets → ℕ) (s : Sets) (o : Option Standing) → Split u n → Permitted n s o → least n f s ≡ spent o + f (after o s)
+best : (u : TextUnit) (n : Need) (f : Sets → ℕ) (s : Sets) (o : Option Standing) → Split u n → Permitted n s o
+    → least n f s ≡ spent o + f (after o s)
     → Best u (choose n f s) o
 unfolding choose least
 best u free f s none z p e = inl refl
