@@ -18,7 +18,7 @@ use Rattle.charset.specs.declared.Side.{Side}
 use Rattle.charset.specs.declared.Side.the-variants.{GL, GR}
 use Rattle.charset.specs.Charsets.{allowed, mayUse}
 use Rattle.state.specs.State.{Standing, on, state, put, put′, designatedOf, fresh}
-use Rattle.state.specs.Directions.{undirected, stepOf}
+use Rattle.state.specs.Directions.{stepOf}
 use Rattle.element.specs.Element.{shapeOf, steppedOf, directedOf, elementOf}
 use Rattle.element.proofs.Sizes.{Fair, stops as stops-fairly, fair, Passed, silent, found, element-size, of-end}
 use Rattle.state.specs.declared.Sets.{Sets}
@@ -230,10 +230,6 @@ one-reading s us vs a b = sym (reading-is s us a) ∙ reading-is s vs b
 -- an accepted string of octets, by its answer alone
 pub accepted-whole : (s : List ℕ) → Octets s → checkOf s .number ≡ 0 → checkOf s ≡ answer 0 (length s) (length (readingOf s))
 accepted-whole s o z = accepted-answer s _ (correct s o z)
-
--- a refused string has no reading
-pub refused-none : (s : List ℕ) → (checkOf s .number ≡ 0 → ⊥) → (us : List TextUnit) → Accepted s us → ⊥
-refused-none s n us a = n (ap (λ (x : Answer). x .number) (accepted-answer s us a))
 
 -- a refusal has count 0
 none-counted : (count : ℕ) (es : Elements) → (answerOf count es .number ≡ 0) ⊎ (answerOf count es .count ≡ 0)

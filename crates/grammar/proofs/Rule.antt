@@ -102,14 +102,14 @@ likewise f g (stops n) = stops (λ o. n (g o))
 module _ (d : Directions) (b r t : ℕ) (l : Like d b r t) where
   step : (u : TextUnit) → After (May u b r t) (addIf (begins u) b) (addIf (reverts u) r) (addIf (counts u) t) (direct d u)
   unfolding stepOf pick
-  step (char c k) = likewise (λ o. record { text = λ _. o; begin = off; revert = off }) (λ m. m .text refl) (written d b r t l)
-  step space = likewise (λ o. record { text = λ _. o; begin = off; revert = off }) (λ m. m .text refl) (written d b r t l)
-  step (control tab) = goes (record { text = off; begin = off; revert = off }) l
-  step (control newline) = goes (record { text = off; begin = off; revert = off }) l
-  step (control ltr) = likewise (λ o. record { text = off; begin = λ _. o; revert = off }) (λ m. m .begin refl) (begun d b r t l 0)
-  step (control rtl) = likewise (λ o. record { text = off; begin = λ _. o; revert = off }) (λ m. m .begin refl) (begun d b r t l 1)
-  step (control revert) = likewise (λ o. record { text = off; begin = off; revert = λ _. o }) (λ m. m .revert refl) (reverted d b r t l)
-  step (ext c xs) = goes (record { text = off; begin = off; revert = off }) l
+  step (char c k) = likewise (λ o. search off) (λ m. m .text refl) (written d b r t l)
+  step space = likewise (λ o. search off) (λ m. m .text refl) (written d b r t l)
+  step (control tab) = goes (search off) l
+  step (control newline) = goes (search off) l
+  step (control ltr) = likewise (λ o. search off) (λ m. m .begin refl) (begun d b r t l 0)
+  step (control rtl) = likewise (λ o. search off) (λ m. m .begin refl) (begun d b r t l 1)
+  step (control revert) = likewise (λ o. search off) (λ m. m .revert refl) (reverted d b r t l)
+  step (ext c xs) = goes (search off) l
 
 same : (us : List TextUnit) (d : Directions) (b r t : ℕ) → Like d b r t → Same us d b r t
 unfolding directed Lawful

@@ -6,7 +6,7 @@ use mathlib.Core.Path.{_≡_, refl, sym, ap, ap₂, _∙_, subst}
 use mathlib.Core.Bool.{Bool, true, false, cond}
 use mathlib.Core.List.{List, [], _∷_, _++_}
 use lib.Dec.{eqb, leb, ltb}
-use lib.ListN.{length, take, drop, take-append-drop}
+use lib.ListN.{length, take, take-append-drop}
 use lib.Seq.{length-take-le}
 use borrow.Author.Tests.{eqb-true, ltb-true, ltb-false, leb-true, lt-ltb, le-leb}
 use Rattle.base.specs.Choice.{pick}
@@ -179,7 +179,7 @@ module _ (s : Sets) where
   sound-lengths e (m ∷ []) le ge o = by _ (λ _. no) (λ _. no)
   sound-lengths e (m ∷ l ∷ t) le ge o =
       by (ltb m 0x80) (λ _. no)
-      (λ p. by (ltb l 0x80) (λ _. no) (λ q. sound-body e m l ((m - 128) * 128 + (l - 128)) t le ge (ltb-false m 0x80 p) (o 0) (ltb-false l 0x80 q) (o 1) refl))
+      (λ p. by (ltb l 0x80) (λ _. no) (λ q. sound-body e m l _ t le ge (ltb-false m 0x80 p) (o 0) (ltb-false l 0x80 q) (o 1) refl))
 
   sound-extended : (t : List ℕ) → Octets t → Sound s (0x1B ∷ 0x25 ∷ t) (extendedOf t)
   unfolding extendedOf next
@@ -211,7 +211,15 @@ module _ (s : Sets) where
     unfolding octets good wide unitAt unitOf
     one t n u =
         finds {p = part 0 c (b % 128) 0 1 true} (char c (b % 128)) d t
-        (record { fit = rw (lt-ltb c 15 below, u); shows = here; are = rw n (ap (λ (x : ℕ). x ∷ t) (sym side)); size = rw n; unit = refl; kind = refl; text = refl })
+        (record {
+          fit = rw (lt-ltb c 15 below, u);
+          shows = here;
+          are = rw n (ap (λ (x : ℕ). x ∷ t) (sym side));
+          size = rw n;
+          unit = refl;
+          kind = refl;
+          text = refl;
+        })
 
     two : (y : ℕ) (t : List ℕ) → eqb (formOf c) 3 ≡ true → graphicOf (b % 128) ≡ true → y / 128 ≡ b / 128 → graphicOf (y % 128) ≡ true
         → Sound s (b ∷ y ∷ t) (twoOctetsOf c b y)
@@ -242,7 +250,8 @@ module _ (s : Sets) where
     unfolding characterOf codeUsed
     sound-character t =
         by (eqb (formOf c) 2)
-        (λ e. one t (ap (λ (f : ℕ). eqb f 3) (eqb-true (formOf c) 2 e)) (rw (eqb-true (formOf c) 2 e, le-leb 0x20 _ low, le-leb (b % 128) 0x7F (omega arith))))
+        (λ e. one t (ap (λ (f : ℕ). eqb f 3) (eqb-true (formOf c) 2 e))
+        (rw (eqb-true (formOf c) 2 e, le-leb 0x20 _ low, le-leb (b % 128) 0x7F (omega arith))))
         (λ m. by (graphicOf (b % 128))
         (λ u. by (eqb (formOf c) 3) (λ n. sound-second t n u) (λ n. one t n (rw (n, m, u)))) (λ _. no))
 

@@ -24,8 +24,8 @@ unfolding put stands
 put-stands p s = go (p .side)
   where
     go : (d : Side) → eqb (get d (put′ d (p .set) s)) (p .set) ≡ true
-    go GL = eq-eqb (p .set) (p .set) refl
-    go GR = eq-eqb (p .set) (p .set) refl
+    go GL = eq-eqb _ (p .set) refl
+    go GR = eq-eqb _ (p .set) refl
 
 -- a place that stands only once p is put is p
 pub stands-new : (a p : Standing) (s : Sets) → stands a s ≡ false → stands a (put p s) ≡ true → a ≡ p
@@ -45,13 +45,13 @@ Steady f = (p : Standing) (s : Sets) → f s ≤ via p f s
 -- a put before one to the same side is lost, and puts to two sides change places
 put-over : (f : Sets → ℕ) → Steady f → (a p : Standing) (s : Sets) → f (put a s) ≤ price p + f (put a (put p s))
 unfolding put
-put-over f st a p s = go (a .side) (p .side) (a .set) (p .set)
+put-over f st a p s = go (a .side) _ _ _
   where
     go : (d e : Side) (m n : ℕ) → f (put′ d m s) ≤ price (on e n) + f (put′ d m (put′ e n s))
     go GL GL m n = omega arith
     go GR GR m n = omega arith
-    go GL GR m n = st (on GR n) (put′ GL m s)
-    go GR GL m n = st (on GL n) (put′ GR m s)
+    go GL GR m n = st _ _
+    go GR GL m n = st _ _
 
 -- a need before what f says keeps that
 pub least-steady : (n : Need) (f : Sets → ℕ) → Steady f → Steady (least n f)
@@ -65,11 +65,11 @@ least-steady (either a b) f st p s = go (met (either a b) s) (met (either a b) (
     go true false x y = omega (arith, st p s, st a (put p s), st b (put p s))
     go false false x y = omega (arith, put-over f st a p s, put-over f st b p s)
     go false true x y =
-        let n = or-none (stands a s) (stands b s) x in
+        let n = or-none _ _ x in
         ⊎-elim
         (λ e. omega (arith, ap (λ (c : Standing). via c f s) (stands-new a p s (n .0) e)))
         (λ e. omega (arith, ap (λ (c : Standing). via c f s) (stands-new b p s (n .1) e)))
-        (or-cases (stands a (put p s)) (stands b (put p s)) y)
+        (or-cases _ _ y)
 
 abbrev pub spent : Option Standing → ℕ
 spent none = 0

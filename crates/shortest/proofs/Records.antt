@@ -55,7 +55,7 @@ unfolding listReading
 reading-length o [] us e = ap length (let q : us ≡ [] = cc in q)
 reading-length o (r ∷ rs) us e =
     let w = first-read o r rs us e in
-    rw (w .whole) (ap suc (reading-length o rs (w .rest) (w .others)))
+    rw (w .whole) (ap suc (reading-length o rs _ (w .others)))
 
 -- ---- good units that keep the direction rule, and lists with no offending record
 
@@ -66,7 +66,7 @@ units-fine o [] us i d e g h = refl
 units-fine o (r ∷ rs) us i d e g h =
     let w = first-read o r rs us e in
     let g′ = rw (w .whole) at g in
-    rw (w .first, g′ .0) (go (w .rest) (direct d (w .unit)) (rw (w .whole) at h) (λ next f. units-fine o rs (w .rest) (suc i) next (w .others) (g′ .1) f))
+    rw (w .first, g′ .0) (go (w .rest) (direct d (w .unit)) (rw (w .whole) at h) (λ next f. units-fine o rs _ (suc i) next (w .others) (g′ .1) f))
   where
     go : (vs : List TextUnit) (x : Step) → passes x (λ next. directed vs next) ≡ true
         → ((next : Directions) → directed vs next ≡ true → checkRecords o rs (suc i) next ≡ fine)
@@ -116,15 +116,15 @@ read-contents : (o : List ℕ) (r : UnitRecord) (u : TextUnit) → Octets o → 
 unfolding unitRead
 read-contents o r u h e =
     test (readable o r)
-    (λ t. subst Contents (Option·some-injective _ _ (rw t at e)) (unit-contents (r .kind) (r .set) (r .code) _ (part-octets (r .length) (r .start) o h)))
+    (λ t. subst Contents (Option·some-injective _ _ (rw t at e)) (unit-contents _ _ _ _ (part-octets (r .length) (r .start) o h)))
     (λ t. clash (cc (rw t at e)))
 
 pub list-contents : (o : List ℕ) (rs : List UnitRecord) (us : List TextUnit) → Octets o → listReading o rs ≡ some us → Every Contents us
 unfolding listReading
-list-contents o [] us h e = subst (Every Contents) (Option·some-injective _ _ e) tt
+list-contents o [] us h e = subst (Every _) (Option·some-injective _ _ e) tt
 list-contents o (r ∷ rs) us h e =
     let w = first-read o r rs us e in
-    rw (w .whole) (read-contents o r (w .unit) h (w .first), list-contents o rs (w .rest) h (w .others))
+    rw (w .whole) (read-contents o r _ h (w .first), list-contents o rs _ h (w .others))
 
 -- ---- the theorems
 
@@ -133,7 +133,7 @@ pub list-grammatical : (o : List ℕ) (rs : List UnitRecord) (us : List TextUnit
     → listReading o rs ≡ some us
     → Grammatical (shortestOf us) us
 list-grammatical o rs us h c e =
-    let f = fine-units o rs 0 undirected c in
+    let f = fine-units o rs 0 _ c in
     let s : f .units ≡ us = cc (f .reading) in
     writing-grammatical us (rw s at (f .good-ones)) (list-contents o rs us h e) (direction-rule us .0 (rw s at (f .rule)))
 
@@ -145,9 +145,9 @@ list-written o rs us h c e l = within-limit (list-grammatical o rs us h c e) (om
 
 fine-read : (o : List ℕ) (rs : List UnitRecord) → Octets o → (checkRecords o rs 0 undirected ≡ fine) ↔ SomeString o rs
 fine-read o rs h = (
-  λ c. let f = fine-units o rs 0 undirected c in
-      (f .units, shortestOf (f .units), f .reading, list-grammatical o rs (f .units) h c (f .reading)),
-  λ w. units-fine o rs (w .0) 0 undirected (w .2) (good-all (w .3 .reads)) (direction-rule (w .0) .1 (w .3 .rule)),
+  λ c. let f = fine-units o rs 0 _ c in
+      (f .units, shortestOf _, f .reading, list-grammatical o rs _ h c (f .reading)),
+  λ w. units-fine o rs (w .0) 0 _ (w .2) (good-all (w .3 .reads)) (direction-rule (w .0) .1 (w .3 .rule)),
 )
 
 -- no record offends exactly where some string, its length aside, reads as the list
