@@ -45,13 +45,13 @@ Steady f = (p : Standing) (s : Sets) → f s ≤ via p f s
 -- a put before one to the same side is lost, and puts to two sides change places
 put-over : (f : Sets → ℕ) → Steady f → (a p : Standing) (s : Sets) → f (put a s) ≤ price p + f (put a (put p s))
 unfolding put
-put-over f st a p s = go (a .side) _ _ _
+put-over f st a p s = go (a .side) (p .side) (a .set) (p .set)
   where
     go : (d e : Side) (m n : ℕ) → f (put′ d m s) ≤ price (on e n) + f (put′ d m (put′ e n s))
     go GL GL m n = omega arith
     go GR GR m n = omega arith
-    go GL GR m n = st _ _
-    go GR GL m n = st _ _
+    go GL GR m n = st (on GR n) (put′ GL m s)
+    go GR GL m n = st (on GL n) (put′ GR m s)
 
 -- a need before what f says keeps that
 pub least-steady : (n : Need) (f : Sets → ℕ) → Steady f → Steady (least n f)

@@ -18,6 +18,7 @@ use Rattle.base.specs.declared.Answer.{Answer}
 use Rattle.base.specs.declared.Unit.{Unit as UnitRecord}
 use Rattle.base.proofs.Bools.{test}
 use Rattle.state.specs.State.{Standing, fresh}
+use Rattle.state.specs.Directions.{undirected}
 use Rattle.grammar.specs.Units.{TextUnit}
 use Rattle.grammar.specs.Reading.{Octets, ReadAs}
 use Rattle.grammar.proofs.Agrees.{fresh-legal}
@@ -38,7 +39,7 @@ use Rattle.shortest.proofs.Outcome.{accepted-where, served, outcome-is}
 -- the units of a served list are good
 served-good : (rs : List UnitRecord) (o : List ℕ) (work : ℕ) (us : List TextUnit) → Served rs o work us → Good us
 served-good rs o work us v =
-    let f = fine-units o rs 0 _ (no-offence o rs .1 (v .none)) in
+    let f = fine-units o rs 0 undirected (no-offence o rs .1 (v .none)) in
     subst Good (Option·some-injective _ _ (sym (f .reading) ∙ v .reading)) (f .good-ones)
 
 -- 1 for the writing: every string of the reading, its length aside, is over the limit (rule N3)
@@ -83,7 +84,7 @@ module _ (rs : List UnitRecord) (o : List ℕ) (work : ℕ) (out : List ℕ) whe
   -- the octets that the answer counts are the writing
   output-string : (g : Given rs o work out) → string ≡ shortestOf (g .units)
   output-string g =
-      let w = shortestOf _ in
+      let w = shortestOf (g .units) in
       let rest = drop (shortestCount (g .units)) out in
       let n : answered .count ≡ length w = ap (λ (a : Answer). a .count) (g .answers) ∙ sym (writing-length _ _) in
       ap₂ (λ (k : ℕ) (xs : List ℕ). take k xs) n (g .holds) ∙ take-append-seam w rest

@@ -133,7 +133,7 @@ pub list-grammatical : (o : List ℕ) (rs : List UnitRecord) (us : List TextUnit
     → listReading o rs ≡ some us
     → Grammatical (shortestOf us) us
 list-grammatical o rs us h c e =
-    let f = fine-units o rs 0 _ c in
+    let f = fine-units o rs 0 undirected c in
     let s : f .units ≡ us = cc (f .reading) in
     writing-grammatical us (rw s at (f .good-ones)) (list-contents o rs us h e) (direction-rule us .0 (rw s at (f .rule)))
 
@@ -145,9 +145,9 @@ list-written o rs us h c e l = within-limit (list-grammatical o rs us h c e) (om
 
 fine-read : (o : List ℕ) (rs : List UnitRecord) → Octets o → (checkRecords o rs 0 undirected ≡ fine) ↔ SomeString o rs
 fine-read o rs h = (
-  λ c. let f = fine-units o rs 0 _ c in
-      (f .units, shortestOf _, f .reading, list-grammatical o rs _ h c (f .reading)),
-  λ w. units-fine o rs (w .0) 0 _ (w .2) (good-all (w .3 .reads)) (direction-rule (w .0) .1 (w .3 .rule)),
+  λ c. let f = fine-units o rs 0 undirected c in
+      (f .units, shortestOf (f .units), f .reading, list-grammatical o rs _ h c (f .reading)),
+  λ w. units-fine o rs (w .0) 0 undirected (w .2) (good-all (w .3 .reads)) (direction-rule (w .0) .1 (w .3 .rule)),
 )
 
 -- no record offends exactly where some string, its length aside, reads as the list
