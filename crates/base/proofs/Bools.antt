@@ -39,10 +39,6 @@ pub and-right : (a b : Bool) → (a && b) ≡ true → b ≡ true
 and-right true b e = e
 and-right false b e = off e
 
-pub and-first : (a b : Bool) → a ≡ false → (a && b) ≡ false
-and-first true b e = absurd (true≢false e)
-and-first false b e = refl
-
 pub and-second : (a b : Bool) → b ≡ false → (a && b) ≡ false
 and-second true b e = e
 and-second false b e = refl

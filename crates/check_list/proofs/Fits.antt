@@ -28,7 +28,8 @@ pub record Fits (o : List ℕ) (r : UnitRecord) (u : TextUnit) : Type 0 where
   pub unit : unitTagged o (tagOf r) (numberOf r / 256) (numberOf r % 256) (r .start) ≡ u
   pub stowable : Stowable r
 
-tagged : (o : List ℕ) (r : UnitRecord) (u : TextUnit) (t n : ℕ) → tagOf r ≡ t → numberOf r ≡ n → unitTagged o t (n / 256) (n % 256) (r .start) ≡ u
+tagged : (o : List ℕ) (r : UnitRecord) (u : TextUnit) (t n : ℕ) → tagOf r ≡ t → numberOf r ≡ n
+    → unitTagged o t (n / 256) (n % 256) (r .start) ≡ u
     → unitTagged o (tagOf r) (numberOf r / 256) (numberOf r % 256) (r .start) ≡ u
 tagged o r u t n et en e = ap₂ (λ (x y : ℕ). unitTagged o x (y / 256) (y % 256) (r .start)) et en ∙ e
 

@@ -117,7 +117,8 @@ module _ (o : List ℕ) (e s n : ℕ) (d : Directions) where
         unfolding pick
         part-found p q =
             test (segment e 0 part)
-            (λ b. let f : p ≡ segmentPart e n (textOctets part) = cc (rw b at by-content) in ap (λ (y : Part). stepOf (y .text) kind.segment d) f ∙ judged true b)
+            (λ b. let f : p ≡ segmentPart e n (textOctets part) = cc (rw b at by-content) in
+            ap (λ (y : Part). stepOf (y .text) kind.segment d) f ∙ judged true b)
             (λ b. clash (cc (rw b at by-content)))
 
         pub part-bad : ((p : Part) → x ≡ Gives p → ⊥) → Stops refusal.bad-segment ≡ partFault

@@ -18,7 +18,7 @@ use Rattle.charset.specs.declared.Side.{Side}
 use Rattle.charset.specs.declared.Side.the-variants.{GL, GR}
 use Rattle.charset.specs.Charsets.{allowed, mayUse}
 use Rattle.state.specs.State.{Standing, on, state, put, put′, designatedOf, fresh}
-use Rattle.state.specs.Directions.{undirected, stepOf}
+use Rattle.state.specs.Directions.{stepOf}
 use Rattle.element.specs.Element.{shapeOf, steppedOf, directedOf, elementOf}
 use Rattle.element.proofs.Sizes.{Fair, stops as stops-fairly, fair, Passed, silent, found, element-size, of-end}
 use Rattle.state.specs.declared.Sets.{Sets}
@@ -36,7 +36,8 @@ use Rattle.base.specs.Limit as limit
 use Rattle.base.specs.Refusal as refusal
 use Rattle.grammar.proofs.Rule.{directed, passes as goes-on, direction-rule}
 use Rattle.base.specs.declared.Answer.{Answer}
-use Rattle.grammar.specs.Reading.{Elements, end-at, refused-at, silent-at, found-at, direct, size, onward, elements, elementsOf, answerOf, checkOf, noneRefused, unitAt, unitsOf, readingOf, Octets, ReadAs}
+use Rattle.grammar.specs.Reading.{Elements, end-at, refused-at, silent-at, found-at, direct, size, onward, elements, elementsOf, answerOf, checkOf}
+use Rattle.grammar.specs.Reading.{noneRefused, unitAt, unitsOf, readingOf, Octets, ReadAs}
 use Rattle.base.specs.Answers.{answer}
 use Rattle.grammar.proofs.Elements.{next-at, at-nothing, none-passed, elements-passed}
 use Rattle.grammar.proofs.Places.{Ahead, ends, stops, passes, reads, from-start}
@@ -66,7 +67,8 @@ pub data Right (st : State) (w : List ℕ) : Element → Type 0 where
       → Right st w (Found p (state (st .sets) next))
 
 module _ (st : State) (w : List ℕ) where
-  stepped : {p : Part} (u : TextUnit) (d : Side) (t : List ℕ) → Shown (st .sets) w p u d t → (x : Step) → direct (st .directions) u ≡ x → Fair (st .directions) x
+  stepped : {p : Part} (u : TextUnit) (d : Side) (t : List ℕ) → Shown (st .sets) w p u d t → (x : Step) → direct (st .directions) u ≡ x
+      → Fair (st .directions) x
       → Right st w (steppedOf p st x)
   unfolding steppedOf
   stepped u d t h (Goes next) e f = read u d t h e
@@ -77,7 +79,7 @@ module _ (st : State) (w : List ℕ) where
   right (refuses h) = refused h
   right (designates d c t h) = passed d c t h
   right (finds {p} u d t h) =
-      stepped u d t h (stepOf (p .text) (p .kind) (st .directions)) (ap₂ (λ x k. stepOf x k (st .directions)) (sym (h .text)) (sym (h .kind)))
+      stepped u d t h _ (ap₂ (λ x k. stepOf x k (st .directions)) (sym (h .text)) (sym (h .kind)))
       (fair (st .directions) (p .text) (p .kind))
 
 -- ---- what is accepted is of the grammar
@@ -90,13 +92,14 @@ record Told (st : State) (t : List ℕ) (us : List TextUnit) : Type 0 where
 right-passed : (st : State) (w : List ℕ) {e : Element} {k : ℕ} {next : State} → Legal (st .sets) → Octets w → Passed e k next → elementOf w st ≡ e
     → Right st w e
 right-passed st [] l o v e = absurd (none-passed v (sym (at-nothing st) ∙ e))
-right-passed st (b ∷ t) l o v e = rw e at (right st (b ∷ t) (sound (st .sets) l b t o))
+right-passed st (b ∷ t) l o v e = rw e at (right st _ (sound (st .sets) l b t o))
 
 module _ (st : State) (w : List ℕ) (l : Legal (st .sets)) where
-  told-passed : {k : ℕ} {next : State} {us : List TextUnit} → Right st w (Silent k next) → (Legal (next .sets) → Told next (drop k w) us) → Told st w us
+  told-passed : {k : ℕ} {next : State} {us : List TextUnit} → Right st w (Silent k next) → (Legal (next .sets) → Told next (drop k w) us)
+      → Told st w us
   told-passed {k} (passed d c t h) f =
       let r = f (put-legal (on d c) (st .sets) (h .may) l) in
-      record { reads = rw (h .are) (designate (on d c) (h .may) (rw (h .are, drop-at (designation (on d c)) t k (h .size)) at (r .reads))); rule = r .rule }
+      record { reads = rw (h .are) (designate _ (h .may) (rw (h .are, drop-at _ t k (h .size)) at (r .reads))); rule = r .rule }
 
   told-read : {p : Part} {next : State} {us : List TextUnit} → Right st w (Found p next) → (Legal (next .sets) → Told next (drop (size p) w) us)
       → Told st w (unitAt p w ∷ us)
@@ -104,7 +107,7 @@ module _ (st : State) (w : List ℕ) (l : Legal (st .sets)) where
   told-read {p} (read u d t h e) f =
       let r = f l in
       rw (h .unit) (record {
-        reads = rw (h .are) (show u d (h .fit) (h .shows) (rw (h .are, drop-at (octets d u) t (size p) (h .size)) at (r .reads)));
+        reads = rw (h .are) (show u d (h .fit) (h .shows) (rw (h .are, drop-at _ t _ (h .size)) at (r .reads)));
         rule = rw e (r .rule);
       })
 
@@ -123,16 +126,17 @@ ends-empty (b ∷ t) at st e = go (elementOf (b ∷ t) st) refl e
 module _ (s : List ℕ) (o : Octets s) where
   pub octets-from : (at : ℕ) → Octets (from at s)
   unfolding from
-  octets-from at i = rw (getD-drop at s i 0) (o (at + i))
+  octets-from at i = rw (getD-drop at s i 0) (o _)
 
-  told : {at : ℕ} {st : State} {es : Elements} → Ahead s at st es → Legal (st .sets) → noneRefused es ≡ true → Told st (from at s) (unitsOf (from at s) es)
+  told : {at : ℕ} {st : State} {es : Elements} → Ahead s at st es → Legal (st .sets) → noneRefused es ≡ true
+      → Told st (from at s) (unitsOf (from at s) es)
   unfolding unitsOf directed noneRefused
-  told {at} {st} (ends e) l z = record { reads = rw (ends-empty (from at s) at st e) done; rule = refl }
+  told {at} {st} (ends e) l z = record { reads = rw (ends-empty _ at st e) done; rule = refl }
   told (stops h e) l z = off z
   told {at} {st} (passes {k = k} t e a) l z =
-      told-passed st (from at s) l (right-passed st (from at s) l (octets-from at) silent (t .is)) (λ m. rw (from-from s at k) (told a m z))
+      told-passed st _ l (right-passed st (from at s) l (octets-from at) silent (t .is)) (λ m. rw (from-from s at k) (told a m z))
   told {at} {st} (reads {p = p} t m e a) l z =
-      told-read st (from at s) l (right-passed st (from at s) l (octets-from at) found (t .is)) (λ m. rw (from-from s at (size p)) (told a m z))
+      told-read st _ l (right-passed st (from at s) l (octets-from at) found (t .is)) (λ m. rw (from-from s at (size p)) (told a m z))
 
 -- ---- what is of the grammar is accepted
 
@@ -150,8 +154,8 @@ answered : {s : Sets} {t : List ℕ} {us : List TextUnit} → Reads s t us → (
 unfolding answerOf elements unitsOf directed directedOf steppedOf
 answered done d l e at count = record { answers = ap₂ (answer 0) (omega arith) (omega arith); units = refl }
 answered {s} (designate {t = t} p a r) d l e at count =
-    let v = elements-after (designation p) t at (state s d) silent refl (starts-designation s (p .side) (p .set) t a) refl in
-    let i = answered r d (put-legal p s a l) e (at + length (designation p)) count in
+    let v = elements-after (designation p) t at (state s d) silent refl (starts-designation s _ _ t a) refl in
+    let i = answered r d (put-legal p s a l) e _ count in
     record {
       answers = rw v (i .answers ∙ ap₂ (answer 0) (omega (arith, length-append (designation p) t)) refl);
       units =
@@ -166,7 +170,7 @@ answered {s} (show {t = t} {us = us} u b g h r) d l e at count =
         → Answered (state s d) (octets b u ++ t) (u ∷ us) at count
     go (Stops m) q e k = off e
     go (Goes m) q e k =
-        let v = elements-after (octets b u) t at (state s d) found (part-size u b) (starts-unit s l u b t g h) (ap (steppedOf (partOf u) (state s d)) q) in
+        let v = elements-after (octets b u) t at (state s d) found (part-size u b) (starts-unit s l u b t g h) (ap (steppedOf _ _) q) in
         let i = k m e in
         record {
           answers = rw v (i .answers ∙ ap₂ (answer 0) (omega (arith, length-append (octets b u) t, part-size u b)) (omega arith));
@@ -177,19 +181,20 @@ answered {s} (show {t = t} {us = us} u b g h r) d l e at count =
 
 -- ---- what is not refused is answered 0
 
-pub zero-none : (s : List ℕ) (count : ℕ) {at : ℕ} {st : State} {es : Elements} → Ahead s at st es → answerOf count es .number ≡ 0 → noneRefused es ≡ true
+pub zero-none : (s : List ℕ) (count : ℕ) {at : ℕ} {st : State} {es : Elements} → Ahead s at st es → answerOf count es .number ≡ 0
+    → noneRefused es ≡ true
 unfolding answerOf noneRefused
 zero-none s count (ends e) z = refl
 zero-none s count (stops {n = n} h e) z = absurd (let y : n ≡ 0 = z in omega arith)
 zero-none s count (passes t e a) z = zero-none s count a z
-zero-none s count (reads t m e a) z = zero-none s (count + 1) a z
+zero-none s count (reads t m e a) z = zero-none s _ a z
 
 none-zero : (count : ℕ) (es : Elements) → noneRefused es ≡ true → answerOf count es .number ≡ 0
 unfolding answerOf noneRefused
 none-zero count (end-at at) e = refl
 none-zero count (refused-at at n o) e = off e
 none-zero count (silent-at at k st es) e = none-zero count es e
-none-zero count (found-at at p st es) e = none-zero (count + 1) es e
+none-zero count (found-at at p st es) e = none-zero _ es e
 
 -- ---- the theorems
 
@@ -197,12 +202,12 @@ none-zero count (found-at at p st es) e = none-zero (count + 1) es e
 pub accepted-answer : (s : List ℕ) (us : List TextUnit) → Accepted s us → checkOf s ≡ answer 0 (length s) (length us)
 unfolding checkOf pick
 accepted-answer s us a =
-    rw (le-ltb limit.octets (length s) (a .short))
-    (answered (a .reads) undirected fresh-legal (direction-rule us .1 (a .rule)) 0 0 .answers ∙ ap₂ (answer 0) (omega arith) (omega arith))
+    rw (le-ltb _ _ (a .short))
+    (answered (a .reads) _ fresh-legal (direction-rule us .1 (a .rule)) 0 0 .answers ∙ ap₂ (answer 0) (omega arith) (omega arith))
 
 reading-is : (s : List ℕ) (us : List TextUnit) → Accepted s us → readingOf s ≡ us
 unfolding readingOf
-reading-is s us a = answered (a .reads) undirected fresh-legal (direction-rule us .1 (a .rule)) 0 0 .units
+reading-is s us a = answered (a .reads) _ fresh-legal (direction-rule us .1 (a .rule)) 0 0 .units
 
 correct : (s : List ℕ) → Octets s → checkOf s .number ≡ 0 → Accepted s (readingOf s)
 unfolding checkOf readingOf pick from
@@ -224,11 +229,7 @@ one-reading s us vs a b = sym (reading-is s us a) ∙ reading-is s vs b
 
 -- an accepted string of octets, by its answer alone
 pub accepted-whole : (s : List ℕ) → Octets s → checkOf s .number ≡ 0 → checkOf s ≡ answer 0 (length s) (length (readingOf s))
-accepted-whole s o z = accepted-answer s (readingOf s) (correct s o z)
-
--- a refused string has no reading
-pub refused-none : (s : List ℕ) → (checkOf s .number ≡ 0 → ⊥) → (us : List TextUnit) → Accepted s us → ⊥
-refused-none s n us a = n (ap (λ (x : Answer). x .number) (accepted-answer s us a))
+accepted-whole s o z = accepted-answer s _ (correct s o z)
 
 -- a refusal has count 0
 none-counted : (count : ℕ) (es : Elements) → (answerOf count es .number ≡ 0) ⊎ (answerOf count es .count ≡ 0)
@@ -236,19 +237,20 @@ unfolding answerOf
 none-counted count (end-at at) = inl refl
 none-counted count (refused-at at n o) = inr refl
 none-counted count (silent-at at k st es) = none-counted count es
-none-counted count (found-at at p st es) = none-counted (count + 1) es
+none-counted count (found-at at p st es) = none-counted _ es
 
 pub refused-count : (s : List ℕ) → (checkOf s .number ≡ 0 → ⊥) → checkOf s .count ≡ 0
 unfolding checkOf pick
 refused-count s n =
     test (ltb limit.octets (length s)) (λ e. rw e)
-    (λ e. rw e (⊎-elim (λ z. absurd (n (rw e z))) (λ z. z) (none-counted 0 (elementsOf s))))
+    (λ e. rw e (⊎-elim (λ z. absurd (n (rw e z))) (λ z. z) (none-counted 0 _)))
 
 -- which strings are accepted (rule U5)
-pub accepted-where : (s : List ℕ) → Octets s → (checkOf s .number ≡ refusal.accepted) ↔ ((length s ≤ limit.octets) × (noneRefused (elementsOf s) ≡ true))
+pub accepted-where : (s : List ℕ) → Octets s
+    → (checkOf s .number ≡ refusal.accepted) ↔ ((length s ≤ limit.octets) × (noneRefused (elementsOf s) ≡ true))
 unfolding checkOf pick
 accepted-where s o = (
   λ z. test (ltb limit.octets (length s)) (λ e. clash (cc (rw e at z)))
       (λ e. (ltb-false _ _ e, zero-none s 0 (from-start s) (rw e at z))),
-  λ h. rw (le-ltb limit.octets (length s) (h .0)) (none-zero 0 (elementsOf s) (h .1)),
+  λ h. rw (le-ltb _ _ (h .0)) (none-zero 0 _ (h .1)),
 )

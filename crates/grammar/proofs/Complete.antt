@@ -10,7 +10,7 @@ use lib.ListN.{length, length-append}
 use lib.Seq.{take-append-seam}
 use borrow.Author.Tests.{eqb-true, leb-true, lt-ltb, le-ltb, le-leb, eq-eqb}
 use Rattle.base.specs.Choice.{pick}
-use Rattle.base.proofs.Bools.{Each, _&_, each, and-left, and-right, off, test, cond-by, from-tests, tested}
+use Rattle.base.proofs.Bools.{Each, each, and-left, and-right, off, test, cond-by, from-tests, tested}
 use Rattle.charset.specs.declared.Side.{Side}
 use Rattle.charset.specs.declared.Side.the-variants.{GL, GR}
 use Rattle.charset.specs.Charsets.{mayUse, allowed, formOf, fitsOf, find, setOf}
@@ -27,7 +27,8 @@ use Rattle.element.proofs.Starts.{On, graphic-low, all-used, graphic-used, star
 use Rattle.state.specs.declared.Sets.{Sets}
 use Rattle.state.specs.declared.elements.Part.{Part}
 use Rattle.state.specs.declared.elements.Shape.the-variants.{Designates, Gives}
-use Rattle.grammar.specs.Units.{TextUnit, char, space, control, tab, newline, ltr, rtl, revert, ext, kindOf, controlOctets, textOctets, counts, unitOf, wide, top, shown, octets, designation, codeUsed, good}
+use Rattle.grammar.specs.Units.{TextUnit, char, space, control, tab, newline, ltr, rtl, revert, ext, kindOf, controlOctets, textOctets, counts, unitOf}
+use Rattle.grammar.specs.Units.{wide, top, shown, octets, designation, codeUsed, good}
 use Rattle.grammar.specs.Grammar.{Shows, Legal}
 use Rattle.grammar.specs.Reading.{unitAt}
 use Rattle.grammar.proofs.Segment.{content}
@@ -41,10 +42,8 @@ module _ (s : Sets) where
 
   starts-at : (t : List ℕ) (d : Side) → Each 15 (Starts t d)
   unfolding allowed mayUse formOf fitsOf find setOf designation shapeOf startOf begunBy escapeOf multiOctetOf designationOf designatesOf next pick
-  starts-at t GL = (λ _. refl) & off & (λ _. refl) & off & off & off & off & off & off & off & off & off & (λ _. refl) & (λ _. refl) & (λ _. refl) & tt
-  starts-at t GR =
-      off & (λ _. refl) & off & (λ _. refl) & (λ _. refl) & (λ _. refl) & (λ _. refl) & (λ _. refl) & (λ _. refl) & (λ _. refl) & (λ _. refl) & (λ _. refl)
-      & (λ _. refl) & (λ _. refl) & (λ _. refl) & tt
+  starts-at t GL = search off depth 20
+  starts-at t GR = search off depth 20
 
   pub starts-designation : (d : Side) (c : ℕ) (t : List ℕ) → allowed d c ≡ true
       → shapeOf (designation (on d c) ++ t) s ≡ Designates (length (designation (on d c))) d c
@@ -108,7 +107,8 @@ module _ (s : Sets) where
 
   -- ---- extended segments
 
-  starts-ext : (e : ℕ) (xs t : List ℕ) → good (ext e xs) ≡ true → shapeOf (octets GL (ext e xs) ++ t) s ≡ Gives (segmentPart e (length xs) (textOctets xs))
+  starts-ext : (e : ℕ) (xs t : List ℕ) → good (ext e xs) ≡ true
+      → shapeOf (octets GL (ext e xs) ++ t) s ≡ Gives (segmentPart e (length xs) (textOctets xs))
   unfolding octets good shapeOf startOf begunBy escapeOf extendedOf lengthsOf bodyOf next pick
   starts-ext e xs t g =
       let h = good-segment e xs g in

@@ -30,19 +30,20 @@ elements-drop (b ∷ t) zero at st h =
     ap (λ (n : ℕ). elements (b ∷ t) 0 n st) e
 elements-drop (b ∷ t) (suc k) at st h =
     let e : at + 1 + k ≡ at + suc k = omega arith in
-    elements-drop t k (at + 1) st (omega arith) ∙ ap (λ (n : ℕ). elements (drop k t) 0 n st) e
+    elements-drop t k _ st (omega arith) ∙ ap (λ (n : ℕ). elements (drop k t) 0 n st) e
 
 pub at-nothing : (st : State) → elementOf [] st ≡ End
 unfolding shapeOf directedOf
 at-nothing st = refl
 
 -- the octets after an element of k octets
-rest : (b : ℕ) (t : List ℕ) (k at : ℕ) (st : State) → 1 ≤ k → k ≤ suc (length t) → elements t (k - 1) (at + 1) st ≡ elements (drop k (b ∷ t)) 0 (at + k) st
+rest : (b : ℕ) (t : List ℕ) (k at : ℕ) (st : State) → 1 ≤ k → k ≤ suc (length t)
+    → elements t (k - 1) (at + 1) st ≡ elements (drop k (b ∷ t)) 0 (at + k) st
 rest b t zero at st h g = absurd (not-suc-le-zero h)
 rest b t (suc k) at st h g =
     let e : suc k - 1 ≡ k = omega arith in
     let d : at + 1 + k ≡ at + suc k = omega arith in
-    rw e (elements-drop t k (at + 1) st (omega arith) ∙ ap (λ (n : ℕ). elements (drop k t) 0 n st) d)
+    rw e (elements-drop t k _ st (omega arith) ∙ ap (λ (n : ℕ). elements (drop k t) 0 n st) d)
 
 -- nothing is passed where no octet is left
 pub none-passed : {e : Element} {k : ℕ} {next : State} → Passed e k next → End ≡ e → ⊥
@@ -64,7 +65,7 @@ module _ (at : ℕ) (st : State) where
       → onward at e (λ j after. elements t j (at + 1) after) ≡ next-at at e (elements (drop k (b ∷ t)) 0 (at + k) next)
   unfolding onward
   onward-passed b t (silent {k} {next}) h g = ap (silent-at at k next) (rest b t k at next h g)
-  onward-passed b t (found {p} {next}) h g = ap (found-at at p next) (rest b t (p .skip + p .octets) at next h g)
+  onward-passed b t (found {p} {next}) h g = ap (found-at at p next) (rest b t _ at next h g)
 
   pub elements-passed : (t : List ℕ) {e : Element} {k : ℕ} {next : State} → Passed e k next → elementOf t st ≡ e
       → elements t 0 at st ≡ next-at at e (elements (drop k t) 0 (at + k) next)

@@ -36,7 +36,7 @@ pub record Step (s : List ℕ) (at : ℕ) (st : State) (e : Element) (k : ℕ) (
 -- the element at a place, and those after it
 module _ (s : List ℕ) (at : ℕ) (st : State) (e : Element) (is : e ≡ elementOf (from at s) st) where
   sized : Sized (length s - at) st e
-  sized = rw (is, ← (from-length s at)) (element-size (from at s) st)
+  sized = rw (is, ← (from-length s at)) (element-size _ st)
 
   pub at-end : e ≡ End → ahead s at st ≡ end-at at
   at-end k = elements-end at st (from at s) (sym is ∙ k)
@@ -103,7 +103,7 @@ go zero s at st h =
     let e : ahead s at st ≡ end-at at = past s at st (omega arith) in
     rw e (ends e)
 go (suc n) s at st h =
-    onward s at st (λ _ k next t. go n s (at + k) next (omega (arith, t .some, t .fits))) (elementOf (from at s) st) refl
+    onward s at st (λ _ k next t. go n s _ next (omega (arith, t .some, t .fits))) (elementOf _ st) refl
 
 pub ahead-from : (s : List ℕ) (at : ℕ) (st : State) → Ahead s at st (ahead s at st)
 ahead-from s at st = go (length s) s at st (omega arith)

@@ -40,7 +40,8 @@ data After (O : Type 0) (b r t : ℕ) : Step → Type 0 where
   goes : {d : Directions} → O → Like d b r t → After O b r t (Goes d)
   stops : {n : ℕ} → (O → ⊥) → After O b r t (Stops n)
 
-by : {O : Type 0} {b r t : ℕ} {x y : Step} (q : Bool) → (q ≡ true → After O b r t x) → (q ≡ false → After O b r t y) → After O b r t (pick q x y)
+by : {O : Type 0} {b r t : ℕ} {x y : Step} (q : Bool) → (q ≡ true → After O b r t x) → (q ≡ false → After O b r t y)
+    → After O b r t (pick q x y)
 by {O} {b} {r} {t} q f g = pick-by (After O b r t) q f g
 
 both : {P Q : Type 0} {b r t : ℕ} {x : Step} → P → After Q b r t x → After (P × Q) b r t x
@@ -101,22 +102,22 @@ likewise f g (stops n) = stops (λ o. n (g o))
 module _ (d : Directions) (b r t : ℕ) (l : Like d b r t) where
   step : (u : TextUnit) → After (May u b r t) (addIf (begins u) b) (addIf (reverts u) r) (addIf (counts u) t) (direct d u)
   unfolding stepOf pick
-  step (char c k) = likewise (λ o. record { text = λ _. o; begin = off; revert = off }) (λ m. m .text refl) (written d b r t l)
-  step space = likewise (λ o. record { text = λ _. o; begin = off; revert = off }) (λ m. m .text refl) (written d b r t l)
-  step (control tab) = goes (record { text = off; begin = off; revert = off }) l
-  step (control newline) = goes (record { text = off; begin = off; revert = off }) l
-  step (control ltr) = likewise (λ o. record { text = off; begin = λ _. o; revert = off }) (λ m. m .begin refl) (begun d b r t l 0)
-  step (control rtl) = likewise (λ o. record { text = off; begin = λ _. o; revert = off }) (λ m. m .begin refl) (begun d b r t l 1)
-  step (control revert) = likewise (λ o. record { text = off; begin = off; revert = λ _. o }) (λ m. m .revert refl) (reverted d b r t l)
-  step (ext c xs) = goes (record { text = off; begin = off; revert = off }) l
+  step (char c k) = likewise (λ o. search off) (λ m. m .text refl) (written d b r t l)
+  step space = likewise (λ o. search off) (λ m. m .text refl) (written d b r t l)
+  step (control tab) = goes (search off) l
+  step (control newline) = goes (search off) l
+  step (control ltr) = likewise (λ o. search off) (λ m. m .begin refl) (begun d b r t l 0)
+  step (control rtl) = likewise (λ o. search off) (λ m. m .begin refl) (begun d b r t l 1)
+  step (control revert) = likewise (λ o. search off) (λ m. m .revert refl) (reverted d b r t l)
+  step (ext c xs) = goes (search off) l
 
 same : (us : List TextUnit) (d : Directions) (b r t : ℕ) → Like d b r t → Same us d b r t
 unfolding directed Lawful
 same [] d b r t l = (λ _. tt, λ _. refl)
-same (u ∷ us) d b r t l = follow us (step d b r t l u) (λ e m. same us e (addIf (begins u) b) (addIf (reverts u) r) (addIf (counts u) t) m)
+same (u ∷ us) d b r t l = follow us (step d b r t l u) (λ e m. same us e _ _ _ m)
 
 -- the direction rule from the start of a string
 pub direction-rule : (us : List TextUnit) → (directed us undirected ≡ true) ↔ Lawful us 0 0 0
 direction-rule us =
-    same us undirected 0 0 0
+    same us _ 0 0 0
     (record { open-now = omega arith; marks = off; no-marks = λ _. omega arith; texts = off; no-texts = λ _. refl })

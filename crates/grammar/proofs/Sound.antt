@@ -6,7 +6,7 @@ use mathlib.Core.Path.{_≡_, refl, sym, ap, ap₂, _∙_, subst}
 use mathlib.Core.Bool.{Bool, true, false, cond}
 use mathlib.Core.List.{List, [], _∷_, _++_}
 use lib.Dec.{eqb, leb, ltb}
-use lib.ListN.{length, take, drop, take-append-drop}
+use lib.ListN.{length, take, take-append-drop}
 use lib.Seq.{length-take-le}
 use borrow.Author.Tests.{eqb-true, ltb-true, ltb-false, leb-true, lt-ltb, le-leb}
 use Rattle.base.specs.Choice.{pick}
@@ -29,7 +29,8 @@ use Rattle.state.specs.declared.Sets.{Sets}
 use Rattle.state.specs.declared.elements.Part.{Part}
 use Rattle.state.specs.declared.elements.Shape.{Shape}
 use Rattle.state.specs.declared.elements.Shape.the-variants.{Refuses, Designates, Gives}
-use Rattle.grammar.specs.Units.{TextUnit, char, space, control, tab, newline, ltr, rtl, revert, ext, kindOf, textOctets, counts, unitOf, wide, top, octets, lead, designation, codeUsed, segment, good}
+use Rattle.grammar.specs.Units.{TextUnit, char, space, control, tab, newline, ltr, rtl, revert, ext, kindOf, textOctets, counts, unitOf, wide, top}
+use Rattle.grammar.specs.Units.{octets, lead, designation, codeUsed, segment, good}
 use Rattle.grammar.specs.Grammar.{Shows, Legal}
 use Rattle.grammar.specs.Reading.{Octets, unitAt}
 use Rattle.grammar.proofs.Segment.{content}
@@ -96,7 +97,8 @@ module _ (s : Sets) where
 
   -- ---- direction marks
 
-  sound-begin : (kind y : ℕ) (t : List ℕ) → ((t : List ℕ) → Sound s (0x9B ∷ y ∷ 0x5D ∷ t) (unit kind 0 0 3)) → Sound s (0x9B ∷ y ∷ t) (beginOf kind t)
+  sound-begin : (kind y : ℕ) (t : List ℕ) → ((t : List ℕ) → Sound s (0x9B ∷ y ∷ 0x5D ∷ t) (unit kind 0 0 3))
+      → Sound s (0x9B ∷ y ∷ t) (beginOf kind t)
   unfolding beginOf next
   sound-begin kind y [] f = no
   sound-begin kind y (z ∷ t) f = is (λ z. 0x9B ∷ y ∷ z ∷ t) z 0x5D (f t) no
@@ -122,7 +124,7 @@ module _ (s : Sets) where
   sound-named form d x t =
       by _
       (λ e. let n = set-named form d x (ltb-true (setOf form d x) 15 e) in
-      by _ (λ k. designates d (setOf form d x) t (change form d x t n true k)) (λ k. designates d (setOf form d x) t (change form d x t n false k)))
+      by _ (λ k. designates d _ t (change form d x t n true k)) (λ k. designates d _ t (change form d x t n false k)))
       (λ _. no)
 
   sound-designation : (form : ℕ) (d : Side) (t : List ℕ) → Sound s (lead form d t) (designationOf form d t)
@@ -142,10 +144,11 @@ module _ (s : Sets) where
 
   module _ (e m l n : ℕ) (t : List ℕ) (le : 0x30 ≤ e) (ge : e < 0x35) (lm : 128 ≤ m) (gm : m < 256) (ll : 128 ≤ l) (gl : l < 256)
       (en : n ≡ (m - 128) * 128 + (l - 128)) where
-    held : n ≤ length t → segment e 0 (take n t) ≡ true → Sound s (0x1B ∷ 0x25 ∷ 0x2F ∷ e ∷ m ∷ l ∷ t) (Gives (segmentPart e n (textOctets (take n t))))
+    held : n ≤ length t → segment e 0 (take n t) ≡ true
+        → Sound s (0x1B ∷ 0x25 ∷ 0x2F ∷ e ∷ m ∷ l ∷ t) (Gives (segmentPart e n (textOctets (take n t))))
     unfolding octets good unitAt unitOf
     held h g =
-        finds {p = segmentPart e n (textOctets (take n t))} (ext e (take n t)) GL (drop n t)
+        finds {p = segmentPart e n (textOctets (take n t))} (ext e (take n t)) GL _
         (record {
           fit = rw (le-leb 0x30 e le, le-leb e 0x34 (omega arith), le-leb (length (take n t)) 16383 (omega (arith, count)), g);
           shows = tt;
@@ -169,7 +172,7 @@ module _ (s : Sets) where
     unfolding bodyOf
     sound-body =
         by (leb n (length t))
-        (λ q. let h = leb-true n (length t) q in
+        (λ q. let h = leb-true n _ q in
         rw (content e n (take n t) 0 (omega (arith, length-take-le n t h))) (by (segment e 0 (take n t)) (λ g. held h g) (λ _. no)))
         (λ _. no)
 
@@ -179,7 +182,7 @@ module _ (s : Sets) where
   sound-lengths e (m ∷ []) le ge o = by _ (λ _. no) (λ _. no)
   sound-lengths e (m ∷ l ∷ t) le ge o =
       by (ltb m 0x80) (λ _. no)
-      (λ p. by (ltb l 0x80) (λ _. no) (λ q. sound-body e m l ((m - 128) * 128 + (l - 128)) t le ge (ltb-false m 0x80 p) (o 0) (ltb-false l 0x80 q) (o 1) refl))
+      (λ p. by (ltb l 0x80) (λ _. no) (λ q. sound-body e m l _ t le ge (ltb-false m 0x80 p) (o 0) (ltb-false l 0x80 q) (o 1) refl))
 
   sound-extended : (t : List ℕ) → Octets t → Sound s (0x1B ∷ 0x25 ∷ t) (extendedOf t)
   unfolding extendedOf next
@@ -211,9 +214,18 @@ module _ (s : Sets) where
     unfolding octets good wide unitAt unitOf
     one t n u =
         finds {p = part 0 c (b % 128) 0 1 true} (char c (b % 128)) d t
-        (record { fit = rw (lt-ltb c 15 below, u); shows = here; are = rw n (ap (λ (x : ℕ). x ∷ t) (sym side)); size = rw n; unit = refl; kind = refl; text = refl })
+        (record {
+          fit = rw (lt-ltb c 15 below, u);
+          shows = here;
+          are = rw n (ap (λ (x : ℕ). x ∷ t) (sym side));
+          size = rw n;
+          unit = refl;
+          kind = refl;
+          text = refl;
+        })
 
-    two : (y : ℕ) (t : List ℕ) → eqb (formOf c) 3 ≡ true → graphicOf (b % 128) ≡ true → y / 128 ≡ b / 128 → graphicOf (y % 128) ≡ true → Sound s (b ∷ y ∷ t) (twoOctetsOf c b y)
+    two : (y : ℕ) (t : List ℕ) → eqb (formOf c) 3 ≡ true → graphicOf (b % 128) ≡ true → y / 128 ≡ b / 128 → graphicOf (y % 128) ≡ true
+        → Sound s (b ∷ y ∷ t) (twoOctetsOf c b y)
     unfolding octets good wide unitAt unitOf codeUsed
     two y t n u e v =
         let k : ℕ = b % 128 * 256 + y % 128 in

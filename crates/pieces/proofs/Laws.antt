@@ -52,7 +52,8 @@ joined-keeps-apart p (q ∷ qs) h =
 abbrev Joins : (Piece → Type 0) → Type 0
 Joins P = (p q : Piece) → p .start < p .end → q .start ≡ p .end → q .start < q .end → p .kind ≡ q .kind → P p → P q → P (longer p q)
 
-joined-each : (P : Piece → Type 0) → Joins P → {e : ℕ} (p : Piece) (ps : List Piece) → p .start < p .end → P p → EndToEnd (p .end) e ps → Each P ps
+joined-each : (P : Piece → Type 0) → Joins P → {e : ℕ} (p : Piece) (ps : List Piece) → p .start < p .end → P p → EndToEnd (p .end) e ps
+    → Each P ps
     → Each P (joined p ps)
 unfolding joined
 joined-each P join p [] n f t h = with-first f empty
@@ -190,7 +191,8 @@ module _ (s : List ℕ) where
       held : Each (InForce s at st) ps
 
     kept-step : (n at : ℕ) (st : State) {q : Piece} → Step s at st q → Good st q → StateAfter at st q → length s - at < suc n
-        → ((b : ℕ) (next : State) → Legal (next .sets) → b ≤ length s → length s - b < n → Kept b next (rest s b next)) → Kept at st (rest s at st)
+        → ((b : ℕ) (next : State) → Legal (next .sets) → b ≤ length s → length s - b < n → Kept b next (rest s b next))
+        → Kept at st (rest s at st)
     kept-step n at st (stops e x) g f k go = rw e (record { apart = nothing; sided = empty; held = empty })
     kept-step n at st (goes {q} b l u e x) g f k go =
         let h = go (q .end) (q .state) (g .legal) u (omega arith) in

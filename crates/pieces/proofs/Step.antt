@@ -37,7 +37,8 @@ noRefusal s at st = noneRefused (ahead s at st)
 
 pub data Step (s : List ℕ) (at : ℕ) (st : State) : Piece → Type 0 where
   stops : rest s at st ≡ [] → (noRefusal s at st ≡ true → length s ≤ at) → Step s at st (noPiece at)
-  goes : {q : Piece} → q .start ≡ at → at < q .end → q .end ≤ length s → rest s at st ≡ joined q (rest s (q .end) (q .state)) → noRefusal s at st ≡ noRefusal s (q .end) (q .state) → Step s at st q
+  goes : {q : Piece} → q .start ≡ at → at < q .end → q .end ≤ length s → rest s at st ≡ joined q (rest s (q .end) (q .state))
+      → noRefusal s at st ≡ noRefusal s (q .end) (q .state) → Step s at st q
 
 module _ (s : List ℕ) (at : ℕ) (st : State) where
   -- an element's octets lie in the string

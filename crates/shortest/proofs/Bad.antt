@@ -34,16 +34,16 @@ module _ (o : List ℕ) (r : UnitRecord) where
 
   read-segment : r .kind ≡ kind.segment → r .start + r .length ≤ length o → unitRead o r ≡ some (ext (r .code) text)
   unfolding unitRead readable unitOf
-  read-segment e h = rw (e, le-leb (r .start + r .length) (length o) h)
+  read-segment e h = rw (e, le-leb _ _ h)
 
   -- ---- a record that offends by itself
 
   -- d is asked for first
   d-right : Placed o r → (leb 0x30 (r .code) && leb (r .code) 0x34) ≡ true
-  d-right p = rw (le-leb 0x30 (r .code) (p .low), le-leb (r .code) 0x34 (p .high))
+  d-right p = rw (le-leb 0x30 _ (p .low), le-leb _ 0x34 (p .high))
 
   d-wrong : (r .code < 0x30) ⊎ (0x34 < r .code) → (leb 0x30 (r .code) && leb (r .code) 0x34) ≡ false
-  d-wrong (inl h) = rw (lt-leb 0x30 (r .code) h)
+  d-wrong (inl h) = rw (lt-leb 0x30 _ h)
   d-wrong (inr h) = and-second (leb 0x30 (r .code)) _ (lt-leb (r .code) 0x34 h)
 
   text-length : r .start + r .length ≤ length o → length text ≡ r .length
@@ -52,13 +52,13 @@ module _ (o : List ℕ) (r : UnitRecord) where
   pub bad-stops : (d : Directions) {n : ℕ} → Bad o r n → fault (unitRead o r) d ≡ Stops n
   unfolding unitRead readable unitOf good
   bad-stops d (bad-kind h) = rw (ne-eqb (r .kind) kind.segment (λ e. omega arith), le-ltb (r .kind) kind.segment (omega arith))
-  bad-stops d (bad-set e h) = rw (e, le-ltb (r .set) no-set h)
-  bad-stops d (bad-code e h) = rw (e, and-second (ltb (r .set) no-set) (codeUsed (formOf (r .set)) (r .code)) h)
-  bad-stops d (bad-part e h) = rw (e, lt-leb (r .start + r .length) (length o) h)
+  bad-stops d (bad-set e h) = rw (e, le-ltb _ no-set h)
+  bad-stops d (bad-code e h) = rw (e, and-second _ _ h)
+  bad-stops d (bad-part e h) = rw (e, lt-leb _ _ h)
   bad-stops d (bad-d e h) = test (leb (r .start + r .length) (length o)) (λ q. rw (e, q, d-wrong h)) (λ q. rw (e, q))
-  bad-stops d (bad-length p h) = rw (read-segment (p .kinds) (p .inside), d-right p, text-length (p .inside), lt-leb (r .length) mostOfSegment h)
+  bad-stops d (bad-length p h) = rw (read-segment (p .kinds) (p .inside), d-right p, text-length (p .inside), lt-leb _ _ h)
   bad-stops d (bad-content p h) =
-      rw (read-segment (p .kinds) (p .inside), d-right p, and-second (leb (length text) mostOfSegment) (segment (r .code) 0 text) h)
+      rw (read-segment (p .kinds) (p .inside), d-right p, and-second _ _ h)
 
   -- ---- a record that does not
 
@@ -76,7 +76,7 @@ module _ (o : List ℕ) (r : UnitRecord) where
       let n = ne-eqb (r .kind) kind.character (λ e. omega arith) in
       let m = ne-eqb (r .kind) kind.segment (λ e. omega arith) in
       test (eqb (r .kind) kind.space) (λ e. (space, rw (eqb-true (r .kind) kind.space e), refl))
-      (λ e. (control (controlOf (r .kind)), rw (m, n, e, lt-ltb (r .kind) kind.segment l), refl))
+      (λ e. (control (controlOf (r .kind)), rw (m, n, e, lt-ltb _ _ l), refl))
 
   judge-char : r .kind ≡ kind.character → Judged
   unfolding good

@@ -27,7 +27,7 @@ use Rattle.shortest.proofs.Costs.{designation-length, size-side, cost-s
 -- a unit that may be shown has its need met
 pub shows-met : (u : TextUnit) (d : Side) (s : Sets) → Legal s → Shows u d s → met (need u) s ≡ true
 unfolding need met stands
-shows-met (char c k) d s l h = go d h (allowed GL c) (allowed GR c) refl refl
+shows-met (char c k) d s l h = go d h _ _ refl refl
   where
     go : (d : Side) → get d s ≡ c → (x y : Bool) → allowed GL c ≡ x → allowed GR c ≡ y → met (placesOf x y c) s ≡ true
     go GL e true true p q = rw (eq-eqb (s .gl) c e)
@@ -47,7 +47,7 @@ lower l done = omega arith
 lower {s} l (designate {t = t} {us = us} p a r) =
     omega (arith, lower (put-legal p s a l) r, cost-steady us p s, length-append (designation p) t, designation-length p)
 lower {s} l (show {t = t} {us = us} u d g h r) =
-    omega (arith, lower l r, least-met (need u) (cost us) s (shows-met u d s l h), length-append (octets d u) t, size-side d u)
+    omega (arith, lower l r, least-met _ (cost us) s (shows-met u d s l h), length-append (octets d u) t, size-side d u)
 
 -- the set of a good character may stand on some side
 pub good-side : (c k : ℕ) → good (char c k) ≡ true → (allowed GL c || allowed GR c) ≡ true
@@ -57,16 +57,16 @@ good-side c k g = some-side c (search from-tests)
 -- a unit whose need is met may be shown on the side it is used on
 pub met-shows : (u : TextUnit) (s : Sets) → met (need u) s ≡ true → Shows u (used (need u) s) s
 unfolding need met stands used wide formOf
-met-shows (char c k) s e = go (allowed GL c) (allowed GR c) e
+met-shows (char c k) s e = go (allowed GL c) _ e
   where
     pick : (d d′ : Side) (x : Bool) → eqb (get d s) c ≡ x → (x || eqb (get d′ s) c) ≡ true → get (cond x d d′) s ≡ c
-    pick d d′ true p q = eqb-true (get d s) c p
-    pick d d′ false p q = eqb-true (get d′ s) c q
+    pick d d′ true p q = eqb-true _ c p
+    pick d d′ false p q = eqb-true _ c q
 
     go : (x y : Bool) → met (placesOf x y c) s ≡ true → get (used (placesOf x y c) s) s ≡ c
-    go true true q = pick GL GR (eqb (s .gl) c) refl q
-    go true false q = pick GL GL (eqb (s .gl) c) refl q
-    go false y q = pick GR GR (eqb (s .gr) c) refl q
-met-shows space s e = ⊎-elim (λ q. rw (eqb-true (s .gl) 0 q)) (λ q. rw (eqb-true (s .gl) 2 q)) (or-cases (eqb (s .gl) 0) _ e)
+    go true true q = pick GL GR _ refl q
+    go true false q = pick GL GL _ refl q
+    go false y q = pick GR GR _ refl q
+met-shows space s e = ⊎-elim (λ q. rw (eqb-true (s .gl) 0 q)) (λ q. rw (eqb-true (s .gl) 2 q)) (or-cases _ _ e)
 met-shows (control x) s e = tt
 met-shows (ext d xs) s e = tt

@@ -19,7 +19,8 @@ use Rattle.state.specs.declared.Sets.{Sets}
 use Rattle.grammar.specs.Units.{TextUnit, char, space, control, ext, octets, good}
 use Rattle.grammar.specs.Grammar.{Shows, Reads, done, designate, show, Legal}
 use Rattle.grammar.proofs.Agrees.{put-legal}
-use Rattle.shortest.specs.Writing.{Need, free, either, stands, met, via, least, choose, after, designated, size, need, placesOf, used, cost, writing, Good}
+use Rattle.shortest.specs.Writing.{Need, free, either, stands, met, via, least, choose, after, designated, size, need, placesOf, used, cost, writing}
+use Rattle.shortest.specs.Writing.{Good}
 use Rattle.shortest.specs.Choice.{Serves, MayPrecede, LeftFirst, Lazy, nil, next, Preferred, Before, here, later, Chosen}
 use Rattle.shortest.proofs.Needs.{spent, Chose, nothing, the-first, the-second, chose, chosen-met}
 use Rattle.shortest.proofs.Costs.{spent-length, size-side, writing-length}
@@ -38,7 +39,7 @@ unfolding need
 split (char c k) g = go (allowed GL c) (allowed GR c) refl refl (good-side c k g)
   where
     which : (p : Standing) → p .set ≡ c → (p ≡ on GL c) ⊎ (p ≡ on GR c)
-    which p e = by-side (p .side) (p .set) e
+    which p e = by-side _ _ e
       where
         by-side : (d : Side) (n : ℕ) → n ≡ c → (on d n ≡ on GL c) ⊎ (on d n ≡ on GR c)
         by-side GL n e = inl (ap (on GL) e)
@@ -104,7 +105,7 @@ precedes u s (some p) g m = go (need u) (split u g) m
     go : (n : Need) → Split u n → Permitted n s (some p) → MayPrecede u s (some p)
     go free (none-serves k) m = absurd m
     go (either a b) (two-serve x y k z) m =
-        let n = or-none (stands a s) (stands b s) (m .0) in (
+        let n = or-none _ _ (m .0) in (
           ⊎-elim (λ e. rw e x) (λ e. rw e y) (m .1),
           λ q h. ⊎-elim (λ e. rw e (n .0)) (λ e. rw e (n .1)) (k q h),
         )
@@ -127,7 +128,8 @@ one-length t u d o = omega (arith, length-append (designated o) (octets d u ++ t
 abbrev Best : TextUnit → Option Standing → Option Standing → Type 0
 Best u chosen o = (o ≡ chosen) ⊎ ((a : Standing) × (b : Standing) × Preferred u a b × (chosen ≡ some a) × (o ≡ some b))
 
-best : (u : TextUnit) (n : Need) (f : Sets → ℕ) (s : Sets) (o : Option Standing) → Split u n → Permitted n s o → least n f s ≡ spent o + f (after o s)
+best : (u : TextUnit) (n : Need) (f : Sets → ℕ) (s : Sets) (o : Option Standing) → Split u n → Permitted n s o
+    → least n f s ≡ spent o + f (after o s)
     → Best u (choose n f s) o
 unfolding choose least
 best u free f s none z p e = inl refl
@@ -159,7 +161,7 @@ first {s} l (next {us = us} {os = os} {t = t} u o d g m h f r) e =
     ⊎-elim
     (λ q. rw (← q) (⊎-elim (λ h. inl (ap (λ (x : List (Option Standing)). o ∷ x) h)) (λ h. inr (later u o h)) (first l′ r tail)))
     (λ w. rw (w .3, w .4) (inr (here u (w .0) (w .1) (w .2))))
-    (best u (need u) (cost us) s o (split u g) p (omega (arith, lazy-lower l′ r, least-permitted (need u) (cost us) s o p, one-length t u d o)))
+    (best u _ (cost us) s o (split u g) p (omega (arith, lazy-lower l′ r, least-permitted _ (cost us) s o p, one-length t u d o)))
   where
     p : Permitted (need u) s o
     p = permitted u s o d l g m h
@@ -168,7 +170,7 @@ first {s} l (next {us = us} {os = os} {t = t} u o d g m h f r) e =
     l′ = after-legal u s o m l
 
     tail : length t ≡ cost us (after o s)
-    tail = omega (arith, lazy-lower l′ r, least-permitted (need u) (cost us) s o p, one-length t u d o)
+    tail = omega (arith, lazy-lower l′ r, least-permitted _ (cost us) s o p, one-length t u d o)
 
 -- ---- the writer's string is a lazy string
 
@@ -185,7 +187,7 @@ choose-permitted (either a b) f s = go (chose a b f s)
 -- a unit is written in GL where its set stands there
 used-left : (u : TextUnit) (s : Sets) → met (need u) s ≡ true → Legal s → LeftFirst u (used (need u) s) s
 unfolding need used stands
-used-left (char c k) s m l = λ e. go e (allowed GL c) (allowed GR c) refl
+used-left (char c k) s m l = λ e. go e _ _ refl
   where
     go : s .gl ≡ c → (x y : Bool) → allowed GL c ≡ x → used (placesOf x y c) s ≡ GL
     go e true true q = rw (eq-eqb (s .gl) c e)
@@ -200,7 +202,7 @@ unfolding choices writing
 writing-lazy [] s l g = nil
 writing-lazy (u ∷ us) s l g =
     let e = chosen-met (need u) (cost us) s in
-    next u o (used (need u) (after o s)) (g .0) m (met-shows u (after o s) e) (used-left u (after o s) e l′)
+    next u o _ (g .0) m (met-shows u (after o s) e) (used-left u (after o s) e l′)
     (writing-lazy us (after o s) l′ (g .1))
   where
     o : Option Standing
@@ -236,7 +238,7 @@ same-octets (ext n xs) d e s x y f g = refl
 lazy-one : {s : Sets} {us : List TextUnit} {os : List (Option Standing)} {t w : List ℕ} → Lazy s us os t → Lazy s us os w → t ≡ w
 lazy-one nil nil = refl
 lazy-one {s} (next u o d g m h f r) (next _ _ e g′ m′ h′ f′ r′) =
-    ap₂ (λ x y. designated o ++ (x ++ y)) (same-octets u d e (after o s) h h′ f f′) (lazy-one r r′)
+    ap₂ (λ x y. designated o ++ (x ++ y)) (same-octets u d e _ h h′ f f′) (lazy-one r r′)
 
 not-both : (u : TextUnit) (a b : Standing) → Preferred u a b → Preferred u b a → ⊥
 not-both (char c k) a b p q = clash (cc (p .0, q .1))

@@ -29,7 +29,7 @@ size-side GR (ext e xs) = refl
 pub cost-steady : (us : List TextUnit) → Steady (cost us)
 unfolding cost
 cost-steady [] p s = omega arith
-cost-steady (u ∷ us) p s = omega (arith, least-steady (need u) (cost us) (cost-steady us) p s)
+cost-steady (u ∷ us) p s = omega (arith, least-steady (need u) _ (cost-steady us) p s)
 
 pub spent-length : (o : Option Standing) → length (designated o) ≡ spent o
 spent-length none = refl

@@ -24,8 +24,8 @@ unfolding put stands
 put-stands p s = go (p .side)
   where
     go : (d : Side) → eqb (get d (put′ d (p .set) s)) (p .set) ≡ true
-    go GL = eq-eqb (p .set) (p .set) refl
-    go GR = eq-eqb (p .set) (p .set) refl
+    go GL = eq-eqb _ (p .set) refl
+    go GR = eq-eqb _ (p .set) refl
 
 -- a place that stands only once p is put is p
 pub stands-new : (a p : Standing) (s : Sets) → stands a s ≡ false → stands a (put p s) ≡ true → a ≡ p
@@ -65,11 +65,11 @@ least-steady (either a b) f st p s = go (met (either a b) s) (met (either a b) (
     go true false x y = omega (arith, st p s, st a (put p s), st b (put p s))
     go false false x y = omega (arith, put-over f st a p s, put-over f st b p s)
     go false true x y =
-        let n = or-none (stands a s) (stands b s) x in
+        let n = or-none _ _ x in
         ⊎-elim
         (λ e. omega (arith, ap (λ (c : Standing). via c f s) (stands-new a p s (n .0) e)))
         (λ e. omega (arith, ap (λ (c : Standing). via c f s) (stands-new b p s (n .1) e)))
-        (or-cases (stands a (put p s)) (stands b (put p s)) y)
+        (or-cases _ _ y)
 
 abbrev pub spent : Option Standing → ℕ
 spent none = 0

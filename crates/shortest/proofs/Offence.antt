@@ -80,7 +80,7 @@ pub offence : (o : List ℕ) (rs : List UnitRecord) (n i : ℕ) → (checkRecord
 offence o rs n i = (λ e. told (rw e at (verdict o rs undirected 0)), λ f. tells f (verdict o rs undirected 0))
   where
     told : {i : ℕ} → Verdict o rs undirected 0 (faulty n i) → FirstOffends o rs n i
-    told (the-first j e f) = subst (FirstFrom o rs undirected n) (omega (arith, e)) f
+    told (the-first j e f) = subst (FirstFrom o rs _ n) (omega (arith, e)) f
 
     tells : {c : Finding} → FirstOffends o rs n i → Verdict o rs undirected 0 c → c ≡ faulty n i
     tells f (no-one h) = absurd (h i (f .inside) n (f .offends))

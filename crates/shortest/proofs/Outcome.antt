@@ -153,7 +153,8 @@ module _ (rs : List UnitRecord) (o : List ℕ) (work m : ℕ) where
 
   -- ---- counts and places
 
-  bare : {n p c : ℕ} → Outcome rs o work m n p c → (n ≡ refusal.accepted → ⊥) → ((n ≡ refusal.no-room → ⊥) → c ≡ 0) × ((Number n → ⊥) → p ≡ 0)
+  bare : {n p c : ℕ} → Outcome rs o work m n p c → (n ≡ refusal.accepted → ⊥)
+      → ((n ≡ refusal.no-room → ⊥) → c ≡ 0) × ((Number n → ⊥) → p ≡ 0)
   bare (long-list h) a = (λ _. refl, λ _. refl)
   bare (offending {n} {i} h f) a = (λ _. refl, λ b. absurd (b (offence-number o rs n i f)))
   bare (short-work h f w) a = (λ _. refl, λ _. refl)

@@ -47,7 +47,7 @@ pub over-limit : (rs : List UnitRecord) (o : List ℕ) (work : ℕ) (us : List T
     → (limit.octets < shortestCount us) ↔ ((t : List ℕ) → Grammatical t us → limit.octets < length t)
 over-limit rs o work us h v = (
   λ l t g. omega (arith, lower fresh-legal (g .reads)),
-  λ f. omega (arith, f (shortestOf us) (list-grammatical o rs us h (no-offence o rs .1 (v .none)) (v .reading)), writing-length us (fresh .sets)),
+  λ f. omega (arith, f _ (list-grammatical o rs us h (no-offence o rs .1 (v .none)) (v .reading)), writing-length us (fresh .sets)),
 )
 
 module _ (rs : List UnitRecord) (o : List ℕ) (work : ℕ) (out : List ℕ) where
@@ -61,7 +61,7 @@ module _ (rs : List UnitRecord) (o : List ℕ) (work : ℕ) (out : List ℕ) whe
   -- a refusal leaves the output (rule N7)
   pub refused-output : (answered .number ≡ refusal.accepted → ⊥) → writerOutput rs o work out ≡ out
   unfolding writerOutput
-  refused-output n = rw (ne-eqb (answered .number) refusal.accepted n)
+  refused-output n = rw (ne-eqb _ _ n)
 
   -- else the string stands at its start, and the rest stays (rule W5)
   pub accepted-output : answered .number ≡ refusal.accepted → Given rs o work out
@@ -70,15 +70,15 @@ module _ (rs : List UnitRecord) (o : List ℕ) (work : ℕ) (out : List ℕ) whe
       let w = accepted-where rs o work (length out) .0 e in
       let us = w .0 in
       let v = w .1 in
-      let n : writeAnswer us (length out) .number ≡ refusal.accepted = cc (served rs o work (length out) us v, e) in
+      let n : writeAnswer us (length out) .number ≡ refusal.accepted = cc (served rs o work _ us v, e) in
       record {
         units = us;
         reading = v .reading;
         good-ones = served-good rs o work us v;
-        answers = outcome-is rs o work (length out) (written us v (w .2) (w .3));
+        answers = outcome-is rs o work _ (written us v (w .2) (w .3));
         short = w .2;
         fits = w .3;
-        holds = rw (eq-eqb (answered .number) refusal.accepted e, v .reading, eq-eqb (writeAnswer us (length out) .number) refusal.accepted n);
+        holds = rw (eq-eqb _ _ e, v .reading, eq-eqb _ _ n);
       }
 
   -- the octets that the answer counts are the writing
@@ -86,7 +86,7 @@ module _ (rs : List UnitRecord) (o : List ℕ) (work : ℕ) (out : List ℕ) whe
   output-string g =
       let w = shortestOf (g .units) in
       let rest = drop (shortestCount (g .units)) out in
-      let n : answered .count ≡ length w = ap (λ (a : Answer). a .count) (g .answers) ∙ sym (writing-length (g .units) (fresh .sets)) in
+      let n : answered .count ≡ length w = ap (λ (a : Answer). a .count) (g .answers) ∙ sym (writing-length _ _) in
       ap₂ (λ (k : ℕ) (xs : List ℕ). take k xs) n (g .holds) ∙ take-append-seam w rest
 
   -- they are the string of rule W4, and there is no other such string
@@ -98,15 +98,16 @@ module _ (rs : List UnitRecord) (o : List ℕ) (work : ℕ) (out : List ℕ) whe
         g .units,
         choices (g .units) (fresh .sets),
         g .reading,
-        rw (output-string g) (the-choice (g .units) (fresh .sets) fresh-legal (g .good-ones)),
+        rw (output-string g) (the-choice _ _ fresh-legal (g .good-ones)),
       )
 
   pub output-one : answered .number ≡ refusal.accepted → (us : List TextUnit) (os : List (Option Standing)) (t : List ℕ)
       → listReading o rs ≡ some us → Chosen us (fresh .sets) os t → t ≡ string
   output-one e us os t q c =
       let g = accepted-output e in
-      let s : us ≡ g .units = Option·some-injective us (g .units) (sym q ∙ g .reading) in
-      one-choice us (fresh .sets) os t fresh-legal (subst Good (sym s) (g .good-ones)) c ∙ ap (λ (v : List TextUnit). shortestOf v) s ∙ sym (output-string g)
+      let s : us ≡ g .units = Option·some-injective us _ (sym q ∙ g .reading) in
+      one-choice us (fresh .sets) os t fresh-legal (subst Good (sym s) (g .good-ones)) c
+      ∙ ap (λ (v : List TextUnit). shortestOf v) s ∙ sym (output-string g)
 
   -- they are accepted and read as the list (M2)
   pub output-read : Octets o → answered .number ≡ refusal.accepted
@@ -116,7 +117,7 @@ module _ (rs : List UnitRecord) (o : List ℕ) (work : ℕ) (out : List ℕ) whe
       let w = accepted-where rs o work (length out) .0 e in (
         g .units,
         g .reading,
-        rw (output-string g) (list-written o rs (g .units) h (no-offence o rs .1 (w .1 .none)) (g .reading) (g .short)),
+        rw (output-string g) (list-written o rs _ h (no-offence o rs .1 (w .1 .none)) (g .reading) (g .short)),
       )
 
   -- the output keeps its length

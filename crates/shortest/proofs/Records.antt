@@ -3,7 +3,7 @@
 -- cost is within the limit it is accepted (`list-written`), and a list that some accepted string reads as is such a list (`read-list`).
 use Prim.Native.Nat.{ℕ, suc, _≤_}
 use native.Mathlib.Omega.{arith}
-use mathlib.Core.Path.{_≡_, refl, ap, subst}
+use mathlib.Core.Path.{_≡_, refl, ap, ap₂, subst}
 use mathlib.Core.Bool.{true}
 use mathlib.Core.List.{List, [], _∷_}
 use mathlib.Core.Option.{Option, none, some, Option·some-injective}
@@ -43,7 +43,8 @@ first-read : (o : List ℕ) (r : UnitRecord) (rs : List UnitRecord) (us : List T
 unfolding listReading
 first-read o r rs us e = go (unitRead o r) (listReading o rs) refl refl e
   where
-    go : (x : Option TextUnit) (y : Option (List TextUnit)) → unitRead o r ≡ x → listReading o rs ≡ y → prepend x y ≡ some us → FirstRead o r rs us
+    go : (x : Option TextUnit) (y : Option (List TextUnit)) → unitRead o r ≡ x → listReading o rs ≡ y → prepend x y ≡ some us
+        → FirstRead o r rs us
     go none y p q e = clash (cc)
     go (some u) none p q e = clash (cc)
     go (some u) (some vs) p q e = record { unit = u; rest = vs; first = p; others = q; whole = cc }
@@ -54,7 +55,7 @@ unfolding listReading
 reading-length o [] us e = ap length (let q : us ≡ [] = cc in q)
 reading-length o (r ∷ rs) us e =
     let w = first-read o r rs us e in
-    rw (w .whole) (ap suc (reading-length o rs (w .rest) (w .others)))
+    rw (w .whole) (ap suc (reading-length o rs _ (w .others)))
 
 -- ---- good units that keep the direction rule, and lists with no offending record
 
@@ -65,10 +66,11 @@ units-fine o [] us i d e g h = refl
 units-fine o (r ∷ rs) us i d e g h =
     let w = first-read o r rs us e in
     let g′ = rw (w .whole) at g in
-    rw (w .first, g′ .0) (go (w .rest) (direct d (w .unit)) (rw (w .whole) at h) (λ next f. units-fine o rs (w .rest) (suc i) next (w .others) (g′ .1) f))
+    rw (w .first, g′ .0) (go (w .rest) (direct d (w .unit)) (rw (w .whole) at h) (λ next f. units-fine o rs _ (suc i) next (w .others) (g′ .1) f))
   where
     go : (vs : List TextUnit) (x : Step) → passes x (λ next. directed vs next) ≡ true
-        → ((next : Directions) → directed vs next ≡ true → checkRecords o rs (suc i) next ≡ fine) → onStep x i (λ next. checkRecords o rs (suc i) next) ≡ fine
+        → ((next : Directions) → directed vs next ≡ true → checkRecords o rs (suc i) next ≡ fine)
+        → onStep x i (λ next. checkRecords o rs (suc i) next) ≡ fine
     go vs (Stops n) h k = off h
     go vs (Goes next) h k = k next h
 
@@ -79,27 +81,24 @@ pub record Fine (o : List ℕ) (rs : List UnitRecord) (d : Directions) : Type 0 
   pub good-ones : Good units
   pub rule : directed units d ≡ true
 
+-- a record whose step goes on is that of a good unit
+goes-read : (d next : Directions) (x : Option TextUnit) → fault x d ≡ Goes next
+    → (u : TextUnit) × (x ≡ some u) × (good u ≡ true) × (direct d u ≡ Goes next)
+goes-read d next none e = clash (cc)
+goes-read d next (some u) e = test (good u) (λ g. (u, refl, g, rw g at e)) (λ g. clash (cc (rw g at e)))
+
 pub fine-units : (o : List ℕ) (rs : List UnitRecord) (i : ℕ) (d : Directions) → checkRecords o rs i d ≡ fine → Fine o rs d
 unfolding checkRecords listReading directed
 fine-units o [] i d e = record { units = []; reading = refl; good-ones = tt; rule = refl }
-fine-units o (r ∷ rs) i d e = go (unitRead o r) refl e (λ next q. fine-units o rs (suc i) next q)
+fine-units o (r ∷ rs) i d e = go (fault (unitRead o r) d) refl e (λ next q. fine-units o rs (suc i) next q)
   where
-    step : (u : TextUnit) → unitRead o r ≡ some u → good u ≡ true → (x : Step) → direct d u ≡ x → onStep x i (λ next. checkRecords o rs (suc i) next) ≡ fine
+    go : (x : Step) → fault (unitRead o r) d ≡ x → onStep x i (λ next. checkRecords o rs (suc i) next) ≡ fine
         → ((next : Directions) → checkRecords o rs (suc i) next ≡ fine → Fine o rs next) → Fine o (r ∷ rs) d
-    step u p g (Stops n) q e k = clash (cc)
-    step u p g (Goes next) q e k =
+    go (Stops n) q e k = clash (cc)
+    go (Goes next) q e k =
+        let w = goes-read d next (unitRead o r) q in
         let f = k next e in
-        record {
-          units = u ∷ f .units;
-          reading = rw (p, f .reading);
-          good-ones = (g, f .good-ones);
-          rule = rw q (f .rule);
-        }
-
-    go : (x : Option TextUnit) → unitRead o r ≡ x → onStep (fault x d) i (λ next. checkRecords o rs (suc i) next) ≡ fine
-        → ((next : Directions) → checkRecords o rs (suc i) next ≡ fine → Fine o rs next) → Fine o (r ∷ rs) d
-    go none p e k = clash (cc)
-    go (some u) p e k = test (good u) (λ g. step u p g (direct d u) refl (rw g at e) k) (λ g. clash (cc (rw g at e)))
+        record { units = w .0 ∷ f .units; reading = ap₂ prepend (w .1) (f .reading); good-ones = (w .2, f .good-ones); rule = rw (w .3) (f .rule) }
 
 -- ---- the octets of extended segments
 
@@ -117,20 +116,21 @@ read-contents : (o : List ℕ) (r : UnitRecord) (u : TextUnit) → Octets o → 
 unfolding unitRead
 read-contents o r u h e =
     test (readable o r)
-    (λ t. subst Contents (Option·some-injective _ _ (rw t at e)) (unit-contents (r .kind) (r .set) (r .code) _ (part-octets (r .length) (r .start) o h)))
+    (λ t. subst Contents (Option·some-injective _ _ (rw t at e)) (unit-contents _ _ _ _ (part-octets (r .length) (r .start) o h)))
     (λ t. clash (cc (rw t at e)))
 
 pub list-contents : (o : List ℕ) (rs : List UnitRecord) (us : List TextUnit) → Octets o → listReading o rs ≡ some us → Every Contents us
 unfolding listReading
-list-contents o [] us h e = subst (Every Contents) (Option·some-injective _ _ e) tt
+list-contents o [] us h e = subst (Every _) (Option·some-injective _ _ e) tt
 list-contents o (r ∷ rs) us h e =
     let w = first-read o r rs us e in
-    rw (w .whole) (read-contents o r (w .unit) h (w .first), list-contents o rs (w .rest) h (w .others))
+    rw (w .whole) (read-contents o r _ h (w .first), list-contents o rs _ h (w .others))
 
 -- ---- the theorems
 
 -- the writing of a list with no offending record reads as the list
-pub list-grammatical : (o : List ℕ) (rs : List UnitRecord) (us : List TextUnit) → Octets o → checkRecords o rs 0 undirected ≡ fine → listReading o rs ≡ some us
+pub list-grammatical : (o : List ℕ) (rs : List UnitRecord) (us : List TextUnit) → Octets o → checkRecords o rs 0 undirected ≡ fine
+    → listReading o rs ≡ some us
     → Grammatical (shortestOf us) us
 list-grammatical o rs us h c e =
     let f = fine-units o rs 0 undirected c in
@@ -138,14 +138,15 @@ list-grammatical o rs us h c e =
     writing-grammatical us (rw s at (f .good-ones)) (list-contents o rs us h e) (direction-rule us .0 (rw s at (f .rule)))
 
 -- and is accepted, where it is not over the limit
-pub list-written : (o : List ℕ) (rs : List UnitRecord) (us : List TextUnit) → Octets o → checkRecords o rs 0 undirected ≡ fine → listReading o rs ≡ some us
+pub list-written : (o : List ℕ) (rs : List UnitRecord) (us : List TextUnit) → Octets o → checkRecords o rs 0 undirected ≡ fine
+    → listReading o rs ≡ some us
     → shortestCount us ≤ limit.octets → ReadAs (shortestOf us) us
 list-written o rs us h c e l = within-limit (list-grammatical o rs us h c e) (omega (arith, writing-length us (fresh .sets)))
 
 fine-read : (o : List ℕ) (rs : List UnitRecord) → Octets o → (checkRecords o rs 0 undirected ≡ fine) ↔ SomeString o rs
 fine-read o rs h = (
   λ c. let f = fine-units o rs 0 undirected c in
-      (f .units, shortestOf (f .units), f .reading, list-grammatical o rs (f .units) h c (f .reading)),
+      (f .units, shortestOf (f .units), f .reading, list-grammatical o rs _ h c (f .reading)),
   λ w. units-fine o rs (w .0) 0 undirected (w .2) (good-all (w .3 .reads)) (direction-rule (w .0) .1 (w .3 .rule)),
 )
 

@@ -41,7 +41,7 @@ accepted {t} {us} r = agrees t us (r .octets) .0 r
 -- the writing is of the grammar and reads as the units, its length aside
 pub writing-grammatical : (us : List TextUnit) → Good us → Every Contents us → Lawful us 0 0 0 → Grammatical (shortestOf us) us
 writing-grammatical us g c l =
-    record { octets = writing-octets us (fresh .sets) g c; reads = lazy-reads (writing-lazy us (fresh .sets) fresh-legal g); rule = l }
+    record { octets = writing-octets us _ g c; reads = lazy-reads (writing-lazy us (fresh .sets) fresh-legal g); rule = l }
 
 -- within the limit it is accepted
 pub within-limit : {t : List ℕ} {us : List TextUnit} → Grammatical t us → length t ≤ limit.octets → ReadAs t us
@@ -71,7 +71,7 @@ shortest us t₀ r =
     record {
       accepted =
           writing-read us (good-all (a .reads)) (reads-contents (a .reads) (r .octets)) (a .rule) (omega (arith, no-shorter-accepted a, a .short));
-      count = writing-length us (fresh .sets);
+      count = writing-length us _;
       least = λ t′ b. no-shorter b;
     }
   where

@@ -71,8 +71,8 @@ char-octets : (d : Side) (c k : ℕ) → codeUsed (formOf c) k ≡ true → Octe
 unfolding octets wide
 char-octets d c k u =
     test (eqb (formOf c) form-94x94)
-    (λ e. let b = two-code (formOf c) k e u in
-    rw e (small ((top d + k / 256) ∷ (top d + k % 256) ∷ []) (topped d (k / 256) (b .0), (topped d (k % 256) (b .1), tt))))
+    (λ e. let b = two-code _ k e u in
+    rw e (small ((top d + k / 256) ∷ (top d + k % 256) ∷ []) (topped d _ (b .0), (topped d _ (b .1), tt))))
     (λ e. rw e (small ((top d + k) ∷ []) (topped d k (one-code (formOf c) k e u), tt)))
 
 -- the octets of an extended segment are octets
@@ -105,13 +105,13 @@ reads-contents (show {t = t} u d g h r) o = (unit-contents u d (front (octets d 
 
 designated-octets : (o : Option Standing) → Octets (designated o)
 designated-octets none i = omega arith
-designated-octets (some p) i = designation-octets (p .side) (p .set) i
+designated-octets (some p) i = designation-octets _ _ i
 
 pub writing-octets : (us : List TextUnit) (s : Sets) → Good us → Every Contents us → Octets (writing us s)
 unfolding writing
 writing-octets [] s g o = small [] tt
 writing-octets (u ∷ us) s g o =
-    join (designated c) (octets d u ++ writing us (after c s)) (designated-octets c)
+    join (designated c) _ (designated-octets c)
     (join (octets d u) (writing us (after c s)) (unit-octets u d (g .0) (o .0)) (writing-octets us (after c s) (g .1) (o .1)))
   where
     c : Option Standing

@@ -1,10 +1,9 @@
 -- `check_list::own::character` meets its contract.
-use mathlib.Core.Path.{_≡_, sym, ap, _∙_}
+use mathlib.Core.Path.{sym, ap, _∙_}
 use Rattle.check_list.proofs.Refusals.{set-none, code-unused, code-fits}
 use Prim.Native.Nat.{ℕ}
-use mathlib.Core.Bool.{Bool, true, false}
+use mathlib.Core.Bool.{Bool}
 use Rattle.base.specs.Kind as kind
-use Rattle.charset.specs.Charsets.{formOf}
 use Rattle.state.specs.Directions.{stepOf}
 use Rattle.grammar.specs.Units.{codeUsed}
 use borrow.Author.Needs.{needs}
@@ -21,11 +20,11 @@ character-spec =
     (search needs)
     (λ c. let args = c .before .before .before .before .before .before .args in
     let form = ap (λ (f : ℕ). codeUsed f (args .code)) (sym (c .before .before .before .before .form-of .ensures)) in
-    let used : codeUsed (formOf (args .set)) (args .code) ≡ true = form ∙ sym (c .before .before .before .code-used .ensures) ∙ c .before .before .if2 .taken in
+    let used = form ∙ sym (c .before .before .before .code-used .ensures) ∙ c .before .before .if2 .taken in
     let text = ap (λ (t : Bool). stepOf t kind.character (args .directions)) (c .before .counts-as-text .ensures) in
-    c .step .ensures ∙ text ∙ code-fits (args .set) (args .code) (args .directions) (c .before .before .before .before .before .if1 .taken) used)
+    c .step .ensures ∙ text ∙ code-fits _ _ _ (c .before .before .before .before .before .if1 .taken) used)
     (λ c. let args = c .before .before .before .before .args in
     let form = ap (λ (f : ℕ). codeUsed f (args .code)) (sym (c .before .before .form-of .ensures)) in
-    let used : codeUsed (formOf (args .set)) (args .code) ≡ false = form ∙ sym (c .before .code-used .ensures) ∙ c .if2 .left in
-    code-unused (args .set) (args .code) (args .directions) (c .before .before .before .if1 .taken) used)
+    let used = form ∙ sym (c .before .code-used .ensures) ∙ c .if2 .left in
+    code-unused _ _ _ (c .before .before .before .if1 .taken) used)
     (λ c. search set-none))

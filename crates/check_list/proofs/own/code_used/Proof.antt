@@ -14,7 +14,8 @@ code-used-spec =
     (tie.spec
     (search needs)
     (search needs)
-    (λ c. simp (eq-eqb _ _ (c .before .before .before .if1 .taken), sym (c .before .before .graphic .ensures) ∙ c .before .if2 .taken) (c .graphic2 .ensures))
+    (λ c. simp (eq-eqb _ _ (c .before .before .before .if1 .taken), sym (c .before .before .graphic .ensures) ∙ c .before .if2 .taken)
+    (c .graphic2 .ensures))
     (λ c. simp (eq-eqb _ _ (c .before .before .if1 .taken), sym (c .before .graphic .ensures) ∙ c .if2 .left))
     (λ c. search to-tests)
     (λ c. search to-tests)
