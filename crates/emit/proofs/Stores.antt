@@ -9,7 +9,7 @@ use lib.Dec.{ltb, leb, eqb}
 use borrow.Author.Tests.{ltb-true, ltb-false, lt-ltb, le-ltb, le-leb, lt-leb, eqb-true, ne-eqb, not-true}
 use lib.ListN.{length, getD, set, take, drop, length-append, length-take, length-drop}
 use lib.Seq.{sets, length-sets, take-suc, take-all, take-take, getD-drop}
-use Rattle.base.proofs.Bools.{and-left, and-right, up-to}
+use Rattle.base.proofs.Bools.{test, pick-last, and-left, and-right, up-to}
 use Rattle.base.specs.Choice.{pick}
 use Rattle.charset.specs.declared.Side.{Side}
 use Rattle.charset.specs.declared.Side.the-variants.{GL, GR}
@@ -63,6 +63,9 @@ written-length {l} {m} {at} {r} {xs} a = ap length (a .now) ∙ length-sets l at
 
 pub written-as : {l m : List ℕ} {at r : ℕ} {xs ys : List ℕ} → ys ≡ xs → Written l at xs r m → Written l at ys r m
 written-as {l} {m} {at} {r} e p = subst (λ (z : List ℕ). Written l at z r m) (sym e) p
+
+pub room-as : {xs ys : List ℕ} → ys ≡ xs → (at : ℕ) {n : ℕ} → at + length ys ≤ n → at + length xs ≤ n
+room-as e at h = rw (sym e) h
 
 -- ---- a copy
 
@@ -127,12 +130,7 @@ broad t h k =
 
 -- the tag of a character of two octets, by its test
 paired : (t : ℕ) → pick (ltb t 12) false (ltb t 15) ≡ true → (12 ≤ t) × (t < 15)
-unfolding pick
-paired t e = go (ltb t 12) refl
-  where
-    go : (p : Bool) → ltb t 12 ≡ p → (12 ≤ t) × (t < 15)
-    go true p = absurd (false≢true (rw p at e))
-    go false p = (ltb-false t 12 p, ltb-true t 15 (rw p at e))
+paired t e = let p = pick-last (ltb t 12) (ltb t 15) e in (ltb-false t 12 (p .0), ltb-true t 15 (p .1))
 
 -- a character of one octet, or a space; and a character of two
 module _ (d : Side) (t a b : ℕ) where
@@ -174,16 +172,15 @@ segment-parts o e n m s h =
     take-least : (n m : ℕ) (xs : List ℕ) → length (take n xs) ≡ m → take n xs ≡ take m xs
     take-least n m xs l = sym (take-all m (take n xs) (omega arith)) ∙ take-take m n xs (omega (arith, l, length-take n xs))
 
-pub designation-some : (l : Bool) (c : ℕ) → c < 15 → 3 ≤ length (designation (on (sideOf l) c))
-designation-some l c h = rw (designation-short l c h) (go (leb 12 c))
-  where
-    go : (b : Bool) → 3 ≤ length (cond b (0x1B ∷ 0x24 ∷ signOf l c ∷ rowOf c .last ∷ []) (0x1B ∷ signOf l c ∷ rowOf c .last ∷ []))
-    go true = omega arith
-    go false = omega arith
+-- it has three octets or more
+pub room-three : (l : Bool) (c at : ℕ) {n : ℕ} → c < 15 → at + length (designation (on (sideOf l) c)) ≤ n → at + 3 ≤ n
+room-three l c at h f =
+    let d = ap length (designation-short l c h) in
+    test (leb 12 c) (λ e. omega (arith, rw e at d)) (λ e. omega (arith, rw e at d))
 
-pub segment-length : (o : List ℕ) (e n s : ℕ) → length (octets GL (ext e (take n (drop s o)))) ≡ 6 + partOf n s (length o)
+pub segment-room : (o : List ℕ) (e n s at : ℕ) {m : ℕ} → at + length (octets GL (ext e (take n (drop s o)))) ≤ m → at + (6 + partOf n s (length o)) ≤ m
 unfolding octets
-segment-length o e n s = omega (arith, part-length o n s)
+segment-room o e n s at h = omega (arith, part-length o n s)
 
 -- a mark by its tag: the room that it takes, and where it is stored
 pub mark-room : (m : Control) (t at : ℕ) {n : ℕ} → control m ≡ markTagged t → at + length (octets GL (markTagged t)) ≤ n
