@@ -39,7 +39,8 @@ pub gl-stays : (x k l u v : ℕ) → x < 17 → k < 80 → l ≡ getD servedInGL
 gl-stays x k l u v hx hk el e = stands-stays x k u v hx hk (rw (eq-eqb (k / 16) (getD servedInGL x 0) (e ∙ el)))
 
 pub gr-stays : (x k r u v : ℕ) → x < 17 → k < 80 → r ≡ getD servedInGR x 0 → k % 16 ≡ r → k ≡ chosenBy x k u v
-gr-stays x k r u v hx hk er e = stands-stays x k u v hx hk (rw (eq-eqb (k % 16) (getD servedInGR x 0) (e ∙ er)) (or-true (eqb (k / 16) (getD servedInGL x 0))))
+gr-stays x k r u v hx hk er e =
+    stands-stays x k u v hx hk (rw (eq-eqb (k % 16) (getD servedInGR x 0) (e ∙ er)) (or-true (eqb (k / 16) (getD servedInGL x 0))))
 
 -- a character's set stands in GL where its place there does
 sided : upTo 15 (λ x. upTo 5 (λ g. Bool·beq (eqb g (getD servedInGL x 0)) (eqb (getD setsInGL g 0) x))) ≡ true
@@ -74,10 +75,12 @@ pub change-none : (k j : ℕ) → j ≡ k → designated (change k j) ≡ []
 unfolding change
 change-none k j e = rw (eq-eqb j k e)
 
-pub change-gr : (k j c : ℕ) → (j ≡ k → ⊥) → j / 16 ≡ k / 16 → c ≡ getD setsInGR (j % 16) 0 → designated (change k j) ≡ designation (on (sideOf false) c)
+pub change-gr : (k j c : ℕ) → (j ≡ k → ⊥) → j / 16 ≡ k / 16 → c ≡ getD setsInGR (j % 16) 0
+    → designated (change k j) ≡ designation (on (sideOf false) c)
 unfolding change
 change-gr k j c n e q = rw (ne-eqb j k n, eq-eqb (j / 16) (k / 16) e, q)
 
-pub change-gl : (k j c : ℕ) → (j ≡ k → ⊥) → (j / 16 ≡ k / 16 → ⊥) → c ≡ getD setsInGL (j / 16) 0 → designated (change k j) ≡ designation (on (sideOf true) c)
+pub change-gl : (k j c : ℕ) → (j ≡ k → ⊥) → (j / 16 ≡ k / 16 → ⊥) → c ≡ getD setsInGL (j / 16) 0
+    → designated (change k j) ≡ designation (on (sideOf true) c)
 unfolding change
 change-gl k j c n e q = rw (ne-eqb j k n, ne-eqb (j / 16) (k / 16) e, q)

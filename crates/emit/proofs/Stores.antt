@@ -49,7 +49,8 @@ pub written-3 : (l : List ℕ) (at a b c : ℕ) → Written l at (a ∷ b ∷ c 
 written-3 l at a b c =
     record { next = refl; now = ap₂ (λ (x y : ℕ). set (set (set l at a) x b) y c) (add-one at) (let e : at + 2 ≡ suc (suc at) = omega arith in e) }
 
-pub written-4 : (l : List ℕ) (at a b c d : ℕ) → Written l at (a ∷ b ∷ c ∷ d ∷ []) (at + 4) (set (set (set (set l at a) (at + 1) b) (at + 2) c) (at + 3) d)
+pub written-4 : (l : List ℕ) (at a b c d : ℕ)
+    → Written l at (a ∷ b ∷ c ∷ d ∷ []) (at + 4) (set (set (set (set l at a) (at + 1) b) (at + 2) c) (at + 3) d)
 written-4 l at a b c d =
     record {
       next = refl;
@@ -100,7 +101,8 @@ sameList-eq : (xs ys : List ℕ) → sameList xs ys ≡ true → xs ≡ ys
 sameList-eq [] [] e = refl
 sameList-eq [] (y ∷ ys) e = absurd (false≢true e)
 sameList-eq (x ∷ xs) [] e = absurd (false≢true e)
-sameList-eq (x ∷ xs) (y ∷ ys) e = ap₂ _∷_ (eqb-true x y (and-left (eqb x y) (sameList xs ys) e)) (sameList-eq xs ys (and-right (eqb x y) (sameList xs ys) e))
+sameList-eq (x ∷ xs) (y ∷ ys) e =
+    ap₂ _∷_ (eqb-true x y (and-left (eqb x y) (sameList xs ys) e)) (sameList-eq xs ys (and-right (eqb x y) (sameList xs ys) e))
 
 abbrev short : Bool → ℕ → List ℕ
 short l c = cond (leb 12 c) (0x1B ∷ 0x24 ∷ signOf l c ∷ rowOf c .last ∷ []) (0x1B ∷ signOf l c ∷ rowOf c .last ∷ [])
@@ -110,10 +112,12 @@ unfolding designation formOf signOf pick
 designation-short true c h = sameList-eq (designation (on GL c)) (short true c) (up-to 15 (λ m. sameList (designation (on GL m)) (short true m)) refl c h)
 designation-short false c h = sameList-eq (designation (on GR c)) (short false c) (up-to 15 (λ m. sameList (designation (on GR m)) (short false m)) refl c h)
 
-pub designation-one : (l : Bool) (c s f : ℕ) → s ≡ signOf l c → f ≡ rowOf c .last → c < 12 → designation (on (sideOf l) c) ≡ 0x1B ∷ s ∷ f ∷ []
+pub designation-one : (l : Bool) (c s f : ℕ) → s ≡ signOf l c → f ≡ rowOf c .last → c < 12
+    → designation (on (sideOf l) c) ≡ 0x1B ∷ s ∷ f ∷ []
 designation-one l c s f e q h = designation-short l c (omega arith) ∙ rw (lt-leb 12 c h, e, q)
 
-pub designation-two : (l : Bool) (c s f : ℕ) → s ≡ signOf l c → f ≡ rowOf c .last → 12 ≤ c → c < 15 → designation (on (sideOf l) c) ≡ 0x1B ∷ 0x24 ∷ s ∷ f ∷ []
+pub designation-two : (l : Bool) (c s f : ℕ) → s ≡ signOf l c → f ≡ rowOf c .last → 12 ≤ c → c < 15
+    → designation (on (sideOf l) c) ≡ 0x1B ∷ 0x24 ∷ s ∷ f ∷ []
 designation-two l c s f e q h k = designation-short l c k ∙ rw (le-leb 12 c h, e, q)
 
 -- ---- a unit's octets by its tag
@@ -178,7 +182,8 @@ room-three l c at h f =
     let d = ap length (designation-short l c h) in
     test (leb 12 c) (λ e. omega (arith, rw e at d)) (λ e. omega (arith, rw e at d))
 
-pub segment-room : (o : List ℕ) (e n s at : ℕ) {m : ℕ} → at + length (octets GL (ext e (take n (drop s o)))) ≤ m → at + (6 + partOf n s (length o)) ≤ m
+pub segment-room : (o : List ℕ) (e n s at : ℕ) {m : ℕ} → at + length (octets GL (ext e (take n (drop s o)))) ≤ m
+    → at + (6 + partOf n s (length o)) ≤ m
 unfolding octets
 segment-room o e n s at h = omega (arith, part-length o n s)
 

@@ -144,6 +144,7 @@ module _ (o w : List ℕ) (n : ℕ) (out : List ℕ) where
                 rw (few, lie, count, r)
                     (z .now ∙ ap (λ (us : List TextUnit). sets out 0 (writing us (fresh .sets))) units
                     ∙ sets-eq shortest out 0 (omega (arith, planned .0, s))
-                    ∙ ap (λ (y : ℕ). shortest ++ drop y out) (let y : 0 + length shortest ≡ cost (unitsIn o w 0 n) (fresh .sets) = omega (arith, s) in y)),
+                    ∙ ap (λ (y : ℕ). shortest ++ drop y out)
+                    (let y : 0 + length shortest ≡ cost (unitsIn o w 0 n) (fresh .sets) = omega (arith, s) in y)),
                 planned .1 .long,
               )

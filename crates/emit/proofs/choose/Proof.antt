@@ -14,7 +14,8 @@ returns-4 c =
     let first = second .before .before .before .before in
     let args = first .before .before .before .before .args in
     let slot = ap (λ (q : ℕ). getD (args .work .now) (args .row + q) 0) (c .before .before .second-slot .ensures .0) in
-    first-taken _ _ _ _ _ _ (first .after-first .ensures) (second .before .after-second .ensures) (second .before .before .before .if1 .left) (second .if3 .left)
+    first-taken _ _ _ _ _ _ (first .after-first .ensures) (second .before .after-second .ensures) (second .before .before .before .if1 .left)
+    (second .if3 .left)
     (omega (arith, slot, c .if4 .taken))
 
 returns-5 : tie.Need-returns-5
@@ -23,7 +24,8 @@ returns-5 c =
     let first = second .before .before .before .before in
     let args = first .before .before .before .before .args in
     let slot = ap (λ (q : ℕ). getD (args .work .now) (args .row + q) 0) (c .before .before .second-slot .ensures .0) in
-    second-taken _ _ _ _ _ _ (first .after-first .ensures) (second .before .after-second .ensures) (second .before .before .before .if1 .left) (second .if3 .left)
+    second-taken _ _ _ _ _ _ (first .after-first .ensures) (second .before .after-second .ensures) (second .before .before .before .if1 .left)
+    (second .if3 .left)
     (omega (arith, slot, c .if4 .left))
 
 pub choose-spec : {M : Type 1} → statement M

@@ -25,7 +25,8 @@ put-segment-requires c κs =
     let count = c .before .before .count-at in
     let start = c .before .before .before .before .before .before .before .before .before .before in
     let args = start .args in
-    let segment = segment-octets (args .segments .now) (args .work .now) (args .row) (sideOf (args .left)) _ _ (count .ensures .0) (c .before .start-at .ensures)
+    let segment = segment-octets (args .segments .now) (args .work .now) (args .row) (sideOf (args .left)) _ _ (count .ensures .0)
+    (c .before .start-at .ensures)
     (c .before .before .before .before .if2 .taken) (c .before .before .before .if3 .taken) in
     (count .ensures .1, segment-room (args .segments .now) _ _ _ _ (room-as segment _ (start .pre .1)))
 
@@ -34,7 +35,8 @@ returns-2 c =
     let count = c .before .before .before .before .before in
     let args = count .before .before .before .before .before .before .before .before .args in
     written-as
-    (segment-octets (args .segments .now) (args .work .now) (args .row) _ _ _ (count .count-at .ensures .0) (c .before .before .before .before .start-at .ensures)
+    (segment-octets (args .segments .now) (args .work .now) (args .row) _ _ _ (count .count-at .ensures .0)
+    (c .before .before .before .before .start-at .ensures)
     (count .before .before .if2 .taken) (count .before .if3 .taken))
     (c .before .before .put-segment .ensures)
 

@@ -21,7 +21,8 @@ emit-requires c κs =
     let plan = c .before .before .before .before .before .before in
     let lie = plan .before .before in
     let out = lie .before .before .before .before .before .args .out .now in
-    ready-all _ _ _ out (lie .before .if1 .left) (lie .if2 .left) _ _ (plan .plan .ensures) (c .before .before .before .if3 .left) (c .before .before .if4 .left)
+    ready-all _ _ _ out (lie .before .if1 .left) (lie .if2 .left) _ _ (plan .plan .ensures) (c .before .before .before .if3 .left)
+    (c .before .before .if4 .left)
 
 returns-5 : tie.Need-returns-5
 returns-5 c =

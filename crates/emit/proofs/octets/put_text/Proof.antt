@@ -11,7 +11,11 @@ slice-write-out : tie.Need-slice-write-out
 slice-write-out c =
     let start = c .before .before .before .before in
     let test = sym (c .before .before .two-octets .ensures) ∙ c .before .if1 .taken in
-    omega (arith, room-as (two-octets (sideOf (start .args .left)) (start .args .tag) (start .args .high) (start .args .low) _ _ refl refl test) _ (start .pre .1))
+    omega (
+      arith,
+      room-as (two-octets (sideOf (start .args .left)) (start .args .tag) (start .args .high) (start .args .low) _ _ refl refl test) _
+          (start .pre .1),
+    )
 
 slice-write-out-2 : tie.Need-slice-write-out-2
 slice-write-out-2 c =
