@@ -6,13 +6,13 @@ use Prim.Native.Nat.{ℕ, _+_, _/_, _%_, _≤_, _<_}
 use lib.ListN.{getD}
 use lib.Dec.{eqb, leb}
 use borrow.Author.Tests.{eq-eqb, ne-eqb, le-leb, lt-leb}
-use Rattle.base.proofs.Bools.{implies, implies-elim, up-to, upTo}
+use Rattle.base.proofs.Bools.{implies, implies-elim, upTo}
 use Rattle.state.specs.State.{on}
 use Rattle.grammar.specs.Units.{designation}
 use Rattle.shortest.specs.Writing.{designated}
 use Rattle.numbers.specs.Numbers.{setsInGL, setsInGR, servedInGL, servedInGR, afterFirst, afterSecond, chosenBy, change}
 use Rattle.emit.specs.Octets.{sideOf}
-use Rattle.numbers.proofs.Numbers.{beq-eq}
+use Rattle.numbers.proofs.Numbers.{beq-eq, up-to-both}
 
 pub first-stays : (x k a u v : ℕ) → a ≡ afterFirst x k → a ≡ k → k ≡ chosenBy x k u v
 unfolding chosenBy
@@ -32,8 +32,7 @@ all-stay = refl
 stands-stays : (x k u v : ℕ) → x < 17 → k < 80 → stands x k ≡ true → k ≡ chosenBy x k u v
 unfolding chosenBy
 stands-stays x k u v hx hk e =
-    rw (implies-elim (stands x k) (stays x k)
-    (up-to 80 (λ m. implies (stands x m) (stays x m)) (up-to 17 (λ y. upTo 80 (λ m. implies (stands y m) (stays y m))) all-stay x hx) k hk) e)
+    rw (implies-elim (stands x k) (stays x k) (up-to-both 17 80 (λ y m. implies (stands y m) (stays y m)) all-stay x k hx hk) e)
 
 pub gl-stays : (x k l u v : ℕ) → x < 17 → k < 80 → l ≡ getD servedInGL x 0 → k / 16 ≡ l → k ≡ chosenBy x k u v
 gl-stays x k l u v hx hk el e = stands-stays x k u v hx hk (rw (eq-eqb (k / 16) (getD servedInGL x 0) (e ∙ el)))
@@ -49,17 +48,12 @@ sided = refl
 pub its-place : (x g : ℕ) → x < 15 → g < 5 → eqb g (getD servedInGL x 0) ≡ eqb (getD setsInGL g 0) x
 its-place x g hx hg =
     beq-eq (eqb g (getD servedInGL x 0)) (eqb (getD setsInGL g 0) x)
-    (up-to 5 (λ m. Bool·beq (eqb m (getD servedInGL x 0)) (eqb (getD setsInGL m 0) x))
-    (up-to 15 (λ y. upTo 5 (λ m. Bool·beq (eqb m (getD servedInGL y 0)) (eqb (getD setsInGL m 0) y))) sided x hx) g hg)
+    (up-to-both 15 5 (λ y m. Bool·beq (eqb m (getD servedInGL y 0)) (eqb (getD setsInGL m 0) y)) sided x g hx hg)
 
 module _ (x k a b u v : ℕ) (ea : a ≡ afterFirst x k) (eb : b ≡ afterSecond x k) where
   pub second-stays : b ≡ k → k ≡ chosenBy x k u v
   unfolding chosenBy
-  second-stays e = rw (← ea, ← eb, eq-eqb b k e) (both (eqb a k))
-    where
-      both : (z : Bool) → k ≡ cond (z || true) k (cond (leb u v) a b)
-      both true = refl
-      both false = refl
+  second-stays e = rw (← ea, ← eb, eq-eqb b k e, or-true (eqb a k))
 
   module _ (n : a ≡ k → ⊥) (m : b ≡ k → ⊥) where
     pub first-taken : u ≤ v → a ≡ chosenBy x k u v

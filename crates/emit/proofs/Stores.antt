@@ -1,6 +1,6 @@
 -- Octets stored one after the other, and that they are those of designations and units.
 use mathlib.Core.Path.{_≡_, refl, sym, ap, ap₂, _∙_, subst}
-use mathlib.Core.Bool.{Bool, true, false, cond, _&&_, not, false≢true, true≢false}
+use mathlib.Core.Bool.{Bool, true, false, cond, _&&_, not, false≢true}
 use mathlib.Core.List.{List, [], _∷_, _++_}
 use Prim.Native.Nat.{ℕ, suc, _+_, _-_, _*_, _/_, _%_, _≤_, _<_}
 use native.Mathlib.Omega.{arith}
@@ -42,22 +42,19 @@ written-none l at = record { next = omega arith; now = refl }
 pub written-1 : (l : List ℕ) (at a : ℕ) → Written l at (a ∷ []) (at + 1) (set l at a)
 written-1 l at a = record { next = refl; now = refl }
 
+-- one octet more
+written-more : {l m : List ℕ} {at r : ℕ} {xs : List ℕ} (y next : ℕ) → r + 1 ≡ next → Written l at xs r m → Written l at (xs ++ (y ∷ [])) next (set m r y)
+written-more {m = m} {r = r} y next e p = rw (sym e) (written-both p (written-1 m r y))
+
 pub written-2 : (l : List ℕ) (at a b : ℕ) → Written l at (a ∷ b ∷ []) (at + 2) (set (set l at a) (at + 1) b)
-written-2 l at a b = record { next = refl; now = rw (add-one at) }
+written-2 l at a b = written-more b (at + 2) (omega arith) (written-1 l at a)
 
 pub written-3 : (l : List ℕ) (at a b c : ℕ) → Written l at (a ∷ b ∷ c ∷ []) (at + 3) (set (set (set l at a) (at + 1) b) (at + 2) c)
-written-3 l at a b c =
-    record { next = refl; now = ap₂ (λ (x y : ℕ). set (set (set l at a) x b) y c) (add-one at) (let e : at + 2 ≡ suc (suc at) = omega arith in e) }
+written-3 l at a b c = written-more c (at + 3) (omega arith) (written-2 l at a b)
 
 pub written-4 : (l : List ℕ) (at a b c d : ℕ)
     → Written l at (a ∷ b ∷ c ∷ d ∷ []) (at + 4) (set (set (set (set l at a) (at + 1) b) (at + 2) c) (at + 3) d)
-written-4 l at a b c d =
-    record {
-      next = refl;
-      now =
-          ap₂ (λ (x y : ℕ). set (set (set (set l at a) x b) y c) (at + 3) d) (add-one at) (let e : at + 2 ≡ suc (suc at) = omega arith in e)
-          ∙ ap (λ (z : ℕ). set (set (set (set l at a) (suc at) b) (suc (suc at)) c) z d) (let e : at + 3 ≡ suc (suc (suc at)) = omega arith in e);
-    }
+written-4 l at a b c d = written-more d (at + 4) (omega arith) (written-3 l at a b c)
 
 pub written-length : {l m : List ℕ} {at r : ℕ} {xs : List ℕ} → Written l at xs r m → length m ≡ length l
 written-length {l} {m} {at} {r} {xs} a = ap length (a .now) ∙ length-sets l at xs
@@ -141,19 +138,15 @@ module _ (d : Side) (t a b : ℕ) where
   pub single-octet : (y : ℕ) → y ≡ pick (eqb t tag.space) 0x20 (top d + b % 128) → pick (ltb t tag.double) false (ltb t tag.space) ≡ false
       → t < tag.tab → octets d (textTagged t a b) ≡ y ∷ []
   unfolding octets textTagged pick
-  single-octet y e n h = go (ltb t tag.double) refl (ltb t tag.space) refl
-    where
-      go : (p : Bool) → ltb t tag.double ≡ p → (q : Bool) → ltb t tag.space ≡ q → octets d (textTagged t a b) ≡ y ∷ []
-      go true p q r =
-          let l = ltb-true t tag.double p in
-          let f : y ≡ top d + b % 128 = rw (ne-eqb t tag.space (λ z. omega arith)) at e in
-          rw (p, narrow t l, f)
-      go false p true r = absurd (true≢false (rw (p, r) at n))
-      go false p false r =
-          let l = ltb-false t tag.space r in
-          let z : t ≡ tag.space = omega arith in
-          let f : y ≡ 0x20 = rw z at e in
-          rw (f, z) refl
+  single-octet y e n h =
+      test (ltb t tag.double)
+      (λ p. let l = ltb-true t tag.double p in
+      let f : y ≡ top d + b % 128 = rw (ne-eqb t tag.space (λ z. omega arith)) at e in
+      rw (p, narrow t l, f))
+      (λ p. let l = ltb-false t tag.space (rw p at n) in
+      let z : t ≡ tag.space = omega arith in
+      let f : y ≡ 0x20 = rw z at e in
+      rw (f, z) refl)
 
   pub two-octets : (x y : ℕ) → x ≡ top d + a % 128 → y ≡ top d + b % 128 → pick (ltb t tag.double) false (ltb t tag.space) ≡ true
       → octets d (textTagged t a b) ≡ x ∷ y ∷ []

@@ -8,7 +8,7 @@ use native.Mathlib.Omega.{arith}
 use lib.ListN.{length, getD, List·getD-eq-default}
 use lib.Dec.{eqb, leb, ltb}
 use borrow.Author.Tests.{eqb-true, eq-eqb, ne-eqb, ltb-true, ltb-false, lt-ltb, le-ltb, leb-true, leb-false, le-leb, lt-leb}
-use Rattle.base.proofs.Bools.{and-left, and-right, implies, implies-elim, or-none, up-to, upTo}
+use Rattle.base.proofs.Bools.{test, and-left, and-right, implies, implies-elim, or-none, up-to, upTo}
 use Rattle.charset.specs.declared.Side.{Side}
 use Rattle.charset.specs.declared.Side.the-variants.{GL, GR}
 use Rattle.charset.specs.Charsets.{allowed, mayUse, formOf}
@@ -72,6 +72,10 @@ beq-eq true false e = absurd (false≢true e)
 beq-eq false true e = absurd (false≢true e)
 beq-eq false false e = refl
 
+-- a test of all pairs of numbers below n and below m
+pub up-to-both : (n m : ℕ) (f : ℕ → ℕ → Bool) → upTo n (λ x. upTo m (f x)) ≡ true → (x k : ℕ) → x < n → k < m → f x k ≡ true
+up-to-both n m f t x k hx hk = up-to m (f x) (up-to n (λ y. upTo m (f y)) t x hx) k hk
+
 -- ---- the test of all classes and numbers
 
 -- number j has a set standing that number k may lack: it is k where it lacks none, and else the two differ by that designation
@@ -126,8 +130,7 @@ unfolding needOfClass afterFirst afterSecond priceOfClass change numbered price 
 all-reached = refl
 
 reached-at : (x k : ℕ) → x < 17 → k < 80 → reached (needOfClass x) x k ≡ true
-reached-at x k hx hk =
-    up-to 80 (λ m. reached (needOfClass x) x m) (up-to 17 (λ y. upTo 80 (λ m. reached (needOfClass y) y m)) all-reached x hx) k hk
+reached-at x k hx hk = up-to-both 17 80 (λ y m. reached (needOfClass y) y m) all-reached x k hx hk
 
 -- what it says of a need: the two numbers are k itself, or each is reached
 data Served (x k : ℕ) : Need → Type 0 where
@@ -232,11 +235,9 @@ steady-at f st x k hx hk = served-steady f st x k (served x k hx hk)
 
 -- costs less a base choose alike
 leb-base : (b u v : ℕ) → leb (b + u) (b + v) ≡ leb u v
-leb-base b u v = go (leb u v) refl
-  where
-    go : (t : Bool) → leb u v ≡ t → leb (b + u) (b + v) ≡ t
-    go true e = le-leb (b + u) (b + v) (let l = leb-true u v e in omega arith)
-    go false e = lt-leb (b + u) (b + v) (let l = leb-false u v e in omega arith)
+leb-base b u v =
+    test (leb u v) (λ e. le-leb (b + u) (b + v) (let l = leb-true u v e in omega arith) ∙ sym e)
+    (λ e. lt-leb (b + u) (b + v) (let l = leb-false u v e in omega arith) ∙ sym e)
 
 pub chosen-base : (x k b u v u′ v′ : ℕ) → b + u ≡ u′ → b + v ≡ v′ → chosenBy x k u v ≡ chosenBy x k u′ v′
 unfolding chosenBy
@@ -252,8 +253,7 @@ all-single = refl
 
 pub single : (x k : ℕ) → x < 12 → k < 80 → afterFirst x k ≡ afterSecond x k
 single x k hx hk =
-    eqb-true (afterFirst x k) (afterSecond x k)
-    (up-to 80 (λ m. eqb (afterFirst x m) (afterSecond x m)) (up-to 12 (λ y. upTo 80 (λ m. eqb (afterFirst y m) (afterSecond y m))) all-single x hx) k hk)
+    eqb-true (afterFirst x k) (afterSecond x k) (up-to-both 12 80 (λ y m. eqb (afterFirst y m) (afterSecond y m)) all-single x k hx hk)
 
 cond-same : (t : Bool) (a : ℕ) → cond t a a ≡ a
 cond-same true a = refl
@@ -277,11 +277,10 @@ chosen-free k u v u′ v′ = rw (eq-eqb k k refl)
 
 -- a bound of all entries of a list of numbers
 pub bounded : (l : List ℕ) (b : ℕ) → upTo (length l) (λ i. leb (getD l i 0) b) ≡ true → (i : ℕ) → getD l i 0 ≤ b
-bounded l b t i = go (ltb i (length l)) refl
-  where
-    go : (q : Bool) → ltb i (length l) ≡ q → getD l i 0 ≤ b
-    go true e = leb-true (getD l i 0) b (up-to (length l) (λ j. leb (getD l j 0) b) t i (ltb-true i (length l) e))
-    go false e = let d : getD l i 0 ≡ 0 = List·getD-eq-default l 0 (ltb-false i (length l) e) in omega arith
+bounded l b t i =
+    test (ltb i (length l))
+    (λ e. leb-true (getD l i 0) b (up-to (length l) (λ j. leb (getD l j 0) b) t i (ltb-true i (length l) e)))
+    (λ e. let d : getD l i 0 ≡ 0 = List·getD-eq-default l 0 (ltb-false i (length l) e) in omega arith)
 
 -- a list that is a sum from a place on
 from-place : (l : List ℕ) (a n b c : ℕ) → upTo n (λ y. eqb (a + y + b - c) (getD l (a + y) 0)) ≡ true → (x : ℕ) → a ≤ x → x < a + n → x + b - c ≡ getD l x 0
@@ -349,16 +348,6 @@ price-both x l r h el er a b =
     (up-to 15 (λ y. implies (ltb (getD placesInGL y 0) 5 && ltb (getD placesInGR y 0) 13) (eqb (priceOfClass y) 4)) refl x h)
     (rw (← el, ← er, lt-ltb l 5 a, lt-ltb r 13 b)))
 
-pub price-gl : (x l r : ℕ) → x < 15 → l ≡ getD placesInGL x 0 → r ≡ getD placesInGR x 0 → 13 ≤ r → (priceOfClass x ≡ 3) × (l < 5)
-unfolding priceOfClass
-price-gl x l r h el er b =
-    let t = implies-elim (not (ltb (getD placesInGR x 0) 13)) (eqb (priceOfClass x) 3 && ltb (getD placesInGL x 0) 5)
-    (up-to 15 (λ y. implies (not (ltb (getD placesInGR y 0) 13)) (eqb (priceOfClass y) 3 && ltb (getD placesInGL y 0) 5)) refl x h)
-    (rw (← er, le-ltb r 13 b)) in (
-      eqb-true (priceOfClass x) 3 (and-left (eqb (priceOfClass x) 3) (ltb (getD placesInGL x 0) 5) t),
-      subst (λ (m : ℕ). m < 5) (sym el) (ltb-true (getD placesInGL x 0) 5 (and-right (eqb (priceOfClass x) 3) (ltb (getD placesInGL x 0) 5) t)),
-    )
-
 pub price-gr : (x l : ℕ) → x < 15 → l ≡ getD placesInGL x 0 → 5 ≤ l → priceOfClass x ≡ 3
 unfolding priceOfClass
 price-gr x l h el b =
@@ -391,4 +380,4 @@ pub used-side : (x j : ℕ) → x < 15 → j < 80 → met (needOfClass x) (numbe
 used-side x j hx hj m =
     sameSide-eq (used (needOfClass x) (numbered j)) (sideAt x j)
     (implies-elim (met (needOfClass x) (numbered j)) (sameSide (used (needOfClass x) (numbered j)) (sideAt x j))
-    (up-to 80 (λ k. sided x k) (up-to 15 (λ y. upTo 80 (λ k. sided y k)) all-sided x hx) j hj) m)
+    (up-to-both 15 80 sided all-sided x j hx hj) m)
