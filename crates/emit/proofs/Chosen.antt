@@ -6,7 +6,7 @@ use Prim.Native.Nat.{ℕ, _+_, _/_, _%_, _≤_, _<_}
 use lib.ListN.{getD}
 use lib.Dec.{eqb, leb}
 use borrow.Author.Tests.{eq-eqb, ne-eqb, le-leb, lt-leb}
-use Rattle.base.proofs.Bools.{implies, implies-elim, up-to, upTo}
+use Rattle.base.proofs.Bools.{implies, implies-elim, upTo, up-to-both}
 use Rattle.state.specs.State.{on}
 use Rattle.grammar.specs.Units.{designation}
 use Rattle.shortest.specs.Writing.{designated}
@@ -32,14 +32,14 @@ all-stay = refl
 stands-stays : (x k u v : ℕ) → x < 17 → k < 80 → stands x k ≡ true → k ≡ chosenBy x k u v
 unfolding chosenBy
 stands-stays x k u v hx hk e =
-    rw (implies-elim (stands x k) (stays x k)
-    (up-to 80 (λ m. implies (stands x m) (stays x m)) (up-to 17 (λ y. upTo 80 (λ m. implies (stands y m) (stays y m))) all-stay x hx) k hk) e)
+    rw (implies-elim (stands x k) (stays x k) (up-to-both 17 80 (λ y m. implies (stands y m) (stays y m)) all-stay x k hx hk) e)
 
 pub gl-stays : (x k l u v : ℕ) → x < 17 → k < 80 → l ≡ getD servedInGL x 0 → k / 16 ≡ l → k ≡ chosenBy x k u v
 gl-stays x k l u v hx hk el e = stands-stays x k u v hx hk (rw (eq-eqb (k / 16) (getD servedInGL x 0) (e ∙ el)))
 
 pub gr-stays : (x k r u v : ℕ) → x < 17 → k < 80 → r ≡ getD servedInGR x 0 → k % 16 ≡ r → k ≡ chosenBy x k u v
-gr-stays x k r u v hx hk er e = stands-stays x k u v hx hk (rw (eq-eqb (k % 16) (getD servedInGR x 0) (e ∙ er)) (or-true (eqb (k / 16) (getD servedInGL x 0))))
+gr-stays x k r u v hx hk er e =
+    stands-stays x k u v hx hk (rw (eq-eqb (k % 16) (getD servedInGR x 0) (e ∙ er)) (or-true (eqb (k / 16) (getD servedInGL x 0))))
 
 -- a character's set stands in GL where its place there does
 sided : upTo 15 (λ x. upTo 5 (λ g. Bool·beq (eqb g (getD servedInGL x 0)) (eqb (getD setsInGL g 0) x))) ≡ true
@@ -48,17 +48,12 @@ sided = refl
 pub its-place : (x g : ℕ) → x < 15 → g < 5 → eqb g (getD servedInGL x 0) ≡ eqb (getD setsInGL g 0) x
 its-place x g hx hg =
     beq-eq (eqb g (getD servedInGL x 0)) (eqb (getD setsInGL g 0) x)
-    (up-to 5 (λ m. Bool·beq (eqb m (getD servedInGL x 0)) (eqb (getD setsInGL m 0) x))
-    (up-to 15 (λ y. upTo 5 (λ m. Bool·beq (eqb m (getD servedInGL y 0)) (eqb (getD setsInGL m 0) y))) sided x hx) g hg)
+    (up-to-both 15 5 (λ y m. Bool·beq (eqb m (getD servedInGL y 0)) (eqb (getD setsInGL m 0) y)) sided x g hx hg)
 
 module _ (x k a b u v : ℕ) (ea : a ≡ afterFirst x k) (eb : b ≡ afterSecond x k) where
   pub second-stays : b ≡ k → k ≡ chosenBy x k u v
   unfolding chosenBy
-  second-stays e = rw (← ea, ← eb, eq-eqb b k e) (both (eqb a k))
-    where
-      both : (z : Bool) → k ≡ cond (z || true) k (cond (leb u v) a b)
-      both true = refl
-      both false = refl
+  second-stays e = rw (← ea, ← eb, eq-eqb b k e, or-true (eqb a k))
 
   module _ (n : a ≡ k → ⊥) (m : b ≡ k → ⊥) where
     pub first-taken : u ≤ v → a ≡ chosenBy x k u v
@@ -74,10 +69,12 @@ pub change-none : (k j : ℕ) → j ≡ k → designated (change k j) ≡ []
 unfolding change
 change-none k j e = rw (eq-eqb j k e)
 
-pub change-gr : (k j c : ℕ) → (j ≡ k → ⊥) → j / 16 ≡ k / 16 → c ≡ getD setsInGR (j % 16) 0 → designated (change k j) ≡ designation (on (sideOf false) c)
+pub change-gr : (k j c : ℕ) → (j ≡ k → ⊥) → j / 16 ≡ k / 16 → c ≡ getD setsInGR (j % 16) 0
+    → designated (change k j) ≡ designation (on (sideOf false) c)
 unfolding change
 change-gr k j c n e q = rw (ne-eqb j k n, eq-eqb (j / 16) (k / 16) e, q)
 
-pub change-gl : (k j c : ℕ) → (j ≡ k → ⊥) → (j / 16 ≡ k / 16 → ⊥) → c ≡ getD setsInGL (j / 16) 0 → designated (change k j) ≡ designation (on (sideOf true) c)
+pub change-gl : (k j c : ℕ) → (j ≡ k → ⊥) → (j / 16 ≡ k / 16 → ⊥) → c ≡ getD setsInGL (j / 16) 0
+    → designated (change k j) ≡ designation (on (sideOf true) c)
 unfolding change
 change-gl k j c n e q = rw (ne-eqb j k n, ne-eqb (j / 16) (k / 16) e, q)

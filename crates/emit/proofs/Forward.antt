@@ -1,6 +1,6 @@
 -- One turn of the writing by number: what is designated, the unit's octets on a side, and the writing of the rest.
 use mathlib.Core.Path.{_≡_, refl, sym, ap, ap₂, _∙_, subst}
-use mathlib.Core.Bool.{Bool, true, false}
+use mathlib.Core.Bool.{Bool, true}
 use mathlib.Core.List.{List, [], _∷_, _++_, append-assoc, append-nil}
 use mathlib.Core.Option.{Option}
 use Prim.Native.Nat.{ℕ, suc, _+_, _-_, _*_, _/_, _%_, _≤_, _<_}
@@ -8,6 +8,7 @@ use native.Mathlib.Omega.{arith}
 use lib.Dec.{ltb, eqb}
 use borrow.Author.Tests.{ltb-true, ltb-false, lt-ltb}
 use lib.ListN.{length, getD, length-append}
+use Rattle.base.proofs.Bools.{test}
 use Rattle.base.specs.Choice.{pick}
 use Rattle.charset.specs.declared.Side.{Side}
 use Rattle.state.specs.State.{Standing, fresh}
@@ -41,6 +42,13 @@ class-character : (t : ℕ) → t < 15 → classOf t ≡ t
 unfolding classOf pick
 class-character t h = rw (lt-ltb t 16 (omega arith))
 
+-- what row i keeps of the costs after the first designation, and after the second
+abbrev firstKept : List ℕ → ℕ → ℕ → ℕ
+firstKept w i k = getD w (72 * i + k % 16) 0
+
+abbrev secondKept : List ℕ → ℕ → ℕ → ℕ → ℕ
+secondKept w i x k = getD w (72 * i + secondSlot x k) 0
+
 module _ (o w : List ℕ) (n i k : ℕ) (h : i < n) (hk : k < 80) where
   abbrev x : ℕ
   x = classOf (tagAt w i)
@@ -64,17 +72,14 @@ module _ (o w : List ℕ) (n i k : ℕ) (h : i < n) (hk : k < 80) where
   next-met = rw (its-choice .state) (chosen-met (needOfClass x) (cost rest) (numbered k))
 
   its-side : octets (used (need unit) (numbered next)) unit ≡ octets (sideAt (tagAt w i) next) unit
-  its-side = go (ltb (tagAt w i) 15) refl
-    where
-      go : (b : Bool) → ltb (tagAt w i) 15 ≡ b → octets (used (need unit) (numbered next)) unit ≡ octets (sideAt (tagAt w i) next) unit
-      go false e =
-          side-free o w (72 * i) (used (need unit) (numbered next)) (sideAt (tagAt w i) next) (ltb-false (tagAt w i) 15 e)
-      go true e =
-          let l = ltb-true (tagAt w i) 15 e in
-          let c = class-character (tagAt w i) l in
-          ap (λ (d : Side). octets d unit)
-          (ap (λ (q : Need). used q (numbered next)) (its-need ∙ ap needOfClass c)
-          ∙ used-side (tagAt w i) next l (its-choice .below) (subst (λ (y : ℕ). met (needOfClass y) (numbered next) ≡ true) c next-met))
+  its-side =
+      test (ltb (tagAt w i) 15)
+      (λ e. let l = ltb-true (tagAt w i) 15 e in
+      let c = class-character (tagAt w i) l in
+      ap (λ (d : Side). octets d unit)
+      (ap (λ (q : Need). used q (numbered next)) (its-need ∙ ap needOfClass c)
+      ∙ used-side (tagAt w i) next l (its-choice .below) (subst (λ (y : ℕ). met (needOfClass y) (numbered next) ≡ true) c next-met)))
+      (λ e. side-free o w (72 * i) _ _ (ltb-false (tagAt w i) 15 e))
 
   write-step : writing (unitsIn o w i (n - i)) (numbered k)
       ≡ designated (change k next) ++ (octets (sideAt (tagAt w i) next) unit ++ writing rest (numbered next))
@@ -87,31 +92,16 @@ module _ (o w : List ℕ) (n i k : ℕ) (h : i < n) (hk : k < 80) where
       ∙ turn unit rest (numbered k) (numbered next) (change k next) (sideAt (tagAt w i) next)
       (c ∙ sym (its-choice .changed)) (ap (λ (q : Option Standing). after q (numbered k)) c ∙ sym (its-choice .state)) its-side
 
-  next-below : next < 80
-  next-below = its-choice .below
-
   -- the number chosen by what the row keeps is that one
-  by-row : Ready o w n → (y : ℕ) → y ≡ x → chosenBy y k (getD w (72 * i + k % 16) 0) (getD w (72 * i + secondSlot y k) 0) ≡ next
-  by-row r y e = rw e (go (ltb x 12) refl (ltb x 16) refl)
-    where
-      f : ℕ → ℕ
-      f m = restFrom o w n (suc i) (numbered m)
-
-      go : (a : Bool) → ltb x 12 ≡ a → (b : Bool) → ltb x 16 ≡ b
-          → chosenBy x k (getD w (72 * i + k % 16) 0) (getD w (72 * i + secondSlot x k) 0) ≡ chosenBy x k (f (afterFirst x k)) (f (afterSecond x k))
-      go true qa b qb =
-          chosen-single x k (getD w (72 * i + k % 16) 0) (getD w (72 * i + secondSlot x k) 0) (f (afterFirst x k)) (f (afterSecond x k))
-          (ltb-true x 12 qa) hk
-      go false qa true qb =
-          let c = r i h (ltb-false x 12 qa, ltb-true x 16 qb) in
-          chosen-base x k (c .base) (getD w (72 * i + k % 16) 0) (getD w (72 * i + secondSlot x k) 0) (f (afterFirst x k)) (f (afterSecond x k))
-          (c .first-cost k hk) (c .second-cost k hk)
-      go false qa false qb =
-          let l = ltb-false x 16 qb in
-          let z : x ≡ 16 = omega (arith, class-below (tagAt w i)) in
-          subst (λ (q : ℕ). chosenBy q k (getD w (72 * i + k % 16) 0) (getD w (72 * i + secondSlot q k) 0)
-          ≡ chosenBy q k (f (afterFirst q k)) (f (afterSecond q k))) (sym z)
-          (chosen-free k (getD w (72 * i + k % 16) 0) (getD w (72 * i + secondSlot 16 k) 0) (f (afterFirst 16 k)) (f (afterSecond 16 k)))
+  by-row : Ready o w n → (y : ℕ) → y ≡ x → chosenBy y k (firstKept w i k) (secondKept w i y k) ≡ next
+  by-row r y e =
+      rw e
+      (test (ltb x 12) (λ q. chosen-single x k _ _ _ _ (ltb-true x 12 q) hk)
+      (λ q. test (ltb x 16)
+      (λ u. let c = r i h (ltb-false x 12 q, ltb-true x 16 u) in chosen-base x k (c .base) _ _ _ _ (c .first-cost k hk) (c .second-cost k hk))
+      (λ u. let l = ltb-false x 16 u in
+      let z : x ≡ 16 = omega (arith, class-below (tagAt w i)) in
+      rw z (chosen-free k _ _ _ _))))
 
 -- ---- the loop
 
@@ -134,10 +124,14 @@ going-none o w before n =
       state = omega arith;
     }
 
-module _ (o w before : List ℕ) (n i k at : ℕ) (after : List ℕ) (g : Going o w before n i k at after) (r : Ready o w n) (h : i < n)
-    (x j : ℕ) (ex : x ≡ classOf (tagAt w i)) (ej : j ≡ chosenBy x k (getD w (72 * i + k % 16) 0) (getD w (72 * i + secondSlot x k) 0)) where
+module _ {o w before : List ℕ} {n i k at : ℕ} {after : List ℕ} (g : Going o w before n i k at after) (r : Ready o w n) (h : i < n) {x j : ℕ}
+    (ex : x ≡ classOf (tagAt w i))
+    (ej : j ≡ chosenBy x k (firstKept w i k) (secondKept w i x k)) where
   planned : j ≡ next o w n i k h (g .state)
   planned = ej ∙ by-row o w n i k h (g .state) r x ex
+
+  abbrev changed : List ℕ
+  changed = designated (change k j)
 
   abbrev unit′ : List ℕ
   unit′ = octets (sideAt (tagAt w i) j) (unitFrom o w (72 * i))
@@ -145,13 +139,13 @@ module _ (o w before : List ℕ) (n i k at : ℕ) (after : List ℕ) (g : Going 
   abbrev rest′ : List ℕ
   rest′ = writing (unitsIn o w (suc i) (n - suc i)) (numbered j)
 
-  step : writing (unitsIn o w i (n - i)) (numbered k) ≡ designated (change k j) ++ (unit′ ++ rest′)
+  step : writing (unitsIn o w i (n - i)) (numbered k) ≡ changed ++ (unit′ ++ rest′)
   step = rw planned (write-step o w n i k h (g .state))
 
   pub j-below : j < 80
-  j-below = rw planned (next-below o w n i k h (g .state))
+  j-below = rw planned (its-choice o w n i k h (g .state) .below)
 
-  lengths : at + (length (designated (change k j)) + length unit′) ≤ length (whole o w n)
+  lengths : at + (length changed + length unit′) ≤ length (whole o w n)
   lengths =
       omega (
         arith,
@@ -159,52 +153,48 @@ module _ (o w before : List ℕ) (n i k at : ℕ) (after : List ℕ) (g : Going 
         ap length (g .rest),
         length-append (g .done) (writing (unitsIn o w i (n - i)) (numbered k)),
         ap length step,
-        length-append (designated (change k j)) (unit′ ++ rest′),
+        length-append changed (unit′ ++ rest′),
         length-append unit′ rest′,
       )
 
   pub room-change : length (whole o w n) ≤ length before → at + length (designated (change k j)) ≤ length after
   room-change fits = omega (arith, lengths, written-length (g .put))
 
-  module _ (l : ℕ) (el : l ≡ getD servedInGL x 0) where
+  module _ {l : ℕ} (el : l ≡ getD servedInGL x 0) where
     abbrev pub shownNow : List ℕ
     shownNow = octets (sideOf (eqb (j / 16) l)) (unitFrom o w (72 * i))
 
     shown-same : shownNow ≡ unit′
     unfolding sideAt
-    shown-same = go (ltb (tagAt w i) 15) refl
-      where
-        go : (b : Bool) → ltb (tagAt w i) 15 ≡ b → shownNow ≡ unit′
-        go false e =
-            side-free o w (72 * i) (sideOf (eqb (j / 16) l)) (sideAt (tagAt w i) j) (ltb-false (tagAt w i) 15 e)
-        go true e =
-            let t = ltb-true (tagAt w i) 15 e in
-            let g : j / 16 < 5 = omega (arith, j-below) in
-            let c : l ≡ getD servedInGL (tagAt w i) 0 = el ∙ ap (λ (y : ℕ). getD servedInGL y 0) (ex ∙ class-character (tagAt w i) t) in
-            ap (λ (b : Bool). octets (sideOf b) (unitFrom o w (72 * i))) (ap (λ (y : ℕ). eqb (j / 16) y) c ∙ its-place (tagAt w i) (j / 16) t g)
+    shown-same =
+        test (ltb (tagAt w i) 15)
+        (λ e. let t = ltb-true (tagAt w i) 15 e in
+        let c : l ≡ getD servedInGL (tagAt w i) 0 = el ∙ ap (λ (y : ℕ). getD servedInGL y 0) (ex ∙ class-character (tagAt w i) t) in
+        ap (λ (b : Bool). octets (sideOf b) (unitFrom o w (72 * i)))
+        (ap (λ (y : ℕ). eqb (j / 16) y) c ∙ its-place (tagAt w i) (j / 16) t (omega (arith, j-below))))
+        (λ e. side-free o w (72 * i) _ _ (ltb-false (tagAt w i) 15 e))
 
-    pub room-unit : length (whole o w n) ≤ length before → (a : ℕ) (mid : List ℕ) → Written after at (designated (change k j)) a mid
+    pub room-unit : length (whole o w n) ≤ length before → {a : ℕ} {mid : List ℕ} → Written after at (designated (change k j)) a mid
         → a + length shownNow ≤ length mid
-    room-unit fits a mid p = omega (arith, lengths, written-length (g .put), p .next, written-length p, ap length shown-same)
+    room-unit fits p = omega (arith, lengths, written-length (g .put), p .next, written-length p, ap length shown-same)
 
-    pub going-more : (a b : ℕ) (mid last : List ℕ) → Written after at (designated (change k j)) a mid → Written mid a shownNow b last
+    pub going-more : {a b : ℕ} {mid last : List ℕ} → Written after at (designated (change k j)) a mid → Written mid a shownNow b last
         → Going o w before n (i + 1) j b last
-    going-more a b mid last p q =
+    going-more p q =
         record {
-          done = g .done ++ (designated (change k j) ++ unit′);
+          done = g .done ++ (changed ++ unit′);
           put = written-both (g .put) (written-both p (written-as (sym shown-same) q));
           rest =
               let e : i + 1 ≡ suc i = omega arith in
               rw e
-              (append-assoc (g .done) (designated (change k j) ++ unit′) rest′
-              ∙ ap (λ (y : List ℕ). g .done ++ y) (append-assoc (designated (change k j)) unit′ rest′ ∙ sym step)
-              ∙ g .rest);
+              (append-assoc (g .done) (changed ++ unit′) rest′
+              ∙ ap (λ (y : List ℕ). g .done ++ y) (append-assoc changed unit′ rest′ ∙ sym step) ∙ g .rest);
           state = j-below;
         }
 
-pub going-end : (o w before : List ℕ) (n i k at : ℕ) (after : List ℕ) → Going o w before n i k at after → i ≤ n → n ≤ i
+pub going-end : {o w before : List ℕ} {n i k at : ℕ} {after : List ℕ} → Going o w before n i k at after → i ≤ n → n ≤ i
     → Written before 0 (whole o w n) at after
 unfolding unitsIn writing
-going-end o w before n i k at after g h h′ =
+going-end {o} {w} {n = n} {i} {k} g h h′ =
     let e : n - i ≡ 0 = omega arith in
     written-as (sym (g .rest) ∙ ap (λ (m : ℕ). g .done ++ writing (unitsIn o w i m) (numbered k)) e ∙ append-nil (g .done)) (g .put)

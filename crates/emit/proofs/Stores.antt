@@ -1,6 +1,6 @@
 -- Octets stored one after the other, and that they are those of designations and units.
 use mathlib.Core.Path.{_≡_, refl, sym, ap, ap₂, _∙_, subst}
-use mathlib.Core.Bool.{Bool, true, false, cond, _&&_, not, false≢true, true≢false}
+use mathlib.Core.Bool.{Bool, true, false, cond, _&&_, not, false≢true}
 use mathlib.Core.List.{List, [], _∷_, _++_}
 use Prim.Native.Nat.{ℕ, suc, _+_, _-_, _*_, _/_, _%_, _≤_, _<_}
 use native.Mathlib.Omega.{arith}
@@ -9,7 +9,7 @@ use lib.Dec.{ltb, leb, eqb}
 use borrow.Author.Tests.{ltb-true, ltb-false, lt-ltb, le-ltb, le-leb, lt-leb, eqb-true, ne-eqb, not-true}
 use lib.ListN.{length, getD, set, take, drop, length-append, length-take, length-drop}
 use lib.Seq.{sets, length-sets, take-suc, take-all, take-take, getD-drop}
-use Rattle.base.proofs.Bools.{and-left, and-right, up-to}
+use Rattle.base.proofs.Bools.{test, pick-last, and-left, and-right, up-to}
 use Rattle.base.specs.Choice.{pick}
 use Rattle.charset.specs.declared.Side.{Side}
 use Rattle.charset.specs.declared.Side.the-variants.{GL, GR}
@@ -42,27 +42,28 @@ written-none l at = record { next = omega arith; now = refl }
 pub written-1 : (l : List ℕ) (at a : ℕ) → Written l at (a ∷ []) (at + 1) (set l at a)
 written-1 l at a = record { next = refl; now = refl }
 
+-- one octet more
+written-more : {l m : List ℕ} {at r : ℕ} {xs : List ℕ} (y next : ℕ) → r + 1 ≡ next → Written l at xs r m → Written l at (xs ++ (y ∷ [])) next (set m r y)
+written-more {m = m} {r = r} y next e p = rw (sym e) (written-both p (written-1 m r y))
+
 pub written-2 : (l : List ℕ) (at a b : ℕ) → Written l at (a ∷ b ∷ []) (at + 2) (set (set l at a) (at + 1) b)
-written-2 l at a b = record { next = refl; now = rw (add-one at) }
+written-2 l at a b = written-more b (at + 2) (omega arith) (written-1 l at a)
 
 pub written-3 : (l : List ℕ) (at a b c : ℕ) → Written l at (a ∷ b ∷ c ∷ []) (at + 3) (set (set (set l at a) (at + 1) b) (at + 2) c)
-written-3 l at a b c =
-    record { next = refl; now = ap₂ (λ (x y : ℕ). set (set (set l at a) x b) y c) (add-one at) (let e : at + 2 ≡ suc (suc at) = omega arith in e) }
+written-3 l at a b c = written-more c (at + 3) (omega arith) (written-2 l at a b)
 
-pub written-4 : (l : List ℕ) (at a b c d : ℕ) → Written l at (a ∷ b ∷ c ∷ d ∷ []) (at + 4) (set (set (set (set l at a) (at + 1) b) (at + 2) c) (at + 3) d)
-written-4 l at a b c d =
-    record {
-      next = refl;
-      now =
-          ap₂ (λ (x y : ℕ). set (set (set (set l at a) x b) y c) (at + 3) d) (add-one at) (let e : at + 2 ≡ suc (suc at) = omega arith in e)
-          ∙ ap (λ (z : ℕ). set (set (set (set l at a) (suc at) b) (suc (suc at)) c) z d) (let e : at + 3 ≡ suc (suc (suc at)) = omega arith in e);
-    }
+pub written-4 : (l : List ℕ) (at a b c d : ℕ)
+    → Written l at (a ∷ b ∷ c ∷ d ∷ []) (at + 4) (set (set (set (set l at a) (at + 1) b) (at + 2) c) (at + 3) d)
+written-4 l at a b c d = written-more d (at + 4) (omega arith) (written-3 l at a b c)
 
 pub written-length : {l m : List ℕ} {at r : ℕ} {xs : List ℕ} → Written l at xs r m → length m ≡ length l
 written-length {l} {m} {at} {r} {xs} a = ap length (a .now) ∙ length-sets l at xs
 
 pub written-as : {l m : List ℕ} {at r : ℕ} {xs ys : List ℕ} → ys ≡ xs → Written l at xs r m → Written l at ys r m
 written-as {l} {m} {at} {r} e p = subst (λ (z : List ℕ). Written l at z r m) (sym e) p
+
+pub room-as : {xs ys : List ℕ} → ys ≡ xs → (at : ℕ) {n : ℕ} → at + length ys ≤ n → at + length xs ≤ n
+room-as e at h = rw (sym e) h
 
 -- ---- a copy
 
@@ -97,7 +98,8 @@ sameList-eq : (xs ys : List ℕ) → sameList xs ys ≡ true → xs ≡ ys
 sameList-eq [] [] e = refl
 sameList-eq [] (y ∷ ys) e = absurd (false≢true e)
 sameList-eq (x ∷ xs) [] e = absurd (false≢true e)
-sameList-eq (x ∷ xs) (y ∷ ys) e = ap₂ _∷_ (eqb-true x y (and-left (eqb x y) (sameList xs ys) e)) (sameList-eq xs ys (and-right (eqb x y) (sameList xs ys) e))
+sameList-eq (x ∷ xs) (y ∷ ys) e =
+    ap₂ _∷_ (eqb-true x y (and-left (eqb x y) (sameList xs ys) e)) (sameList-eq xs ys (and-right (eqb x y) (sameList xs ys) e))
 
 abbrev short : Bool → ℕ → List ℕ
 short l c = cond (leb 12 c) (0x1B ∷ 0x24 ∷ signOf l c ∷ rowOf c .last ∷ []) (0x1B ∷ signOf l c ∷ rowOf c .last ∷ [])
@@ -107,10 +109,12 @@ unfolding designation formOf signOf pick
 designation-short true c h = sameList-eq (designation (on GL c)) (short true c) (up-to 15 (λ m. sameList (designation (on GL m)) (short true m)) refl c h)
 designation-short false c h = sameList-eq (designation (on GR c)) (short false c) (up-to 15 (λ m. sameList (designation (on GR m)) (short false m)) refl c h)
 
-pub designation-one : (l : Bool) (c s f : ℕ) → s ≡ signOf l c → f ≡ rowOf c .last → c < 12 → designation (on (sideOf l) c) ≡ 0x1B ∷ s ∷ f ∷ []
+pub designation-one : (l : Bool) (c s f : ℕ) → s ≡ signOf l c → f ≡ rowOf c .last → c < 12
+    → designation (on (sideOf l) c) ≡ 0x1B ∷ s ∷ f ∷ []
 designation-one l c s f e q h = designation-short l c (omega arith) ∙ rw (lt-leb 12 c h, e, q)
 
-pub designation-two : (l : Bool) (c s f : ℕ) → s ≡ signOf l c → f ≡ rowOf c .last → 12 ≤ c → c < 15 → designation (on (sideOf l) c) ≡ 0x1B ∷ 0x24 ∷ s ∷ f ∷ []
+pub designation-two : (l : Bool) (c s f : ℕ) → s ≡ signOf l c → f ≡ rowOf c .last → 12 ≤ c → c < 15
+    → designation (on (sideOf l) c) ≡ 0x1B ∷ 0x24 ∷ s ∷ f ∷ []
 designation-two l c s f e q h k = designation-short l c k ∙ rw (le-leb 12 c h, e, q)
 
 -- ---- a unit's octets by its tag
@@ -127,31 +131,22 @@ broad t h k =
 
 -- the tag of a character of two octets, by its test
 paired : (t : ℕ) → pick (ltb t 12) false (ltb t 15) ≡ true → (12 ≤ t) × (t < 15)
-unfolding pick
-paired t e = go (ltb t 12) refl
-  where
-    go : (p : Bool) → ltb t 12 ≡ p → (12 ≤ t) × (t < 15)
-    go true p = absurd (false≢true (rw p at e))
-    go false p = (ltb-false t 12 p, ltb-true t 15 (rw p at e))
+paired t e = let p = pick-last (ltb t 12) (ltb t 15) e in (ltb-false t 12 (p .0), ltb-true t 15 (p .1))
 
 -- a character of one octet, or a space; and a character of two
 module _ (d : Side) (t a b : ℕ) where
   pub single-octet : (y : ℕ) → y ≡ pick (eqb t tag.space) 0x20 (top d + b % 128) → pick (ltb t tag.double) false (ltb t tag.space) ≡ false
       → t < tag.tab → octets d (textTagged t a b) ≡ y ∷ []
   unfolding octets textTagged pick
-  single-octet y e n h = go (ltb t tag.double) refl (ltb t tag.space) refl
-    where
-      go : (p : Bool) → ltb t tag.double ≡ p → (q : Bool) → ltb t tag.space ≡ q → octets d (textTagged t a b) ≡ y ∷ []
-      go true p q r =
-          let l = ltb-true t tag.double p in
-          let f : y ≡ top d + b % 128 = rw (ne-eqb t tag.space (λ z. omega arith)) at e in
-          rw (p, narrow t l, f)
-      go false p true r = absurd (true≢false (rw (p, r) at n))
-      go false p false r =
-          let l = ltb-false t tag.space r in
-          let z : t ≡ tag.space = omega arith in
-          let f : y ≡ 0x20 = rw z at e in
-          rw (f, z) refl
+  single-octet y e n h =
+      test (ltb t tag.double)
+      (λ p. let l = ltb-true t tag.double p in
+      let f : y ≡ top d + b % 128 = rw (ne-eqb t tag.space (λ z. omega arith)) at e in
+      rw (p, narrow t l, f))
+      (λ p. let l = ltb-false t tag.space (rw p at n) in
+      let z : t ≡ tag.space = omega arith in
+      let f : y ≡ 0x20 = rw z at e in
+      rw (f, z) refl)
 
   pub two-octets : (x y : ℕ) → x ≡ top d + a % 128 → y ≡ top d + b % 128 → pick (ltb t tag.double) false (ltb t tag.space) ≡ true
       → octets d (textTagged t a b) ≡ x ∷ y ∷ []
@@ -174,16 +169,16 @@ segment-parts o e n m s h =
     take-least : (n m : ℕ) (xs : List ℕ) → length (take n xs) ≡ m → take n xs ≡ take m xs
     take-least n m xs l = sym (take-all m (take n xs) (omega arith)) ∙ take-take m n xs (omega (arith, l, length-take n xs))
 
-pub designation-some : (l : Bool) (c : ℕ) → c < 15 → 3 ≤ length (designation (on (sideOf l) c))
-designation-some l c h = rw (designation-short l c h) (go (leb 12 c))
-  where
-    go : (b : Bool) → 3 ≤ length (cond b (0x1B ∷ 0x24 ∷ signOf l c ∷ rowOf c .last ∷ []) (0x1B ∷ signOf l c ∷ rowOf c .last ∷ []))
-    go true = omega arith
-    go false = omega arith
+-- it has three octets or more
+pub room-three : (l : Bool) (c at : ℕ) {n : ℕ} → c < 15 → at + length (designation (on (sideOf l) c)) ≤ n → at + 3 ≤ n
+room-three l c at h f =
+    let d = ap length (designation-short l c h) in
+    test (leb 12 c) (λ e. omega (arith, rw e at d)) (λ e. omega (arith, rw e at d))
 
-pub segment-length : (o : List ℕ) (e n s : ℕ) → length (octets GL (ext e (take n (drop s o)))) ≡ 6 + partOf n s (length o)
+pub segment-room : (o : List ℕ) (e n s at : ℕ) {m : ℕ} → at + length (octets GL (ext e (take n (drop s o)))) ≤ m
+    → at + (6 + partOf n s (length o)) ≤ m
 unfolding octets
-segment-length o e n s = omega (arith, part-length o n s)
+segment-room o e n s at h = omega (arith, part-length o n s)
 
 -- a mark by its tag: the room that it takes, and where it is stored
 pub mark-room : (m : Control) (t at : ℕ) {n : ℕ} → control m ≡ markTagged t → at + length (octets GL (markTagged t)) ≤ n

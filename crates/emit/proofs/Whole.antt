@@ -40,12 +40,12 @@ module _ (a b : List ℕ) (e : Same a b) where
       ap₂ (λ (t s : ℕ). unitTagged o t (getD a (72 * i + 66) 0) (getD a (72 * i + 67) 0) s) (same-tag i) (same-start a b (72 * i) (e i))
       ∙ ap₂ (λ (x y : ℕ). unitTagged o (tagAt b i) x y (startFrom b (72 * i))) (e i 66 (omega arith) (omega arith)) (e i 67 (omega arith) (omega arith))
 
-  pub same-units : (o : List ℕ) (m i : ℕ) → unitsIn o a i m ≡ unitsIn o b i m
+  same-units : (o : List ℕ) (m i : ℕ) → unitsIn o a i m ≡ unitsIn o b i m
   unfolding unitsIn
   same-units o zero i = refl
   same-units o (suc m) i = ap₂ _∷_ (same-unit o i) (same-units o m (suc i))
 
-pub ready : (o before after : List ℕ) (n : ℕ) → Planned o before n 0 after → Ready o after n
+ready : (o before after : List ℕ) (n : ℕ) → Planned o before n 0 after → Ready o after n
 ready o before after n p i h t =
     let c = p .costs i (omega arith) h (subst (λ (x : ℕ). TwoStandings (classOf x)) (tag i) t) in
     record {
@@ -65,17 +65,6 @@ ready o before after n p i h t =
     units : (m i : ℕ) → unitsIn o after i m ≡ unitsIn o before i m
     units = same-units after before (p .kept) o
 
-rows-all : (n m : ℕ) → n ≤ 65535 → 72 * n ≤ m → rowsOf n m ≡ n
-unfolding rowsOf pick
-rows-all n m h k = rw (le-leb n 65535 h, le-leb (72 * n) m k)
-
--- where the rows lie in the room, the plan is that of all of them
-pub planned-all : (o w : List ℕ) (n r : ℕ) (after : List ℕ) → n ≤ 65535 → workRoom n ≤ length w
-    → (r ≡ cost (unitsIn o w 0 (rowsOf n (length w))) (fresh .sets)) × Planned o w (rowsOf n (length w)) 0 after
-    → (r ≡ cost (unitsIn o w 0 n) (fresh .sets)) × Planned o w n 0 after
-planned-all o w n r after h k p =
-    subst (λ (m : ℕ). (r ≡ cost (unitsIn o w 0 m) (fresh .sets)) × Planned o w m 0 after) (rows-all n (length w) h (omega arith)) p
-
 -- ---- the answers
 
 units-length : (o w : List ℕ) (m i : ℕ) → length (unitsIn o w i m) ≡ m
@@ -83,69 +72,79 @@ unfolding unitsIn
 units-length o w zero i = refl
 units-length o w (suc m) i = ap suc (units-length o w m (suc i))
 
-pub record Wrote (o w : List ℕ) (n : ℕ) (out : List ℕ) (a : Answer) (after : List ℕ) : Type 0 where
-  pub answers : a ≡ rowsAnswer o w n (length out)
-  pub output : after ≡ rowsOutput o w n out
+-- the answer, the output after, and a room that is as long as it was
+abbrev Wrote : List ℕ → List ℕ → ℕ → List ℕ → Answer → List ℕ → List ℕ → Type 0
+Wrote o w n out a after room = (a ≡ rowsAnswer o w n (length out)) × (after ≡ rowsOutput o w n out) × (length room ≡ length w)
 
 module _ (o w : List ℕ) (n : ℕ) (out : List ℕ) where
-  pub wrote-many : 65535 < n → Wrote o w n out (refusedAt refusal.too-long 0) out
+  pub wrote-many : {a : Answer} → 65535 < n → a ≡ refusedAt refusal.too-long 0 → Wrote o w n out a out w
   unfolding rowsAnswer rowsOutput pick
-  wrote-many h = let l = lt-ltb 65535 n h in record { answers = rw l; output = rw l }
+  wrote-many h e = let l = lt-ltb 65535 n h in (e ∙ rw l, rw l, refl)
 
   module _ (hn : n ≤ 65535) where
     few : ltb 65535 n ≡ false
     few = le-ltb 65535 n hn
 
-    pub wrote-no-work : length w < workRoom n → Wrote o w n out (refusedAt refusal.no-work-room 0) out
+    pub wrote-no-work : {a : Answer} → length w < workRoom n → a ≡ refusedAt refusal.no-work-room 0 → Wrote o w n out a out w
     unfolding rowsAnswer rowsOutput pick
-    wrote-no-work h = let m = lt-ltb (length w) (workRoom n) h in record { answers = rw (few, m); output = rw (few, m) }
+    wrote-no-work h e = let m = lt-ltb (length w) (workRoom n) h in (e ∙ rw (few, m), rw (few, m), refl)
 
-    module _ (hw : workRoom n ≤ length w) (c : ℕ) (ec : c ≡ cost (unitsIn o w 0 n) (fresh .sets)) where
+    -- after the plan, which counted c octets
+    module _ (hw : workRoom n ≤ length w) (c : ℕ) (room : List ℕ)
+        (p : (c ≡ cost (unitsIn o w 0 (rowsOf n (length w))) (fresh .sets)) × Planned o w (rowsOf n (length w)) 0 room) where
       abbrev shortest : List ℕ
       shortest = writing (unitsIn o w 0 n) (fresh .sets)
+
+      -- the plan is that of all rows, since they lie in the room
+      planned : (c ≡ cost (unitsIn o w 0 n) (fresh .sets)) × Planned o w n 0 room
+      unfolding rowsOf pick
+      planned = rw (le-leb n 65535 hn, le-leb (72 * n) (length w) (omega arith)) at p
 
       lie : ltb (length w) (workRoom n) ≡ false
       lie = le-ltb (length w) (workRoom n) hw
 
       -- a test of the cost, by the count
       by-count : (m : ℕ) {t : Bool} → ltb m c ≡ t → ltb m (cost (unitsIn o w 0 n) (fresh .sets)) ≡ t
-      by-count m e = ap (ltb m) (sym ec) ∙ e
+      by-count m e = ap (ltb m) (sym (planned .0)) ∙ e
 
-      pub wrote-long : 65535 < c → Wrote o w n out (refusedAt refusal.too-long 0) out
+      units : unitsIn o room 0 n ≡ unitsIn o w 0 n
+      units = same-units room w (planned .1 .kept) o n 0
+
+      pub wrote-long : {a : Answer} → 65535 < c → a ≡ refusedAt refusal.too-long 0 → Wrote o w n out a out room
       unfolding rowsAnswer rowsOutput writeAnswer outputAfter pick
-      wrote-long h =
-          let q = by-count 65535 (lt-ltb 65535 c h) in
-          record { answers = rw (few, lie, q); output = rw (few, lie, q) }
+      wrote-long h e = let q = by-count 65535 (lt-ltb 65535 c h) in (e ∙ rw (few, lie, q), rw (few, lie, q), planned .1 .long)
 
-      pub wrote-room : c ≤ 65535 → length out < c → Wrote o w n out (answer refusal.no-room 0 c) out
-      unfolding rowsAnswer rowsOutput writeAnswer outputAfter pick
-      wrote-room h k =
-          let q = by-count 65535 (le-ltb 65535 c h) in
-          let r = by-count (length out) (lt-ltb (length out) c k) in
-          record { answers = rw (few, lie, q, r) (ap (answer 10 0) ec); output = rw (few, lie, q, r) }
+      module _ (h : c ≤ 65535) where
+        count : ltb 65535 (cost (unitsIn o w 0 n) (fresh .sets)) ≡ false
+        count = by-count 65535 (le-ltb 65535 c h)
 
-      pub room-for : (room : List ℕ) → Same room w → c ≤ length out → length (writing (unitsIn o room 0 n) (fresh .sets)) ≤ length out
-      room-for room same k =
-          omega (
-            arith,
-            ec,
-            ap (λ (us : List TextUnit). length (writing us (fresh .sets))) (same-units room w same o n 0),
-            writing-length (unitsIn o w 0 n) (fresh .sets),
+        pub wrote-room : length out < c → Wrote o w n out (answer refusal.no-room 0 c) out room
+        unfolding rowsAnswer rowsOutput writeAnswer outputAfter pick
+        wrote-room k =
+            let r = by-count (length out) (lt-ltb (length out) c k) in
+            (rw (few, lie, count, r) (ap (answer 10 0) (planned .0)), rw (few, lie, count, r), planned .1 .long)
+
+        module _ (k : c ≤ length out) where
+          -- what `emit` asks
+          pub ready-all : (n ≤ 65535) × (72 * n ≤ length room) × Ready o room n × (length (writing (unitsIn o room 0 n) (fresh .sets)) ≤ length out)
+          ready-all = (
+            hn,
+            omega (arith, planned .1 .long),
+            ready o w room n (planned .1),
+            omega (arith, planned .0, ap (λ (us : List TextUnit). length (writing us (fresh .sets))) units, writing-length (unitsIn o w 0 n) (fresh .sets)),
           )
 
-      pub wrote-all : (room after : List ℕ) (end : ℕ) → Same room w → c ≤ 65535 → c ≤ length out
-          → Written out 0 (writing (unitsIn o room 0 n) (fresh .sets)) end after
-          → Wrote o w n out (answer refusal.accepted n c) after
-      unfolding rowsAnswer rowsOutput writeAnswer outputAfter pick
-      wrote-all room after end same h k p =
-          let q = by-count 65535 (le-ltb 65535 c h) in
-          let r = by-count (length out) (le-ltb (length out) c k) in
-          let s = writing-length (unitsIn o w 0 n) (fresh .sets) in
-          record {
-            answers = rw (few, lie, q, r) (ap₂ (answer 0) (sym (units-length o w n 0)) ec);
-            output =
-                rw (few, lie, q, r)
-                (p .now ∙ ap (λ (us : List TextUnit). sets out 0 (writing us (fresh .sets))) (same-units room w same o n 0)
-                ∙ sets-eq shortest out 0 (omega (arith, ec, s))
-                ∙ ap (λ (y : ℕ). shortest ++ drop y out) (let z : 0 + length shortest ≡ cost (unitsIn o w 0 n) (fresh .sets) = omega (arith, s) in z));
-          }
+          pub wrote-all : {a : Answer} (after : List ℕ) (end : ℕ) → Written out 0 (writing (unitsIn o room 0 n) (fresh .sets)) end after
+              → a ≡ answer refusal.accepted n c → Wrote o w n out a after room
+          unfolding rowsAnswer rowsOutput writeAnswer outputAfter pick
+          wrote-all after end z e =
+              let r = by-count (length out) (le-ltb (length out) c k) in
+              let s = writing-length (unitsIn o w 0 n) (fresh .sets) in (
+                e ∙ rw (few, lie, count, r) (ap₂ (answer 0) (sym (units-length o w n 0)) (planned .0)),
+                rw (few, lie, count, r)
+                    (z .now ∙ ap (λ (us : List TextUnit). sets out 0 (writing us (fresh .sets))) units
+                    ∙ sets-eq shortest out 0 (omega (arith, planned .0, s))
+                    ∙ ap (λ (y : ℕ). shortest ++ drop y out)
+                    (let y : 0 + length shortest ≡ cost (unitsIn o w 0 n) (fresh .sets) = omega (arith, s) in y)),
+                planned .1 .long,
+              )

@@ -63,7 +63,8 @@ fn choose(x: usize, k: usize, work: &[u8], row: usize) -> usize
 
 // The same, where l and r are the places of GL and GR that serve the class: k at once, where one of them stands.
 fn choose_quickly(x: usize, k: usize, l: usize, r: usize, work: &[u8], row: usize) -> usize
-    requires { ⌜ (x < classes.all) × (k < sizes.numbers) × (l ≡ getD servedInGL x 0) × (r ≡ getD servedInGR x 0) × (row + layouts.tag ≤ length (now work)) ⌝ }
+    requires { ⌜ (x < classes.all) × (k < sizes.numbers) × (l ≡ getD servedInGL x 0) × (r ≡ getD servedInGR x 0)
+        × (row + layouts.tag ≤ length (now work)) ⌝ }
     ensures { λ q. ⌜ q ≡ chosenBy x k (getD (now (work .entry)) (row + k % sizes.columns) 0) (getD (now (work .entry)) (row + secondSlot x k) 0) ⌝ }
 {
     if k / size::COLUMNS == l {
@@ -91,8 +92,10 @@ fn put_change(k: usize, j: usize, out: &mut [u8], at: usize) -> usize
 
 // Writes the unit of the row that starts at a place, on a side, and answers the next place.
 fn put_row(work: &[u8], row: usize, left: bool, segments: &[u8], out: &mut [u8], at: usize) -> usize
-    requires { ⌜ (row + layouts.row ≤ length (now work)) × (at + length (octets (sideOf left) (unitFrom (now segments) (now work) row)) ≤ length (now out)) ⌝ }
-    ensures { λ r. ⌜ Written (now (out .entry)) at (octets (sideOf left) (unitFrom (now (segments .entry)) (now (work .entry)) row)) r (now (out .exit)) ⌝ }
+    requires { ⌜ (row + layouts.row ≤ length (now work))
+        × (at + length (octets (sideOf left) (unitFrom (now segments) (now work) row)) ≤ length (now out)) ⌝ }
+    ensures { λ r. ⌜ Written (now (out .entry)) at (octets (sideOf left) (unitFrom (now (segments .entry)) (now (work .entry)) row)) r
+        (now (out .exit)) ⌝ }
 {
     let tag = work[row + layout::TAG];
     if tag < tag::TAB {

@@ -298,13 +298,6 @@ price-both x l r h el er a b =
     (up-to-where 15 (λ y. ltb (getD placesInGL y 0) 5 && ltb (getD placesInGR y 0) 13) (λ y. eqb (priceOfClass y) 4) refl x h
     (rw (← el, ← er, lt-ltb l 5, lt-ltb r 13)))
 
-pub price-gl : (x l r : ℕ) → x < 15 → l ≡ getD placesInGL x 0 → r ≡ getD placesInGR x 0 → 13 ≤ r → (priceOfClass x ≡ 3) × (l < 5)
-unfolding priceOfClass
-price-gl x l r h el er b =
-    let t = up-to-where 15 (λ y. not (ltb (getD placesInGR y 0) 13)) (λ y. eqb (priceOfClass y) 3 && ltb (getD placesInGL y 0) 5) refl x h
-    (rw (← er, le-ltb r 13)) in
-    (search from-tests, rw el (search from-tests))
-
 pub price-gr : (x l : ℕ) → x < 15 → l ≡ getD placesInGL x 0 → 5 ≤ l → priceOfClass x ≡ 3
 unfolding priceOfClass
 price-gr x l h el b =

@@ -34,7 +34,8 @@ filled-more place f m before after v apart s h e =
       long = length-set after (place m) v ∙ s .long;
     }
 
-pub filled-end : {place f : ℕ → ℕ} {k : ℕ} {before after : List ℕ} (m : ℕ) → Filled place f k before after → k ≤ m → m ≤ k → Filled place f m before after
+pub filled-end : {place f : ℕ → ℕ} {k : ℕ} {before after : List ℕ} (m : ℕ) → Filled place f k before after → k ≤ m → m ≤ k
+    → Filled place f m before after
 filled-end {place} {f} {k} {before} {after} m s l h = subst (λ (i : ℕ). Filled place f i before after) (omega arith) s
 
 -- what is read first is what is then stored
@@ -47,7 +48,8 @@ filled-same e s = record { there = λ r h. s .there r h ∙ e r h; kept = s .kep
 pub swept-none : (f : ℕ → ℕ → ℕ) (before : List ℕ) → Swept f 0 before before
 swept-none f before = record { there = λ g r h k. absurd (omega arith); kept = λ g r h k. refl; long = refl }
 
-pub swept-more : (f : ℕ → ℕ → ℕ) (h : ℕ → ℕ) (m : ℕ) (before mid after : List ℕ) → m < 16 → ((g : ℕ) → h g ≡ f g m) → Swept f m before mid
+pub swept-more : (f : ℕ → ℕ → ℕ) (h : ℕ → ℕ) (m : ℕ) (before mid after : List ℕ) → m < 16 → ((g : ℕ) → h g ≡ f g m)
+    → Swept f m before mid
     → ColumnFilled h m 5 mid after → Swept f (m + 1) before after
 swept-more f h m before mid after hm eh s e =
     record {
@@ -63,10 +65,12 @@ swept-more f h m before mid after hm eh s e =
     other : (g r : ℕ) → r < 16 → (r ≡ m → ⊥) → getD after (16 * g + r) 0 ≡ getD mid (16 * g + r) 0
     other g r hr n = e .kept (16 * g + r) (λ j hj z. n (omega arith))
 
-pub swept-end : {f : ℕ → ℕ → ℕ} {k : ℕ} {before after : List ℕ} → Swept f k before after → k ≤ 16 → 16 ≤ k → length before ≡ 80 → Columns f 16 after
+pub swept-end : {f : ℕ → ℕ → ℕ} {k : ℕ} {before after : List ℕ} → Swept f k before after → k ≤ 16 → 16 ≤ k → length before ≡ 80
+    → Columns f 16 after
 swept-end s l h e = record { there = λ g r hg hr. s .there g r hg (omega arith); long = s .long ∙ e }
 
-pub columns-as : {f : ℕ → ℕ → ℕ} {table : List ℕ} (g : ℕ → ℕ → ℕ) → ((i r : ℕ) → i < 5 → r < 16 → f i r ≡ g i r) → Columns f 16 table
+pub columns-as : {f : ℕ → ℕ → ℕ} {table : List ℕ} (g : ℕ → ℕ → ℕ) → ((i r : ℕ) → i < 5 → r < 16 → f i r ≡ g i r)
+    → Columns f 16 table
     → Columns g 16 table
 columns-as g e s = record { there = λ i r h k. s .there i r h k ∙ e i r h k; long = s .long }
 
@@ -94,7 +98,8 @@ module _ (p q t : ℕ) where
       f : ℕ → ℕ
       f g = getD (fromGL a p b q t) g 0
 
-      more : (m : ℕ) (after : List ℕ) (v : ℕ) → ColumnFilled f r m l after → m < 5 → v ≡ f m → ColumnFilled f r (m + 1) l (set after (16 * m + r) v)
+      more : (m : ℕ) (after : List ℕ) (v : ℕ) → ColumnFilled f r m l after → m < 5 → v ≡ f m
+          → ColumnFilled f r (m + 1) l (set after (16 * m + r) v)
       more m after v s h e = filled-more (λ g. 16 * g + r) f m l after v (λ g k z. omega arith) s (omega (arith, s .long)) e
 
   pub swept-next : {m : ℕ} {before after : List ℕ} → Swept (costsGL before) m before after → m < 16
@@ -103,7 +108,8 @@ module _ (p q t : ℕ) where
       let z : 16 * 0 + m ≡ m = omega arith in
       (subst (λ (i : ℕ). getD after i 0 ≡ getD before i 0) z (s .kept 0 m (omega arith) h), s .kept 1 m (omega arith) h)
 
-  pub swept-gl : {m : ℕ} {before mid after : List ℕ} → m < 16 → Swept (costsGL before) m before mid → ColumnFilled (λ g. costsGL mid g m) m 5 mid after
+  pub swept-gl : {m : ℕ} {before mid after : List ℕ} → m < 16 → Swept (costsGL before) m before mid
+      → ColumnFilled (λ g. costsGL mid g m) m 5 mid after
       → Swept (costsGL before) (m + 1) before after
   swept-gl {m} {before} {mid} {after} h s e =
       let held = swept-next s h in
@@ -130,7 +136,9 @@ column-of costs r =
     let z : r ≡ 16 * 0 + r = omega arith in
     record {
       five = refl;
-      each = all-five (λ g. getD (at r ∷ at (16 + r) ∷ at (32 + r) ∷ at (48 + r) ∷ at (64 + r) ∷ []) g 0 ≡ at (16 * g + r)) (ap at z) refl refl refl refl;
+      each =
+          all-five (λ g. getD (at r ∷ at (16 + r) ∷ at (32 + r) ∷ at (48 + r) ∷ at (64 + r) ∷ []) g 0 ≡ at (16 * g + r))
+          (ap at z) refl refl refl refl;
     }
   where
     at : ℕ → ℕ

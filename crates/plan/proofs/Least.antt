@@ -66,7 +66,8 @@ module _ (x : ℕ) (next : List ℕ) (g q : ℕ) (hg : g < 5) (hq : q < 16) (sm 
   abbrev k : ℕ
   k = 16 * g + q
 
-  by-ways : {u v : ℕ} → u ≡ surcharge x k (afterFirst x k) + getD next (afterFirst x k) 0 → v ≡ surcharge x k (afterSecond x k) + getD next (afterSecond x k) 0
+  by-ways : {u v : ℕ} → u ≡ surcharge x k (afterFirst x k) + getD next (afterFirst x k) 0
+      → v ≡ surcharge x k (afterSecond x k) + getD next (afterSecond x k) 0
       → min u v ≡ leastBy x next k
   by-ways eu ev = ap₂ min eu ev ∙ least-min x k next (sm .first-near k (omega arith)) (sm .second-near k (omega arith))
 
@@ -80,7 +81,8 @@ module _ (x : ℕ) (next : List ℕ) (g q : ℕ) (hg : g < 5) (hq : q < 16) (sm 
       let z : 16 * l + q ≡ withGL l k = omega arith in
       way j (16 * l + q) p (eqb g l) (z ∙ e) c (eqb-as g l (16 * l + q) k (λ y. omega arith) (λ y. omega arith))
 
-  gr-way : (r j p : ℕ) (table vs : List ℕ) → Surcharges p → withGR r k ≡ j → priceOfClass x ≡ p → r < 13 → table ≡ surcharges p → ColumnRead next r vs
+  gr-way : (r j p : ℕ) (table vs : List ℕ) → Surcharges p → withGR r k ≡ j → priceOfClass x ≡ p → r < 13 → table ≡ surcharges p
+      → ColumnRead next r vs
       → getD table (15 - r + q) 0 + getD vs g 0 ≡ surcharge x k j + getD next j 0
   gr-way r j p table vs t e c hr et col =
       let z : 16 * g + r ≡ withGR r k = omega arith in
@@ -186,7 +188,8 @@ in-right x r hx er h =
 
 -- ---- the sums fit an octet
 
-pub fit-charges : {x : ℕ} {next : List ℕ} (i p l : ℕ) (ps : List ℕ) → Smooth x next → length next ≡ 80 → i ≤ 64 → p ≤ 4 → Charges p l ps → SumsFit next i ps
+pub fit-charges : {x : ℕ} {next : List ℕ} (i p l : ℕ) (ps : List ℕ) → Smooth x next → length next ≡ 80 → i ≤ 64 → p ≤ 4 → Charges p l ps
+    → SumsFit next i ps
 fit-charges {x} {next} i p l ps sm len hi hp ch g hg =
     record { inside = omega arith; sums = λ r hr. omega (arith, sm .small (i + r), ch .each g hg, cond-most (eqb g l) p) }
 

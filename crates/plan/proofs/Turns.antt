@@ -22,7 +22,8 @@ module _ (x : ℕ) (cur before mid after : List ℕ) (row : ℕ) where
   kept-both : (p q : ℕ → ℕ) (n : ℕ) → n ≤ 16 → PlacesFilled (λ r. getD cur (p r) 0) row 16 before mid
       → PlacesFilled (λ r. getD cur (q r) 0) (row + 16) n mid after
       → ((k : ℕ) → p (k % 16) ≡ afterFirst x k)
-      → (place : ℕ → ℕ) → ((k : ℕ) → k < 80 → place k < n) → ((k : ℕ) → secondSlot x k ≡ 16 + place k) → ((k : ℕ) → q (place k) ≡ afterSecond x k)
+      → (place : ℕ → ℕ) → ((k : ℕ) → k < 80 → place k < n) → ((k : ℕ) → secondSlot x k ≡ 16 + place k)
+      → ((k : ℕ) → q (place k) ≡ afterSecond x k)
       → RowKept x cur before row after
   kept-both p q n hn a b first place small slot second =
       record {
@@ -32,7 +33,8 @@ module _ (x : ℕ) (cur before mid after : List ℕ) (row : ℕ) where
             let z : row + secondSlot x k ≡ row + 16 + place k = omega (arith, slot k) in
             ap (λ (y : ℕ). getD after y 0) z ∙ b .there (place k) (small k hk) ∙ ap (λ (y : ℕ). getD cur y 0) (second k);
         kept = λ i l.
-            b .kept i (λ r h z. ⊎-elim (λ w. omega arith) (λ w. omega arith) l) ∙ a .kept i (λ r h z. ⊎-elim (λ w. omega arith) (λ w. omega arith) l);
+            b .kept i (λ r h z. ⊎-elim (λ w. omega arith) (λ w. omega arith) l)
+            ∙ a .kept i (λ r h z. ⊎-elim (λ w. omega arith) (λ w. omega arith) l);
         long = b .long ∙ a .long;
       }
 

@@ -94,7 +94,8 @@ rest-cons o w n i s h =
     (need-tagged o (tagAt w i) (highOctet w (72 * i)) (lowOctet w (72 * i)) (startFrom w (72 * i)))
 
 -- a row whose octets from the tag on are the same has its segment at the same place
-pub same-start : (a b : List ℕ) (row : ℕ) → ((q : ℕ) → 65 ≤ q → q < 72 → getD a (row + q) 0 ≡ getD b (row + q) 0) → startFrom a row ≡ startFrom b row
+pub same-start : (a b : List ℕ) (row : ℕ) → ((q : ℕ) → 65 ≤ q → q < 72 → getD a (row + q) 0 ≡ getD b (row + q) 0)
+    → startFrom a row ≡ startFrom b row
 same-start a b row e =
     omega (
       arith,

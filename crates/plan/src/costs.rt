@@ -47,7 +47,8 @@ fn both_costs(
     fours: &[u8; 32],
     cur: &mut [u8; size::NUMBERS],
 )
-    requires { ⌜ Smooth x (now next) × (length (now next) ≡ sizes.numbers) × (now fours ≡ surcharges 4) × (length (now cur) ≡ sizes.numbers) × OnBoth x l r ⌝ }
+    requires { ⌜ Smooth x (now next) × (length (now next) ≡ sizes.numbers) × (now fours ≡ surcharges 4) × (length (now cur) ≡ sizes.numbers)
+        × OnBoth x l r ⌝ }
     ensures { λ _. ⌜ Columns (λ g r. leastBy x (now (next .entry)) (sizes.columns * g + r)) sizes.columns (now (cur .exit)) ⌝ }
 {
     // Read from the table and not written out: with a constant the loop of lesser_costs is unrolled and not done 16 at a time.
@@ -67,7 +68,8 @@ fn gr_costs(
     threes: &[u8; 32],
     cur: &mut [u8; size::NUMBERS],
 )
-    requires { ⌜ Smooth x (now next) × (length (now next) ≡ sizes.numbers) × (now threes ≡ surcharges 3) × (length (now cur) ≡ sizes.numbers) × InGR x r ⌝ }
+    requires { ⌜ Smooth x (now next) × (length (now next) ≡ sizes.numbers) × (now threes ≡ surcharges 3) × (length (now cur) ≡ sizes.numbers)
+        × InGR x r ⌝ }
     ensures { λ _. ⌜ Columns (λ g r. leastBy x (now (next .entry)) (sizes.columns * g + r)) sizes.columns (now (cur .exit)) ⌝ }
 {
     let j = 15 - r;

@@ -23,7 +23,8 @@ fn lesser_column(
     cur: &mut [u8; size::NUMBERS],
     r: usize,
 )
-    requires { ⌜ (r < sizes.columns) × ((g : ℕ) → g < sizes.gl → (u + getD p g 0 ≤ 255) × (v + getD q g 0 ≤ 255)) × (length (now cur) ≡ sizes.numbers) ⌝ }
+    requires { ⌜ (r < sizes.columns) × ((g : ℕ) → g < sizes.gl → (u + getD p g 0 ≤ 255) × (v + getD q g 0 ≤ 255))
+        × (length (now cur) ≡ sizes.numbers) ⌝ }
     ensures { λ _. ⌜ ColumnFilled (λ g. min (u + getD p g 0) (v + getD q g 0)) r sizes.gl (now (cur .entry)) (now (cur .exit)) ⌝ }
 {
     let mut g: usize = 0;

@@ -4,7 +4,8 @@ use mathlib.Core.Path.{refl}
 use lib.ListN.{length, replicate}
 use Rattle.plan.specs.Plan.{rowsOf, Planned}
 use Rattle.numbers.proofs.Numbers.{bounded}
-use Rattle.plan.proofs.Rest.{Known, known-none, planned-none, known-sum, known-result, known-smooth, row-lies, turn-near, turn-known, turn-planned, plan-end}
+use Rattle.plan.proofs.Rest.{Known, known-none, planned-none, known-sum, known-result, known-smooth, row-lies}
+use Rattle.plan.proofs.Rest.{turn-near, turn-known, turn-planned, plan-end}
 use Rattle.plan.proofs.plan.Statement.{statement}
 use Rattle.plan.proofs.plan.Tie as tie
 
@@ -70,11 +71,15 @@ plan-spec =
     (λ c. row-lies (c .before .before .before .loop .inv) (c .before .before .loop-test .taken) .tag)
     (λ c. row-lies (c .before .before .before .before .loop .inv) (c .before .before .before .loop-test .taken) .read)
     (search arith)
-    (λ c κs. let turn = c .before .before .before .before .before .before in (c .before .before .class-of .ensures .1, row-lies (turn .before .loop .inv) (turn .loop-test .taken) .costs))
+    (λ c κs. let turn = c .before .before .before .before .before .before in
+    (c .before .before .class-of .ensures .1, row-lies (turn .before .loop .inv) (turn .loop-test .taken) .costs))
     unit-before-requires
-    (λ c. let size = c .before .before .before .before .before .before .before .before .before .before .before .before .before in known-sum (size .before .before .before .loop .inv .0) (size .size-from .ensures .1) (c .unit-before .ensures .small) .0)
-    (λ c. let size = c .before .before .before .before .before .before .before .before .before .before .before .before .before .before in known-sum (size .before .before .before .loop .inv .0) (size .size-from .ensures .1) (c .before .unit-before .ensures .small) .1)
-    (λ c. let turn = c .before .before .before .before .before .before .before .before .before .before .before .before .before .before .before .before in row-lies (turn .before .loop .inv) (turn .loop-test .taken) .less)
+    (λ c. let size = c .before .before .before .before .before .before .before .before .before .before .before .before .before in
+    known-sum (size .before .before .before .loop .inv .0) (size .size-from .ensures .1) (c .unit-before .ensures .small) .0)
+    (λ c. let size = c .before .before .before .before .before .before .before .before .before .before .before .before .before .before in
+    known-sum (size .before .before .before .loop .inv .0) (size .size-from .ensures .1) (c .before .unit-before .ensures .small) .1)
+    (λ c. let turn = c .before .before .before .before .before .before .before .before .before .before .before .before .before .before .before .before in
+    row-lies (turn .before .loop .inv) (turn .loop-test .taken) .less)
     loop-again
     (search arith)
     (λ c. known-result (c .before .loop .inv .0) .0)

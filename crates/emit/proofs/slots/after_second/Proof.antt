@@ -1,4 +1,4 @@
--- `numbers::after_second` meets its contract, by the class and its places.
+-- `slots::after_second` meets its contract, by the class and its places.
 use native.Mathlib.Omega.{arith}
 use mathlib.Core.Path.{refl}
 use borrow.Author.Tests.{le-ltb, eq-eqb, ne-eqb}
@@ -7,40 +7,19 @@ use Rattle.numbers.proofs.Numbers.{bounded, second-gl, second-gr}
 use Rattle.emit.proofs.slots.after_second.Statement.{statement}
 use Rattle.emit.proofs.slots.after_second.Tie as tie
 
-returns : tie.Need-returns
-returns c =
-    second-gr _ (c .before .before .args .l) (c .before .before .args .r) _ (c .before .before .pre .1) (c .before .before .pre .2)
-    (c .before .if1 .taken) (c .if2 .taken)
-
-mul-result-2 : tie.Need-mul-result-2
-mul-result-2 c = omega (arith, bounded placesInGL 5 refl (c .before .before .args .x), c .before .before .pre .1)
-
-add-result-2 : tie.Need-add-result-2
-add-result-2 c = omega (arith, bounded placesInGL 5 refl (c .before .before .args .x), c .before .before .pre .1)
-
-returns-2 : tie.Need-returns-2
-returns-2 c =
-    second-gl _ (c .before .before .args .l) (c .before .before .args .r) _ (c .before .before .pre .1) (c .before .before .pre .2)
-    (c .before .if1 .taken) (c .if2 .left)
-
-returns-3 : tie.Need-returns-3
-unfolding afterSecond
-returns-3 c = simp (le-ltb _ _ (c .before .if1 .left), eq-eqb _ _ (c .if3 .taken)) (omega arith)
-
-returns-4 : tie.Need-returns-4
-unfolding afterSecond
-returns-4 c = simp (le-ltb _ _ (c .before .if1 .left), ne-eqb _ _ (c .if3 .left))
-
 pub after-second-spec : {M : Type 1} → statement M
+unfolding afterSecond
 after-second-spec =
     tie.close
     (tie.spec
     (search arith)
     (search arith)
-    returns
-    mul-result-2
-    add-result-2
-    returns-2
+    (λ c. let start = c .before .before in
+    second-gr _ (start .args .l) (start .args .r) _ (start .pre .1) (start .pre .2) (c .before .if1 .taken) (c .if2 .taken))
+    (λ c. omega (arith, bounded placesInGL 5 refl (c .before .before .args .x), c .before .before .pre .1))
+    (λ c. omega (arith, bounded placesInGL 5 refl (c .before .before .args .x), c .before .before .pre .1))
+    (λ c. let start = c .before .before in
+    second-gl _ (start .args .l) (start .args .r) _ (start .pre .1) (start .pre .2) (c .before .if1 .taken) (c .if2 .left))
     (search arith)
-    returns-3
-    returns-4)
+    (λ c. simp (le-ltb _ _ (c .before .if1 .left), eq-eqb _ _ (c .if3 .taken)) (omega arith))
+    (λ c. simp (le-ltb _ _ (c .before .if1 .left), ne-eqb _ _ (c .if3 .left))))

@@ -17,7 +17,8 @@ returns c =
     let column = c .before .before .before .before in
     let start = column .before in
     columns-as _
-    (λ g q hg hq. lesser-gr (start .args .x) (start .args .next .now) g q hg hq (start .pre .0) _ _ _ (start .pre .4) (start .pre .2) (column .column .ensures))
+    (λ g q hg hq. lesser-gr (start .args .x) (start .args .next .now) g q hg hq (start .pre .0) _ _ _ (start .pre .4) (start .pre .2)
+    (column .column .ensures))
     (c .lesser-costs .ensures)
 
 pub gr-costs-spec : {M : Type 1} → statement M

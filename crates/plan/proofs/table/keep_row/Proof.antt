@@ -9,7 +9,8 @@ use Rattle.plan.proofs.table.keep_row.Statement.{statement}
 use Rattle.plan.proofs.table.keep_row.Tie as tie
 
 abbrev Inv-loop : tie.InvT-loop
-Inv-loop cur from work₀ at row r₀ work r = (r ≤ 16) × (length work ≡ length work₀) × PlacesFilled (λ q. getD row q 0) at r work₀ work × RowRead cur from row
+Inv-loop cur from work₀ at row r₀ work r =
+    (r ≤ 16) × (length work ≡ length work₀) × PlacesFilled (λ q. getD row q 0) at r work₀ work × RowRead cur from row
 
 pub keep-row-spec : {M : Type 1} → statement M
 keep-row-spec =

@@ -29,5 +29,9 @@ lesser-costs-spec =
     (search arith, λ g h. (pre .0 g h .sums r (search arith), pre .1 g h .sums r (search arith)), turn .loop .inv .1 .long ∙ pre .2))
     (search arith)
     (search arith)
-    (λ c. (omega arith, swept-more _ _ _ _ _ _ (search arith) (λ g. refl) (c .before .before .before .before .before .loop .inv .1) (c .lesser-column .ensures)))
+    (λ c. (
+      omega arith,
+      swept-more _ _ _ _ _ _ (search arith) (λ g. refl) (c .before .before .before .before .before .loop .inv .1)
+          (c .lesser-column .ensures),
+    ))
     (λ c. swept-end (c .before .loop .inv .1) (search arith) (search arith) (c .before .before .before .before .pre .2)))
