@@ -18,7 +18,7 @@ use Rattle.base.proofs.Unit.Laws as U′
 use Rattle.walks.proofs.Body.{𝓣of, tests, holds, fails}
 use Rattle.walks.proofs.Data.{Data, number, flag, struct, Params, shared, lent, by-value}
 use Rattle.walks.proofs.Entry.{Bound, End, Walk, walk-with, cites}
-use Rattle.walks.proofs.Calling.{calls, plain, all, _&_, but, _&′_, the-one, beside, ends}
+use Rattle.walks.proofs.Calls.{calls, plain, all, _&_, but, _&′_, the-one, beside, ends}
 use Rattle.walks.proofs.Loop.{Turns, rounds, loop-by}
 use Rattle.walks.proofs.Frame.{empty, full, Blocks, envOf, laid, clears, leaves}
 use Rattle.walks.proofs.Steps.{var, arg, part, sets, resets-last, lands-in, recasts, in64, past}
@@ -261,7 +261,7 @@ pub fill-spec : {M : Type 1} → fill.Statement.statement M
 unfolding code.routine
 fill-spec 𝓤 H 𝓜 𝓖 𝓡 =
     walk-with 𝓤 H 𝓜 𝓖 𝓡 code.env code.function fill.ended params (fill.clauses 𝓤 H (𝓖 .A) (𝓜 .mem) (𝓡 .run)) fill.Key.name
-    (code.unfolded 𝓤 H 𝓜 𝓡) (λ κs a bs fit. fit) (λ κs a. Fits (a .0 .now) (a .1 .0) × (a .1 .1 .1 .0 + a .1 .0 .most ≤ length (a .1 .1 .0 .now)))
-    (λ κs a g. id⊢ 𝓤 _) (λ κs qs bounds a g are pre. walk 𝓤 H 𝓜 𝓖 𝓡 (κs .0) (κs .1 .0) (qs .0) (qs .1 .0)
-    (a .0) (a .1 .0) (a .1 .1 .0 .ptr .0) (a .1 .1 .0 .ptr .1) (a .1 .1 .0 .name) (a .1 .1 .0 .now) (a .1 .1 .1 .0)
-    (are .1 .0) (are .1 .1 .0 .0 .1) (are .1 .1 .1 .0 .1) (pre .0) (pre .1))
+    (code.unfolded 𝓤 H 𝓜 𝓡) (λ z bs fit. fit) (λ z. Fits (z .a .0 .now) (z .a .1 .0) × (z .a .1 .1 .1 .0 + z .a .1 .0 .most ≤ length (z .a .1 .1 .0 .now)))
+    (λ z. id⊢ 𝓤 _) (λ z pre. walk 𝓤 H 𝓜 𝓖 𝓡 (z .κs .0) (z .κs .1 .0) (z .qs .0) (z .qs .1 .0)
+    (z .a .0) (z .a .1 .0) (z .a .1 .1 .0 .ptr .0) (z .a .1 .1 .0 .ptr .1) (z .a .1 .1 .0 .name) (z .a .1 .1 .0 .now) (z .a .1 .1 .1 .0)
+    (z .are .1 .0) (z .are .1 .1 .0 .0 .1) (z .are .1 .1 .1 .0 .1) (pre .0) (pre .1))

@@ -17,7 +17,7 @@ use Rattle.base.proofs.Answer.Laws as N′
 use Rattle.walks.proofs.Body.{𝓣of, tests}
 use Rattle.walks.proofs.Data.{Data, number, struct, Params, shared, lent}
 use Rattle.walks.proofs.Entry.{Bound, End, Walk, walk-in, cites}
-use Rattle.walks.proofs.Calling.{calls, lends, plain, all, _&_, but, _&′_, none, the-one, beside, ends}
+use Rattle.walks.proofs.Calls.{calls, lends, plain, all, _&_, but, _&′_, none, the-one, beside, ends}
 use Rattle.walks.proofs.Loop.{Turns, rounds, loop-by}
 use Rattle.walks.proofs.Frame.{empty, full, Blocks, envOf, laid, clears, leaves}
 use Rattle.walks.proofs.Steps.{var, arg, part, sets, lands-in, lands-over, recasts, behind, resliced, in64, sliced, past, front}
@@ -230,7 +230,7 @@ module _ {M : Type 1} (𝓤 : kit.URA M) (H : kit.Heap 𝓤) (𝓜 : kit.Model �
           data-of = λ ν δ. number;
           tells = λ ν δ. (refl, λ is. is);
           same = λ l e. ap length e ∙ same (i .0 + count (i .0));
-          last = λ ν δ ws. ws .1 .1 .0;
+          left = λ ν δ ws. ws .1 .1 .0;
           says = λ ν δ r ws. kit.fact-mono 𝓤 _ _ (λ e. (e .0, e .1 ∙ stored-next (i .0) less));
           picks = λ ν δ ws. past ! $ past ! $ front ! $ front ! $ done !;
         }) (λ ν δ. arg ! 27 refl (arg ! 15 refl (arg ! 3 refl (arg ! 17 refl (no-more !))))) (λ l is-k e.
@@ -280,5 +280,5 @@ pub read-spec : {M : Type 1} → read.Statement.statement M
 unfolding code.routine
 read-spec 𝓤 H 𝓜 𝓖 𝓡 =
     walk-in 𝓤 H 𝓜 𝓖 𝓡 code.env code.function read.ended params (read.clauses 𝓤 H (𝓖 .A) (𝓜 .mem) (𝓡 .run)) read.Key.name (code.unfolded 𝓤 H 𝓜 𝓡)
-    (λ κs a bs fit. fit) (λ κs qs bounds a g are. walk 𝓤 H 𝓜 𝓖 𝓡 (κs .0) (κs .1 .0) (qs .0) (qs .1 .0)
-    (a .0) (a .1 .0 .ptr .0) (a .1 .0 .ptr .1) (a .1 .0 .name) (a .1 .0 .now) (are .0 .0 .1 .0) (are .1 .0 .0 .1))
+    (λ z bs fit. fit) (λ z. walk 𝓤 H 𝓜 𝓖 𝓡 (z .κs .0) (z .κs .1 .0) (z .qs .0) (z .qs .1 .0)
+    (z .a .0) (z .a .1 .0 .ptr .0) (z .a .1 .0 .ptr .1) (z .a .1 .0 .name) (z .a .1 .0 .now) (z .are .0 .0 .1 .0) (z .are .1 .0 .0 .1))

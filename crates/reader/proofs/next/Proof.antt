@@ -13,7 +13,7 @@ use Rattle.state.proofs.State.Laws as S′
 use Rattle.walks.proofs.Body.{𝓣of}
 use Rattle.walks.proofs.Data.{Data, number, struct, enum, Params, stays}
 use Rattle.walks.proofs.Entry.{Bound, End, Walk, walk-in, cites}
-use Rattle.walks.proofs.Calling.{calls, plain, all, _&_, the-one}
+use Rattle.walks.proofs.Calls.{calls, plain, all, _&_, the-one}
 use Rattle.walks.proofs.Frame.{leaves}
 use Rattle.walks.proofs.Steps.{arg, part, sets, lands-in, beside, joins, fjoins}
 use Rattle.reader.specs.Reader.{stepOf, moved}
@@ -175,5 +175,5 @@ pub next-spec : {M : Type 1} → next.Statement.statement M
 unfolding code.routine
 next-spec 𝓤 H 𝓜 𝓖 𝓡 =
     walk-in 𝓤 H 𝓜 𝓖 𝓡 code.env code.function next.ended params (next.clauses 𝓤 H (𝓖 .A) (𝓜 .mem) (𝓡 .run)) next.Key.name (code.unfolded 𝓤 H 𝓜 𝓡)
-    (λ κs a bs fit. fit) (λ κs qs bounds a g are. walk 𝓤 H 𝓜 𝓖 𝓡 (κs .0) (κs .1 .0) bounds (qs .0) (qs .1 .0)
-    (a .0 .ptr .0) (a .0 .ptr .1) (a .0 .name) (a .0 .now))
+    (λ z bs fit. fit) (λ z. walk 𝓤 H 𝓜 𝓖 𝓡 (z .κs .0) (z .κs .1 .0) (z .bounds) (z .qs .0) (z .qs .1 .0)
+    (z .a .0 .ptr .0) (z .a .0 .ptr .1) (z .a .0 .name) (z .a .0 .now))

@@ -19,7 +19,7 @@ use Rattle.base.proofs.Unit.Laws as U′
 use Rattle.walks.proofs.Body.{𝓣of, tests}
 use Rattle.walks.proofs.Data.{Data, number, struct, enum, Params, shared, lent}
 use Rattle.walks.proofs.Entry.{Bound, End, Walk, walk-in, cites}
-use Rattle.walks.proofs.Calling.{calls, lends, plain, all, _&_, but, _&′_, both-twice, none, beside, both-beside, ends}
+use Rattle.walks.proofs.Calls.{calls, lends, plain, all, _&_, but, _&′_, both-twice, none, beside, both-beside, ends}
 use Rattle.walks.proofs.Loop.{Turns, rounds, loop-by}
 use Rattle.walks.proofs.Frame.{empty, full, Blocks, envOf, laid, clears, leaves}
 use Rattle.walks.proofs.Steps.{var, arg, part, sets, resets, resets-last, lands-in, lands-over, recasts, behind, resliced, in64, sliced, copies, past, front}
@@ -244,7 +244,7 @@ module _ {M : Type 1} (𝓤 : kit.URA M) (H : kit.Heap 𝓤) (𝓜 : kit.Model �
           data-of = λ ν δ. a-progress;
           tells = λ ν δ. (refl, λ is. is);
           same = λ l e. ap length e ∙ length-room (next (g .0)) (unit (g .0)) (g .0) (g .1 .0) ∙ g .1 .1 .1 .0 .same;
-          last = λ ν δ ws. ws .1 .1 .1 .1 .0;
+          left = λ ν δ ws. ws .1 .1 .1 .1 .0;
           says = λ ν δ r ws. id⊢ 𝓤 _;
           picks = λ ν δ ws. past ! $ past ! $ past ! $ past ! $ front ! $ front ! $ done !;
         }) (λ ν δ. arg ! 26 refl (arg ! 12 refl (arg ! 24 refl (arg ! 32 refl (arg ! 8 refl (no-more !)))))) (λ l is e.
@@ -276,7 +276,7 @@ module _ {M : Type 1} (𝓤 : kit.URA M) (H : kit.Heap 𝓤) (𝓜 : kit.Model �
           data-of = λ ν δ. number;
           tells = λ ν δ. (refl, λ is. is);
           same = λ l k. k .same ∙ length-room (next (g .0)) (unit (g .0)) (g .0) (g .1 .0) ∙ g .1 .1 .1 .0 .same;
-          last = λ ν δ ws. ws .1 .1 .1 .1 .0;
+          left = λ ν δ ws. ws .1 .1 .1 .1 .0;
           says = λ ν δ r ws. id⊢ 𝓤 _;
           picks = λ ν δ ws. past ! $ past ! $ past ! $ past ! $ front ! $ front ! $ done !;
         }) (λ ν δ. arg ! 26 refl (arg ! 34 refl (arg ! 16 refl (arg ! 28 refl (arg ! 4 refl (no-more !)))))) (λ l′ is-fin k.
@@ -320,5 +320,5 @@ pub stow-spec : {M : Type 1} → stow.Statement.statement M
 unfolding code.routine
 stow-spec 𝓤 H 𝓜 𝓖 𝓡 =
     walk-in 𝓤 H 𝓜 𝓖 𝓡 code.env code.function stow.ended params (stow.clauses 𝓤 H (𝓖 .A) (𝓜 .mem) (𝓡 .run)) stow.Key.name (code.unfolded 𝓤 H 𝓜 𝓡)
-    (λ κs a bs fit. fit) (λ κs qs bounds a g are. walk 𝓤 H 𝓜 𝓖 𝓡 (κs .0) (κs .1 .0) (κs .1 .1 .0) (qs .0) (qs .1 .0) (qs .1 .1 .0)
-    (a .0) (a .1 .0) (a .1 .1 .0 .ptr .0) (a .1 .1 .0 .ptr .1) (a .1 .1 .0 .name) (a .1 .1 .0 .now) (are .0 .0 .1) (are .1 .1 .0 .0 .1))
+    (λ z bs fit. fit) (λ z. walk 𝓤 H 𝓜 𝓖 𝓡 (z .κs .0) (z .κs .1 .0) (z .κs .1 .1 .0) (z .qs .0) (z .qs .1 .0) (z .qs .1 .1 .0)
+    (z .a .0) (z .a .1 .0) (z .a .1 .1 .0 .ptr .0) (z .a .1 .1 .0 .ptr .1) (z .a .1 .1 .0 .name) (z .a .1 .1 .0 .now) (z .are .0 .0 .1) (z .are .1 .1 .0 .0 .1))

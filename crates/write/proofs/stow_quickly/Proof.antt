@@ -19,7 +19,7 @@ use Rattle.base.proofs.Unit.Laws as U′
 use Rattle.walks.proofs.Body.{𝓣of, tests, holds, fails}
 use Rattle.walks.proofs.Data.{Data, number, flag, struct, enum, Params, shared, lent, by-value}
 use Rattle.walks.proofs.Entry.{Bound, End, Walk, walk-with, cites}
-use Rattle.walks.proofs.Calling.{calls, lends, plain, all, _&_, but, _&′_, none, alone, beside, ends as concludes}
+use Rattle.walks.proofs.Calls.{calls, lends, plain, all, _&_, but, _&′_, none, alone, beside, ends as concludes}
 use Rattle.walks.proofs.Loop.{Turns, rounds, loop-by}
 use Rattle.walks.proofs.Frame.{empty, full, Blocks, envOf, laid, clears, leaves}
 use Rattle.walks.proofs.Steps.{var, arg, part, sets, resets-last, lands-in, recasts, behind, resliced, in64, sliced, copies, past, front}
@@ -265,7 +265,7 @@ module _ {M : Type 1} (𝓤 : kit.URA M) (H : kit.Heap 𝓤) (𝓜 : kit.Model �
           data-of = λ ν δ. flag;
           tells = λ ν δ. (refl, λ is. tt);
           same = λ l e. ap length e ∙ length-quick (plainOf (unit (g .0))) (unit (g .0)) (g .0) (got g) ∙ known g .passed .same;
-          last = λ ν δ ws. ws .1 .1 .0;
+          left = λ ν δ ws. ws .1 .1 .0;
           says = λ ν δ r ws. id⊢ 𝓤 _;
           picks = λ ν δ ws. past ! $ past ! $ front ! $ front ! $ done !;
         }) (λ ν δ. arg ! 7 refl (arg ! 17 refl (arg ! 3 refl (kit.no-more !)))) (λ l is e.
@@ -326,7 +326,7 @@ pub stow-quickly-spec : {M : Type 1} → stow-quickly.Statement.statement M
 unfolding code.routine
 stow-quickly-spec 𝓤 H 𝓜 𝓖 𝓡 =
     walk-with 𝓤 H 𝓜 𝓖 𝓡 code.env code.function stow-quickly.ended params (stow-quickly.clauses 𝓤 H (𝓖 .A) (𝓜 .mem) (𝓡 .run)) stow-quickly.Key.name
-    (code.unfolded 𝓤 H 𝓜 𝓡) (λ κs a bs fit. fit) (λ κs a. (a .1 .1 .0 ≤ a .1 .1 .1 .0) × (a .1 .1 .1 .0 ≤ length (a .1 .0 .now)))
-    (λ κs a g. id⊢ 𝓤 _) (λ κs qs bounds a g are pre. walk 𝓤 H 𝓜 𝓖 𝓡 (κs .0) (κs .1 .0) (qs .0) (qs .1 .0)
-    (a .0) (a .1 .0) (a .1 .1 .0) (a .1 .1 .1 .0) (a .1 .1 .1 .1 .0 .ptr .0) (a .1 .1 .1 .1 .0 .ptr .1) (a .1 .1 .1 .1 .0 .name) (a .1 .1 .1 .1 .0 .now)
-    (are .0) (are .1 .0 .0 .1) (are .1 .1 .0 .1) (are .1 .1 .1 .0 .1) (are .1 .1 .1 .1 .0 .0 .1) (pre .0) (pre .1))
+    (code.unfolded 𝓤 H 𝓜 𝓡) (λ z bs fit. fit) (λ z. (z .a .1 .1 .0 ≤ z .a .1 .1 .1 .0) × (z .a .1 .1 .1 .0 ≤ length (z .a .1 .0 .now)))
+    (λ z. id⊢ 𝓤 _) (λ z pre. walk 𝓤 H 𝓜 𝓖 𝓡 (z .κs .0) (z .κs .1 .0) (z .qs .0) (z .qs .1 .0)
+    (z .a .0) (z .a .1 .0) (z .a .1 .1 .0) (z .a .1 .1 .1 .0) (z .a .1 .1 .1 .1 .0 .ptr .0) (z .a .1 .1 .1 .1 .0 .ptr .1) (z .a .1 .1 .1 .1 .0 .name) (z .a .1 .1 .1 .1 .0 .now)
+    (z .are .0) (z .are .1 .0 .0 .1) (z .are .1 .1 .0 .1) (z .are .1 .1 .1 .0 .1) (z .are .1 .1 .1 .1 .0 .0 .1) (pre .0) (pre .1))
