@@ -47,7 +47,8 @@ module _ (s : List ℕ) (a : Answer) (is : a ≡ checkOf s) where
   refused-output work out z = rw (ne-eqb (checkOf s .number) refusal.accepted (λ e. z (rw is e)))
 
   -- an accepted string
-  module _ (z : a .number ≡ refusal.accepted) (before after out : List ℕ) (p : Progress) (reaches : p ≡ reached s (recordsOf s) (a .count)) (stowed : Stowed s (recordsOf s) (a .count) before after) where
+  module _ (z : a .number ≡ refusal.accepted) (before after out : List ℕ) (p : Progress) (reaches : p ≡ reached s (recordsOf s) (a .count))
+      (stowed : Stowed s (recordsOf s) (a .count) before after) where
     done : Finished (recordsOf s) s (length before) out (finishAnswer p (a .count) s after (length out)) (finishOutput p (a .count) s after out)
     done =
         let f = finished (recordsOf s) s before after out (rw (counts z, sym (all z)) at stowed) in

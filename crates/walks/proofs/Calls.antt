@@ -276,7 +276,8 @@ module _ {M : Type 1} {𝓤 : URA M} {H : Heap 𝓤} {A : Atoms 𝓤} (W : Given
   parts-but⊢ : ent 𝓤 P (sep 𝓤 P P) → {Q : SProp 𝓤} {F : Fml} → PartsBut Q F → ent 𝓤 (sep 𝓤 P Q) (sem 𝓤 H A F)
   parts-but⊢ twice {Q} (but x xs) = via 𝓤 (sep 𝓤 Q P) (comm∗ 𝓤 P Q) (mono∗ 𝓤 x (parts⊢ twice xs))
   parts-but⊢ twice {Q} (x &′ xs) =
-      via 𝓤 (sep 𝓤 (sep 𝓤 P P) Q) (monoL 𝓤 Q twice) (via 𝓤 (sep 𝓤 P (sep 𝓤 P Q)) (assoc∗ 𝓤 P P Q) (mono∗ 𝓤 x (parts-but⊢ twice xs)))
+      via 𝓤 (sep 𝓤 (sep 𝓤 P P) Q) (monoL 𝓤 Q twice) (via 𝓤 (sep 𝓤 P (sep 𝓤 P Q)) (assoc∗ 𝓤 P P Q)
+      (mono∗ 𝓤 x (parts-but⊢ twice xs)))
 
   pub plain : {R : RattleType} (d : Data R) (x : R .Denot) → Is R x (d .val x ∷ []) → ent 𝓤 P (sem 𝓤 H A (R .own x (d .val x ∷ [])))
   plain d x is = via 𝓤 (emp 𝓤) (top 𝓤 P) (d .makes 𝓤 H A W x (d .val x ∷ []) is)
@@ -286,7 +287,8 @@ pub both-twice : {M : Type 1} (𝓤 : URA M) {P Q : SProp 𝓤} → ent 𝓤 P (
 both-twice 𝓤 {P} {Q} p q =
     via 𝓤 (sep 𝓤 (sep 𝓤 P P) (sep 𝓤 Q Q)) (mono∗ 𝓤 p q)
     (via 𝓤 (sep 𝓤 P (sep 𝓤 P (sep 𝓤 Q Q))) (assoc∗ 𝓤 P P (sep 𝓤 Q Q))
-    (via 𝓤 (sep 𝓤 P (sep 𝓤 Q (sep 𝓤 P Q))) (monoR 𝓤 P (via 𝓤 _ (assoc′ 𝓤 P Q Q) (via 𝓤 _ (monoL 𝓤 Q (comm∗ 𝓤 P Q)) (assoc∗ 𝓤 Q P Q))))
+    (via 𝓤 (sep 𝓤 P (sep 𝓤 Q (sep 𝓤 P Q))) (monoR 𝓤 P (via 𝓤 _ (assoc′ 𝓤 P Q Q)
+    (via 𝓤 _ (monoL 𝓤 Q (comm∗ 𝓤 P Q)) (assoc∗ 𝓤 Q P Q))))
     (assoc′ 𝓤 P Q (sep 𝓤 P Q))))
 
 -- ---- the tokens
@@ -349,7 +351,8 @@ module _ {M : Type 1} {𝓤 : URA M} {H : Heap 𝓤} {A : Atoms 𝓤} (W : Given
 module _ {M : Type 1} {𝓤 : URA M} {H : Heap 𝓤} {A : Atoms 𝓤} {K : Type 0} {W : Given 𝓤 H A} {E : Env 𝓤 H} {C : Calls 𝓤 H} {Λ : Loops 𝓤 H}
     {q : Post 𝓤 H} {f : Name} {xs : List Operand} {d : Place} {rest : Body} where
   -- the operands are read in the context Γ, of which i is what the call takes, and Δ the frame
-  called : FmC 𝓤 H (W .laws) C → {Γ : List (Item 𝓤)} (Δ : List (Item 𝓤)) (vs : List Val) → Opds K W Γ E xs vs → (i : Item 𝓤) (Q : Val → SProp 𝓤)
+  called : FmC 𝓤 H (W .laws) C → {Γ : List (Item 𝓤)} (Δ : List (Item 𝓤)) (vs : List Val) → Opds K W Γ E xs vs
+      → (i : Item 𝓤) (Q : Val → SProp 𝓤)
       → ent 𝓤 (⋆ 𝓤 H A Γ) (sep 𝓤 (mean 𝓤 H A i) (⋆ 𝓤 H A Δ)) → ent 𝓤 (mean 𝓤 H A i) (C f vs Q)
       → ((r : Val) → Seq K W (raw (Q r) ∷ Δ) (lands C Λ E d r rest q)) → Seq K W Γ (runs C Λ E (seq (call f xs d) rest) q)
   called fm {Γ} Δ vs os i Q takes met k =
@@ -363,7 +366,8 @@ module _ {M : Type 1} {𝓤 : URA M} {H : Heap 𝓤} {A : Atoms 𝓤} {K : Type 
       }
 
   pub calls : K → FmC 𝓤 H (W .laws) C → {Γ : List (Item 𝓤)} (n : ℕ) {T P : Item 𝓤} → nth 𝓤 H A n Γ ≡ T ⊛ P
-      → ent 𝓤 (mean 𝓤 H A P) (sep 𝓤 (mean 𝓤 H A P) (mean 𝓤 H A P)) → (D : Ended) (c : Clauses 𝓤 D) → Triple 𝓤 (C f) (Meant 𝓤 H A W D c)
+      → ent 𝓤 (mean 𝓤 H A P) (sep 𝓤 (mean 𝓤 H A P) (mean 𝓤 H A P)) → (D : Ended) (c : Clauses 𝓤 D)
+      → Triple 𝓤 (C f) (Meant 𝓤 H A W D c)
       → (y : Binds 𝓤 H A W D c) → Spares 𝓤 (mean 𝓤 H A T) (Tok 𝓤 H A W D c y)
       → Parts W (mean 𝓤 H A P) (owns (typesAt (D .signature .params) (y .0 .0)) (y .0 .3) (y .0 .4))
       → ent 𝓤 (emp 𝓤) (c (y .0 .0) (y .0 .3) .requires (y .1)) → (x : Result 𝓤 H A W D c y) → Whole 𝓤 H A W D c y x
@@ -373,7 +377,8 @@ module _ {M : Type 1} {𝓤 : URA M} {H : Heap 𝓤} {A : Atoms 𝓤} {K : Type 
       → Seq K W Γ (runs C Λ E (seq (call f xs d) rest) q)
   calls t fm {Γ} n {T} {P} e twice D c known y sp parts asked x whole r os k =
       let B : SProp 𝓤 = Tok 𝓤 H A W D c y in
-      called fm (raw (sp .rest) ∷ P ∷ del 𝓤 H A n Γ) (Meant 𝓤 H A W D c .args y) os (raw (Meant 𝓤 H A W D c .pre y)) (Meant 𝓤 H A W D c .post y)
+      called fm (raw (sp .rest) ∷ P ∷ del 𝓤 H A n Γ) (Meant 𝓤 H A W D c .args y) os (raw (Meant 𝓤 H A W D c .pre y))
+      (Meant 𝓤 H A W D c .post y)
       (qed W Γ ∵ move ! (n ∷ []) $ rewrite ! 0 (λ (i : Item 𝓤). i) e refl $ split ! $
       use1 W (raw B ⊛ raw (sp .rest)) (sp .give) $ split ! $ move ! (2 ∷ []) $ use1 W (P ⊛ P) twice $ split ! $
       use1 W (‵ (owns (typesAt (D .signature .params) (y .0 .0)) (y .0 .3) (y .0 .4))) (parts⊢ W (mean 𝓤 H A P) twice parts) $
@@ -381,19 +386,22 @@ module _ {M : Type 1} {𝓤 : URA M} {H : Heap 𝓤} {A : Atoms 𝓤} {K : Type 
       use1 W (raw (Meant 𝓤 H A W D c .pre y)) (id⊢ 𝓤 _) $ frame ! $ move ! (1 ∷ 0 ∷ []) $ done !)
       (known y) (λ u.
       use1 W (later (given ((u ≡ r .val x) × Is (Row 𝓤 H A W D c y) x (r .val x ∷ [])) (raw B ⊛ ‵ ftrue)))
-      (gave-value 𝓤 H A W D c y x ftrue (λ r ws. qed W (‵ (last 𝓤 H A W D c y ws) ∷ raw (says-of 𝓤 H A W D c y r ws) ∷ []) ∵ move ! (1 ∷ []) $
+      (gave-value 𝓤 H A W D c y x ftrue (λ r ws. qed W (‵ (last 𝓤 H A W D c y ws) ∷ raw (says-of 𝓤 H A W D c y r ws) ∷ []) ∵
+      move ! (1 ∷ []) $
       use1 W (raw (fact 𝓤 (r ≡ x))) (whole r (atExit D (y .0 .0) (y .0 .3) ws)) $ heard ! (r ≡ x) (λ e. let-go ! $ check ! e $ done !))
       (λ z. r .val z ∷ []) (r .tells) u) $
       await t tt $ learn t (λ is. split t $ move t (1 ∷ []) $ let-go t $ join t $ use1 W T (sp .back) $ join t $
       regoal t (λ (v : Val). lands C Λ E d v rest q) (is .0) refl $ by t
-      (via 𝓤 _ (pop 𝓤 H A (T ⊛ P) (del 𝓤 H A n Γ)) (via 𝓤 _ (subst (λ (i : Item 𝓤). ent 𝓤 (sep 𝓤 (mean 𝓤 H A i) (⋆ 𝓤 H A (del 𝓤 H A n Γ)))
+      (via 𝓤 _ (pop 𝓤 H A (T ⊛ P) (del 𝓤 H A n Γ))
+      (via 𝓤 _ (subst (λ (i : Item 𝓤). ent 𝓤 (sep 𝓤 (mean 𝓤 H A i) (⋆ 𝓤 H A (del 𝓤 H A n Γ)))
       (⋆ 𝓤 H A Γ)) e (unpull 𝓤 H A n Γ)) (k (is .1) (r .typed 𝓤 H A W x (is .1)) .prf)))))
 
 -- ---- a call that is lent a list
 -- what it is lent: the list l, at b and o, for a lifetime ν of its own and under a ghost name δ; what else it is given; and what its contract
 -- says: the result, whose machine value is v, and of the list that it leaves φ
-pub record Loan {M : Type 1} {𝓤 : URA M} {H : Heap 𝓤} {A : Atoms 𝓤} (W : Given 𝓤 H A) (D : Ended) (c : Clauses 𝓤 D) (T P : SProp 𝓤) (R : RattleType)
-    (b o m : ℕ) (l : List (R .Denot)) (v : Val) (ψ : Type 0) (φ : List (R .Denot) → Type 0) (y : ℕ → GName → Binds 𝓤 H A W D c) : Type 2 where
+pub record Loan {M : Type 1} {𝓤 : URA M} {H : Heap 𝓤} {A : Atoms 𝓤} (W : Given 𝓤 H A) (D : Ended) (c : Clauses 𝓤 D) (T P : SProp 𝓤)
+    (R : RattleType) (b o m : ℕ) (l : List (R .Denot)) (v : Val) (ψ : Type 0) (φ : List (R .Denot) → Type 0)
+    (y : ℕ → GName → Binds 𝓤 H A W D c) : Type 2 where
   pub tokens : (ν : ℕ) (δ : GName) → Spares 𝓤 (sep 𝓤 T (A .lft (ν ∷ []) fullShare)) (Tok 𝓤 H A W D c (y ν δ))
   pub parts : (ν : ℕ) (δ : GName) → PartsBut W P (sem 𝓤 H A (slice-at (named 0) (ν ∷ []) R b o δ l m))
       (owns (typesAt (D .signature .params) (y ν δ .0 .0)) (y ν δ .0 .3) (y ν δ .0 .4))
@@ -442,7 +450,8 @@ module _ {M : Type 1} {𝓤 : URA M} {H : Heap 𝓤} {A : Atoms 𝓤} {K : Type 
       (known (y ν δ)) (λ u.
       use1 W (later (some (λ (l′ : List (R .Denot)). given (((u ≡ val) × Is (Row 𝓤 H A W D c (y ν δ)) (L .result ν δ) (val ∷ [])) × φ l′)
       (raw B ⊛ ‵ (finally R δ l′)))))
-      (gave-one 𝓤 H A W D c (y ν δ) (L .result ν δ) φ (finally R δ) (L .left ν δ) (L .says ν δ) (L .picks ν δ) (λ x. L .data-of ν δ .val x ∷ [])
+      (gave-one 𝓤 H A W D c (y ν δ) (L .result ν δ) φ (finally R δ) (L .left ν δ) (L .says ν δ) (L .picks ν δ)
+      (λ x. L .data-of ν δ .val x ∷ [])
       (L .data-of ν δ .tells) u) $ await t tt $ pick t (λ l′. learn t (λ e. split t $
       -- [the tokens asked; the last list; the tokens left; the open borrow; P]: the loan ends, and the borrow is closed at the last list
       move t (0 ∷ 2 ∷ []) $ join t $ use1 W (T ⊛ ‵ (flft (ν ∷ []) fullShare)) (L .tokens ν δ .back) $ split t $ move t (1 ∷ []) $ lft-end t tt $
@@ -454,7 +463,8 @@ module _ {M : Type 1} {𝓤 : URA M} {H : Heap 𝓤} {A : Atoms 𝓤} {K : Type 
 -- ---- a return
 module _ {M : Type 1} {𝓤 : URA M} {H : Heap 𝓤} {A : Atoms 𝓤} {K : Type 0} {W : Given 𝓤 H A} {T P Q tok : Item 𝓤} where
   pub ends : K → (D : Ended) (ps : Params (D .signature .params) (D .kept)) (c : Clauses 𝓤 D) (y : Binds 𝓤 H A W D c)
-      → ent 𝓤 (mean 𝓤 H A P) (sep 𝓤 (mean 𝓤 H A P) (mean 𝓤 H A P)) → Spares 𝓤 (sep 𝓤 (mean 𝓤 H A T) (mean 𝓤 H A tok)) (Tok 𝓤 H A W D c y)
+      → ent 𝓤 (mean 𝓤 H A P) (sep 𝓤 (mean 𝓤 H A P) (mean 𝓤 H A P))
+      → Spares 𝓤 (sep 𝓤 (mean 𝓤 H A T) (mean 𝓤 H A tok)) (Tok 𝓤 H A W D c y)
       → (r : Data (Row 𝓤 H A W D c y)) (x : Result 𝓤 H A W D c y) → Is (Row 𝓤 H A W D c y) x (r .val x ∷ []) → (ws : Ws 𝓤 H A W D c y)
       → Fit D (stays (D .signature .params) (D .kept) ps) (y .0 .0) (y .0 .3) ws → ent 𝓤 (emp 𝓤) (says-of 𝓤 H A W D c y x ws)
       → PartsBut W (mean 𝓤 H A P) (mean 𝓤 H A Q)

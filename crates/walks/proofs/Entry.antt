@@ -52,7 +52,8 @@ module _ {M : Type 1} {𝓤 : URA M} where
     tokens⊢ : (n : ℕ) (κs : Lfts n) (qs : Shares n) → ent 𝓤 (toks 𝓤 A n κs qs) (⋆ 𝓤 H A (tokens n κs qs))
     tokens⊢ zero κs qs = id⊢ 𝓤 (emp 𝓤)
     tokens⊢ (suc n) κs qs =
-        via 𝓤 _ (monoR 𝓤 (A .lft (κs .0) (qs .0)) (tokens⊢ n (κs .1) (qs .1))) (push 𝓤 H A (‵ (flft (κs .0) (qs .0))) (tokens n (κs .1) (qs .1)))
+        via 𝓤 _ (monoR 𝓤 (A .lft (κs .0) (qs .0)) (tokens⊢ n (κs .1) (qs .1)))
+        (push 𝓤 H A (‵ (flft (κs .0) (qs .0))) (tokens n (κs .1) (qs .1)))
 
     owned⊢ : (Rs : List RattleType) (a : Denots Rs) (vss : Valss Rs) → ent 𝓤 (sem 𝓤 H A (owns Rs a vss)) (⋆ 𝓤 H A (owned Rs a vss))
     owned⊢ [] a vss = id⊢ 𝓤 (emp 𝓤)
@@ -95,7 +96,8 @@ module _ {M : Type 1} (𝓤 : URA M) (D : Ended) (ps : Params (D .signature .par
       all-typed 𝓤 H A (types-of (z .κs)) (all-lawful 𝓤 H A W (D .signature .params) (D .kept) ps (z .κs)) (z .a) (vals-of (z .κs) (z .a)) (z .are)
 
 module _ {M : Type 1} (𝓤 : URA M) (H : Heap 𝓤) (𝓜 : Model 𝓤 H) (𝓖 : GhostRules 𝓤 H) (𝓡 : Running 𝓤 H 𝓜) (env : REnv) where
-  pub cites : {k : Name} {r : Routine} {c : Contract 𝓤} → env k ≡ r → Triple 𝓤 (𝓡 .run r) c → Triple 𝓤 (𝓣of 𝓤 H 𝓜 𝓖 𝓡 env .C k) c
+  pub cites : {k : Name} {r : Routine} {c : Contract 𝓤} → env k ≡ r → Triple 𝓤 (𝓡 .run r) c
+      → Triple 𝓤 (𝓣of 𝓤 H 𝓜 𝓖 𝓡 env .C k) c
   unfolding tablesOf
   cites {k} {r} {c} e t = cited 𝓤 H c 𝓜 𝓡 env k r e t
 
@@ -114,7 +116,8 @@ module _ {M : Type 1} (𝓤 : URA M) (H : Heap 𝓤) (𝓜 : Model 𝓤 H) (𝓖
     Walk y = (bs : Blocks (f .locals)) → Sq (givenOf 𝓤 H 𝓜 𝓖)
         (at-entry (D .signature .lifetimes) (y .0 .0) (y .0 .1) (typesAt (D .signature .params) (y .0 .0)) (y .0 .3) (y .0 .4)
         ++ laid (envOf (f .locals) bs) (empty ∷ each-full (flat (typesAt (D .signature .params) (y .0 .0)) (y .0 .4))) [])
-        (runs (𝓣of 𝓤 H 𝓜 𝓖 𝓡 env .C) (𝓣of 𝓤 H 𝓜 𝓖 𝓡 env .Λ) (envOf (f .locals) bs) (f .body) (atRet (envOf (f .locals) bs) (End y)))
+        (runs (𝓣of 𝓤 H 𝓜 𝓖 𝓡 env .C) (𝓣of 𝓤 H 𝓜 𝓖 𝓡 env .Λ) (envOf (f .locals) bs) (f .body)
+        (atRet (envOf (f .locals) bs) (End y)))
 
     module _ (key : Name) (closed : Closed 𝓤 H (tables 𝓤 H 𝓜 𝓡 env .C) (tables 𝓤 H 𝓜 𝓡 env .Λ) key f) (fits : Fitting 𝓤 D ps c f) where
       pub walk-with : (φ : Start 𝓤 D ps c → Type 0) → ((z : Start 𝓤 D ps c) → ent 𝓤 (c (z .κs) (z .a) .requires (z .g)) (fact 𝓤 (φ z)))
@@ -143,8 +146,8 @@ module _ {M : Type 1} (𝓤 : URA M) (H : Heap 𝓤) (𝓜 : Model 𝓤 H) (𝓖
 
 -- ---- a function that passes its parameters on to one call, whole, and returns what that answers: it meets the contract that the function
 -- called meets. Such a proof opens nothing: what the contract asks is handed to the call, and what it gives is the function's own
-module _ {M : Type 1} (𝓤 : URA M) (H : Heap 𝓤) (𝓜 : Model 𝓤 H) (𝓖 : GhostRules 𝓤 H) (𝓡 : Running 𝓤 H 𝓜) (env : REnv) (f : Fn) (D : Ended)
-    (ps : Params (D .signature .params) (D .kept)) (c : Clauses 𝓤 D) where
+module _ {M : Type 1} (𝓤 : URA M) (H : Heap 𝓤) (𝓜 : Model 𝓤 H) (𝓖 : GhostRules 𝓤 H) (𝓡 : Running 𝓤 H 𝓜) (env : REnv) (f : Fn)
+    (D : Ended) (ps : Params (D .signature .params) (D .kept)) (c : Clauses 𝓤 D) where
   abbrev pub Whole : Contract 𝓤
   Whole = tripleOf 𝓤 H (𝓖 .A) (D .signature) (closing 𝓤 H (𝓖 .A) D c)
 
@@ -171,7 +174,8 @@ module _ {M : Type 1} (𝓤 : URA M) (H : Heap 𝓤) (𝓜 : Model 𝓤 H) (𝓖
       (monoL 𝓤 P (said 𝓤 H (𝓖 .A) (D .signature) (y .0 .0) (y .0 .1) (sp (y .0 .0)) (all-tell (D .signature .params) (D .kept) ps (y .0 .0)) (y .0 .3)
       (λ us. wand 𝓤 P (Q us)) (y .0 .4) (λ are.
       let z : Start 𝓤 D ps c = record { κs = y .0 .0; qs = y .0 .1; bounds = y .0 .2; a = y .0 .3; g = y .1; are = are } in
-      wandI 𝓤 _ P _ (enters-with {W = W} ! {Γ = raw (Whole .pre (bound 𝓤 H 𝓜 𝓖 𝓡 env f D ps c z)) ∷ []} (T .C) (T .Λ) f (passed 𝓤 D ps c z) _
+      wandI 𝓤 _ P _ (enters-with {W = W} ! {Γ = raw (Whole .pre (bound 𝓤 H 𝓜 𝓖 𝓡 env f D ps c z)) ∷ []} (T .C) (T .Λ) f
+      (passed 𝓤 D ps c z) _
       (λ bs. fits z bs (fit 𝓤 D ps c W z)) (k z) .prf))))
       (comm∗ 𝓤 (wand 𝓤 P (Q (y .0 .4))) P))
       (apply∗ 𝓤 P (Q (y .0 .4))))

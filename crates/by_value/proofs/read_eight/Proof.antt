@@ -135,7 +135,8 @@ module _ {M : Type 1} (𝓤 : kit.URA M) (H : kit.Heap 𝓤) (𝓜 : kit.Model �
       move ! (4 ∷ []) $ copies ! (named 0) κ u8 s (v ∷ []) $ move ! (5 ∷ 4 ∷ []) $ join ! $ move ! (1 ∷ 3 ∷ []) $ join ! $
       use2 W (raw (Reads .pre (to array ν δ))) (asks array ν δ .prf) $
       calls-ends ! (kit.fmOf 𝓤 H (W .laws) (𝓣of 𝓤 H 𝓜 𝓖 𝓡 code.env)) read.ended (read.clauses 𝓤 H A (𝓜 .mem) (𝓡 .run))
-      (cites 𝓤 H 𝓜 𝓖 𝓡 code.env code.calls-read·read (read.Met.met 𝓤 H 𝓜 𝓖 𝓡)) (to array ν δ) ans (λ (zs : List UnitRecord). zs ≡ listAfter xs marks)
+      (cites 𝓤 H 𝓜 𝓖 𝓡 code.env code.calls-read·read (read.Met.met 𝓤 H 𝓜 𝓖 𝓡)) (to array ν δ) ans
+      (λ (zs : List UnitRecord). zs ≡ listAfter xs marks)
       (λ zs. finally U.the-row δ zs) (λ m ws. gives array ν δ m ws .prf) (LL.vals N.the-type N′.the-laws) (LL.tells N.the-type N′.the-laws)
       (arg ! 12 refl (arg ! 3 refl (kit.no-more !))) (λ zs e is.
       use1 W (‵ (flft κ q) ⊛ ‵ (flft (ν ∷ []) fullShare) ⊛ ‵ ftrue) (kit.id⊢ 𝓤 _) $

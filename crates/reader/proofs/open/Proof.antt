@@ -93,5 +93,6 @@ module _ {M : Type 1} (𝓤 : kit.URA M) (H : kit.Heap 𝓤) (𝓜 : kit.Model �
 pub open-spec : {M : Type 1} → opn.Statement.statement M
 unfolding code.routine
 open-spec 𝓤 H 𝓜 𝓖 𝓡 =
-    walk-in 𝓤 H 𝓜 𝓖 𝓡 code.env code.function opn.ended params (opn.clauses 𝓤 H (𝓖 .A) (𝓜 .mem) (𝓡 .run)) opn.Key.name (code.unfolded 𝓤 H 𝓜 𝓡)
+    walk-in 𝓤 H 𝓜 𝓖 𝓡 code.env code.function opn.ended params (opn.clauses 𝓤 H (𝓖 .A) (𝓜 .mem) (𝓡 .run)) opn.Key.name
+    (code.unfolded 𝓤 H 𝓜 𝓡)
     (λ z bs fit. fit) (λ z. walk 𝓤 H 𝓜 𝓖 𝓡 (z .κs .0) (z .qs .0) (z .a .0) (z .are .0))

@@ -14,12 +14,6 @@ Inv-loop s n work₀ progress₀ at₀ st₀ i₀ work progress at st i = Head s
 abbrev μ-loop : tie.MeasureT-loop
 μ-loop s n work₀ progress₀ at₀ st₀ i₀ work progress at st i = n - i
 
-loop-holds : tie.Need-loop-holds Inv-loop μ-loop
-loop-holds c = rw (c .begin .ensures) (head-first _ _)
-
-same-length : tie.Need-same-length Inv-loop μ-loop
-same-length c = c .before .before .before .before .loop .inv .stowed .same
-
 returns : tie.Need-returns Inv-loop μ-loop
 returns c =
     let loop = c .before .before .before .before .loop in
@@ -30,20 +24,15 @@ returns c =
     (head-more _ (short _ (start .pre .0)) _ _ _ _ _ _ (loop .inv) (omega arith) _ (c .before .before .next-unit .ensures)
     (λ u place to q. omega (arith, rw q at (c .before .match .keys2))))
 
-add-i : tie.Need-add-i Inv-loop μ-loop
-add-i c = omega (arith, c .before .before .before .before .before .before .before .before .before .loop .inv .few)
-
 loop-again : tie.Need-loop-again Inv-loop μ-loop
 loop-again c =
     let loop = c .before .before .before .before .before .before .before .before .before .loop in
     let start = c .before .before .before .before .before .before .before .before .before .before .before .before .before in
     let more = c .before .before .before .before .before .before .before .before .loop-test .taken in
     let all = start .pre .1 in
-    head-next _ (short _ (start .pre .0)) _ _ _ _ _ _ (loop .inv) (omega arith) _ _ _ _ _ _ (c .before .before .before .before .before .before .before .next-unit .ensures) (c .before .before .before .before .before .o .given .1)
+    head-next _ (short _ (start .pre .0)) _ _ _ _ _ _ (loop .inv) (omega arith) _ _ _ _ _ _
+    (c .before .before .before .before .before .before .before .next-unit .ensures) (c .before .before .before .before .before .o .given .1)
     (c .before .before .turn .ensures .0) (c .before .before .turn .ensures .1)
-
-same-length-2 : tie.Need-same-length-2 Inv-loop μ-loop
-same-length-2 c = c .before .loop .inv .stowed .same
 
 returns-2 : tie.Need-returns-2 Inv-loop μ-loop
 returns-2 c =
@@ -59,15 +48,15 @@ stow-spec =
     Inv-loop
     μ-loop
     (search needs)
-    loop-holds
+    (λ c. rw (c .begin .ensures) (head-first _ _))
     (search needs)
     (search needs)
     (search needs)
-    same-length
+    (λ c. c .before .before .before .before .loop .inv .stowed .same)
     returns
     (search needs)
-    add-i
+    (λ c. omega (arith, c .before .before .before .before .before .before .before .before .before .loop .inv .few))
     (λ c. omega arith)
     loop-again
-    same-length-2
+    (λ c. c .before .loop .inv .stowed .same)
     returns-2)

@@ -270,7 +270,8 @@ module _ {M : Type 1} (𝓤 : kit.URA M) (H : kit.Heap 𝓤) (𝓜 : kit.Model �
         )) (record {
           tokens = λ ν δ. beside W κ₀ q₀ (ν ∷ []) fullShare;
           parts = λ ν δ. plain W O₀ a-progress (at (suc (g .0))) (subst IsP (reached-next os us (g .0)) is) &′ id⊢ 𝓤 _ &′
-              plain W O₀ number (suc (g .0)) (refl, omega (arith, next-fits (g .0) less)) &′ plain W O₀ number n (refl, n-fits) &′ but (id⊢ 𝓤 _) all;
+              plain W O₀ number (suc (g .0)) (refl, omega (arith, next-fits (g .0) less)) &′ plain W O₀ number n (refl, n-fits) &′
+              but (id⊢ 𝓤 _) all;
           asked = λ ν δ. kit.factI 𝓤 _ (kit.emp 𝓤) (ltb→lt (g .0) n less, looked-most (length us));
           result = λ ν δ. fin (g .0);
           data-of = λ ν δ. number;
@@ -309,7 +310,8 @@ module _ {M : Type 1} (𝓤 : kit.URA M) (H : kit.Heap 𝓤) (𝓜 : kit.Model �
       (plain W O₀ number (length us) (refl, s-room .0) & all) (id⊢ 𝓤 _) n (λ r e. id⊢ 𝓤 _) number (arg ! 20 refl (no-more !)) (λ is-n ok.
       lands-in ! 28 refl ok $
       calls ! fm 0 refl twice₀ begin.ended (begin.clauses 𝓤 H A (𝓜 .mem) (𝓡 .run))
-      (cites 𝓤 H 𝓜 𝓖 𝓡 code.env code.calls-check-list·begin (begin.Met.met 𝓤 H 𝓜 𝓖 𝓡)) ((tt, tt, tt, tt, tt), tt) (none W (A .lft κ₀ q₀)) all
+      (cites 𝓤 H 𝓜 𝓖 𝓡 code.env code.calls-check-list·begin (begin.Met.met 𝓤 H 𝓜 𝓖 𝓡)) ((tt, tt, tt, tt, tt), tt)
+      (none W (A .lft κ₀ q₀)) all
       (id⊢ 𝓤 _) begun (λ r e. id⊢ 𝓤 _) a-progress (no-more !) (λ is-p ok.
       lands-in ! 26 refl ok $ recasts ! 26 mach (reached-none os us) refl $
       sets ! 24 (of-opd ! (lit ! tt)) refl (in64 (lit< tt)) $ kit.forget ! 20 refl $
@@ -319,6 +321,7 @@ module _ {M : Type 1} (𝓤 : kit.URA M) (H : kit.Heap 𝓤) (𝓜 : kit.Model �
 pub stow-spec : {M : Type 1} → stow.Statement.statement M
 unfolding code.routine
 stow-spec 𝓤 H 𝓜 𝓖 𝓡 =
-    walk-in 𝓤 H 𝓜 𝓖 𝓡 code.env code.function stow.ended params (stow.clauses 𝓤 H (𝓖 .A) (𝓜 .mem) (𝓡 .run)) stow.Key.name (code.unfolded 𝓤 H 𝓜 𝓡)
+    walk-in 𝓤 H 𝓜 𝓖 𝓡 code.env code.function stow.ended params (stow.clauses 𝓤 H (𝓖 .A) (𝓜 .mem) (𝓡 .run)) stow.Key.name
+    (code.unfolded 𝓤 H 𝓜 𝓡)
     (λ z bs fit. fit) (λ z. walk 𝓤 H 𝓜 𝓖 𝓡 (z .κs .0) (z .κs .1 .0) (z .κs .1 .1 .0) (z .qs .0) (z .qs .1 .0) (z .qs .1 .1 .0)
     (z .a .0) (z .a .1 .0) (z .a .1 .1 .0 .ptr .0) (z .a .1 .1 .0 .ptr .1) (z .a .1 .1 .0 .name) (z .a .1 .1 .0 .now) (z .are .0 .0 .1) (z .are .1 .1 .0 .0 .1))

@@ -3,7 +3,8 @@
 -- Where it does, the next record has its turn; where it does not, the end is set to this place, and the loop is left. Of the functions that
 -- it calls the proof knows their contracts alone. Assumes nothing.
 use Rattle.walks.proofs.Names.{_≡_, refl, sym, _∙_, ap, ℕ, suc, _+_, _-_, _*_, _≤_, _<_, _^_, true, false, [], _∷_, List, length, named, w64, Val}
-use Rattle.walks.proofs.Names.{vint, SProp, id⊢, GName, Fml, flft, let-go, ‵, _⊛_, atRet, _$_, !, move, split, join, rewrite, done, look, lit, of-opd, bin}
+use Rattle.walks.proofs.Names.{vint, SProp, id⊢, GName, Fml, flft, let-go, ‵, _⊛_, atRet, _$_, !, move, split, join, rewrite, done, look, lit, of-opd}
+use Rattle.walks.proofs.Names.{bin}
 use Rattle.walks.proofs.Names.{Is, shows, u8, RefT, Room}
 use Rattle.walks.proofs.Names as kit
 use native.Mathlib.Numerals.{add-one}
@@ -246,8 +247,10 @@ module _ {M : Type 1} (𝓤 : kit.URA M) (H : kit.Heap 𝓤) (𝓜 : kit.Model �
         -- the room is borrowed again, for `quick_turn`
         sets ! 5 (behind ! 21 refl refl) refl (tt, tt) $
         sets ! 3 (resliced ! 5 21 refl refl refl) refl (sliced (room .0)) $
-        lends ! fm u8 κ₁ q₁ γ b o (length ys) (got g) twice room (known g .passed .same) quick-turn.ended (quick-turn.clauses 𝓤 H A (𝓜 .mem) (𝓡 .run))
-        (cites 𝓤 H 𝓜 𝓖 𝓡 code.env code.calls-check-list·quick-turn (quick-turn.Met.met 𝓤 H 𝓜 𝓖 𝓡)) (flag .val (plainOf (unit (g .0)))) (Unit {0})
+        lends ! fm u8 κ₁ q₁ γ b o (length ys) (got g) twice room (known g .passed .same) quick-turn.ended
+        (quick-turn.clauses 𝓤 H A (𝓜 .mem) (𝓡 .run))
+        (cites 𝓤 H 𝓜 𝓖 𝓡 code.env code.calls-check-list·quick-turn (quick-turn.Met.met 𝓤 H 𝓜 𝓖 𝓡)) (flag .val (plainOf (unit (g .0))))
+        (Unit {0})
         (λ l. l ≡ left (g .0) (got g)) (λ ν δ. (
           (
             (ν ∷ [], tt),
@@ -292,7 +295,8 @@ module _ {M : Type 1} (𝓤 : kit.URA M) (H : kit.Heap 𝓤) (𝓜 : kit.Model �
         kit.returns ! (look ! 31 refl) $ leaves ! 3 refl refl $
         concludes ! stow-quickly.ended params clauses y twice (beside W κ₀ q₀ κ₁ q₁) number fin (refl, fin-fits) (tt, (tt, (tt, (tt, (got g, tt)))))
         (tt, (tt, (tt, (tt, (st .same, tt))))) (kit.factI 𝓤 _ (kit.emp 𝓤) (refl, st))
-        (plain W O a-progress p is-p &′ id⊢ 𝓤 _ &′ plain W O number i₀ (refl, i₀-fits) &′ plain W O number n (refl, n-fits) &′ but (id⊢ 𝓤 _) all))
+        (plain W O a-progress p is-p &′ id⊢ 𝓤 _ &′ plain W O number i₀ (refl, i₀-fits) &′ plain W O number n (refl, n-fits) &′
+        but (id⊢ 𝓤 _) all))
 
   -- ---- the code up to the loop
   walk : Walk 𝓤 H 𝓜 𝓖 𝓡 code.env code.function stow-quickly.ended params clauses y
@@ -325,8 +329,10 @@ module _ {M : Type 1} (𝓤 : kit.URA M) (H : kit.Heap 𝓤) (𝓜 : kit.Model �
 pub stow-quickly-spec : {M : Type 1} → stow-quickly.Statement.statement M
 unfolding code.routine
 stow-quickly-spec 𝓤 H 𝓜 𝓖 𝓡 =
-    walk-with 𝓤 H 𝓜 𝓖 𝓡 code.env code.function stow-quickly.ended params (stow-quickly.clauses 𝓤 H (𝓖 .A) (𝓜 .mem) (𝓡 .run)) stow-quickly.Key.name
+    walk-with 𝓤 H 𝓜 𝓖 𝓡 code.env code.function stow-quickly.ended params
+    (stow-quickly.clauses 𝓤 H (𝓖 .A) (𝓜 .mem) (𝓡 .run)) stow-quickly.Key.name
     (code.unfolded 𝓤 H 𝓜 𝓡) (λ z bs fit. fit) (λ z. (z .a .1 .1 .0 ≤ z .a .1 .1 .1 .0) × (z .a .1 .1 .1 .0 ≤ length (z .a .1 .0 .now)))
     (λ z. id⊢ 𝓤 _) (λ z pre. walk 𝓤 H 𝓜 𝓖 𝓡 (z .κs .0) (z .κs .1 .0) (z .qs .0) (z .qs .1 .0)
-    (z .a .0) (z .a .1 .0) (z .a .1 .1 .0) (z .a .1 .1 .1 .0) (z .a .1 .1 .1 .1 .0 .ptr .0) (z .a .1 .1 .1 .1 .0 .ptr .1) (z .a .1 .1 .1 .1 .0 .name) (z .a .1 .1 .1 .1 .0 .now)
+    (z .a .0) (z .a .1 .0) (z .a .1 .1 .0) (z .a .1 .1 .1 .0) (z .a .1 .1 .1 .1 .0 .ptr .0) (z .a .1 .1 .1 .1 .0 .ptr .1) (z .a .1 .1 .1 .1 .0 .name)
+    (z .a .1 .1 .1 .1 .0 .now)
     (z .are .0) (z .are .1 .0 .0 .1) (z .are .1 .1 .0 .1) (z .are .1 .1 .1 .0 .1) (z .are .1 .1 .1 .1 .0 .0 .1) (pre .0) (pre .1))
