@@ -25,9 +25,9 @@ use mir.Syntax.{Name, Place, Opd as Operand, Body, seq, call, Lifetime, named}
 use mir.Val.{Val, WT, hasTy}
 use base.Logic.{SProp, ent, sep, ex, guard, id⊢, emp, via, comm∗, assoc∗, assoc′, mono∗, monoL, monoR, emp∗, fst∗, snd∗, exI}
 use base.Fml.{Fml, ftrue, Lft, GName, Share, fsep, flft, fdead, fobs, fauth, flent, fobor}
-use prog.Wp.{Heap, Env, Calls, Loops, evalOpds}
+use prog.Wp.{Heap, Env, Calls, Loops, Tables, evalOpds}
 use ghost.Atoms.{Atoms, sem}
-use sound.WpLaws.{FmC}
+use sound.WpLaws.{FmC, fmOf}
 use contract.Monad.{fact, top}
 use types.Kit.{Given, Item, ‵, raw, _⊛_, given, some, later, Post, prop, runs, lands, Seq, Sq, _$_, _∵_, !, qed, move, drop as let-go, use1, split, learn}
 use types.Kit.{pick, check, rewrite, regoal, await, updating, show, done, use3, fsplit, fjoin, frame, mean, ⋆, nth, del, push, pop, unpull, aim, by, keep}
@@ -348,36 +348,38 @@ module _ {M : Type 1} {𝓤 : URA M} {H : Heap 𝓤} {A : Atoms 𝓤} (W : Given
         }
 
 -- ---- the call
-module _ {M : Type 1} {𝓤 : URA M} {H : Heap 𝓤} {A : Atoms 𝓤} {K : Type 0} {W : Given 𝓤 H A} {E : Env 𝓤 H} {C : Calls 𝓤 H} {Λ : Loops 𝓤 H}
+module _ {M : Type 1} {𝓤 : URA M} {H : Heap 𝓤} {A : Atoms 𝓤} {K : Type 0} {W : Given 𝓤 H A} {E : Env 𝓤 H}
     {q : Post 𝓤 H} {f : Name} {xs : List Operand} {d : Place} {rest : Body} where
   -- the operands are read in the context Γ, of which i is what the call takes, and Δ the frame
-  called : FmC 𝓤 H (W .laws) C → {Γ : List (Item 𝓤)} (Δ : List (Item 𝓤)) (vs : List Val) → Opds K W Γ E xs vs
+  called : (𝓣 : Tables 𝓤 H) {Γ : List (Item 𝓤)} (Δ : List (Item 𝓤)) (vs : List Val) → Opds K W Γ E xs vs
       → (i : Item 𝓤) (Q : Val → SProp 𝓤)
-      → ent 𝓤 (⋆ 𝓤 H A Γ) (sep 𝓤 (mean 𝓤 H A i) (⋆ 𝓤 H A Δ)) → ent 𝓤 (mean 𝓤 H A i) (C f vs Q)
-      → ((r : Val) → Seq K W (raw (Q r) ∷ Δ) (lands C Λ E d r rest q)) → Seq K W Γ (runs C Λ E (seq (call f xs d) rest) q)
-  called fm {Γ} Δ vs os i Q takes met k =
-      let after : Val → SProp 𝓤 = λ r. aim 𝓤 H (lands C Λ E d r rest q) in
+      → ent 𝓤 (⋆ 𝓤 H A Γ) (sep 𝓤 (mean 𝓤 H A i) (⋆ 𝓤 H A Δ)) → ent 𝓤 (mean 𝓤 H A i) (𝓣 .C f vs Q)
+      → ((r : Val) → Seq K W (raw (Q r) ∷ Δ) (lands (𝓣 .C) (𝓣 .Λ) E d r rest q))
+      → Seq K W Γ (runs (𝓣 .C) (𝓣 .Λ) E (seq (call f xs d) rest) q)
+  called 𝓣 {Γ} Δ vs os i Q takes met k =
+      let after : Val → SProp 𝓤 = λ r. aim 𝓤 H (lands (𝓣 .C) (𝓣 .Λ) E d r rest q) in
       record {
-        prf = via 𝓤 (evalOpds 𝓤 H E xs (λ us. C f us after))
-            (os .go (λ us. C f us after) (via 𝓤 (sep 𝓤 (C f vs Q) (⋆ 𝓤 H A Δ))
+        prf = via 𝓤 (evalOpds 𝓤 H E xs (λ us. 𝓣 .C f us after))
+            (os .go (λ us. 𝓣 .C f us after) (via 𝓤 (sep 𝓤 (𝓣 .C f vs Q) (⋆ 𝓤 H A Δ))
             (via 𝓤 (sep 𝓤 (mean 𝓤 H A i) (⋆ 𝓤 H A Δ)) takes (monoL 𝓤 (⋆ 𝓤 H A Δ) met))
-            (fm f vs Q after (⋆ 𝓤 H A Δ) (λ r. via 𝓤 (⋆ 𝓤 H A (raw (Q r) ∷ Δ)) (push 𝓤 H A (raw (Q r)) Δ) (k r .prf)))))
+            (fmOf 𝓤 H (W .laws) 𝓣 f vs Q after (⋆ 𝓤 H A Δ)
+            (λ r. via 𝓤 (⋆ 𝓤 H A (raw (Q r) ∷ Δ)) (push 𝓤 H A (raw (Q r)) Δ) (k r .prf)))))
             (W .laws .⇛-intro _);
       }
 
-  pub calls : K → FmC 𝓤 H (W .laws) C → {Γ : List (Item 𝓤)} (n : ℕ) {T P : Item 𝓤} → nth 𝓤 H A n Γ ≡ T ⊛ P
+  pub calls : K → (𝓣 : Tables 𝓤 H) {Γ : List (Item 𝓤)} (n : ℕ) {T P : Item 𝓤} → nth 𝓤 H A n Γ ≡ T ⊛ P
       → ent 𝓤 (mean 𝓤 H A P) (sep 𝓤 (mean 𝓤 H A P) (mean 𝓤 H A P)) → (D : Ended) (c : Clauses 𝓤 D)
-      → Triple 𝓤 (C f) (Meant 𝓤 H A W D c)
+      → Triple 𝓤 (𝓣 .C f) (Meant 𝓤 H A W D c)
       → (y : Binds 𝓤 H A W D c) → Spares 𝓤 (mean 𝓤 H A T) (Tok 𝓤 H A W D c y)
       → Parts W (mean 𝓤 H A P) (owns (typesAt (D .signature .params) (y .0 .0)) (y .0 .3) (y .0 .4))
       → ent 𝓤 (emp 𝓤) (c (y .0 .0) (y .0 .3) .requires (y .1)) → (x : Result 𝓤 H A W D c y) → Whole 𝓤 H A W D c y x
       → (r : Data (Row 𝓤 H A W D c y)) → Opds K W Γ E xs (Meant 𝓤 H A W D c .args y)
       → (Is (Row 𝓤 H A W D c y) x (r .val x ∷ []) → Holds (hasTy (lone (Row 𝓤 H A W D c y .mir)) (r .val x)) × WT (r .val x)
-      → Seq K W Γ (lands C Λ E d (r .val x) rest q))
-      → Seq K W Γ (runs C Λ E (seq (call f xs d) rest) q)
-  calls t fm {Γ} n {T} {P} e twice D c known y sp parts asked x whole r os k =
+      → Seq K W Γ (lands (𝓣 .C) (𝓣 .Λ) E d (r .val x) rest q))
+      → Seq K W Γ (runs (𝓣 .C) (𝓣 .Λ) E (seq (call f xs d) rest) q)
+  calls t 𝓣 {Γ} n {T} {P} e twice D c known y sp parts asked x whole r os k =
       let B : SProp 𝓤 = Tok 𝓤 H A W D c y in
-      called fm (raw (sp .rest) ∷ P ∷ del 𝓤 H A n Γ) (Meant 𝓤 H A W D c .args y) os (raw (Meant 𝓤 H A W D c .pre y))
+      called 𝓣 (raw (sp .rest) ∷ P ∷ del 𝓤 H A n Γ) (Meant 𝓤 H A W D c .args y) os (raw (Meant 𝓤 H A W D c .pre y))
       (Meant 𝓤 H A W D c .post y)
       (qed W Γ ∵ move ! (n ∷ []) $ rewrite ! 0 (λ (i : Item 𝓤). i) e refl $ split ! $
       use1 W (raw B ⊛ raw (sp .rest)) (sp .give) $ split ! $ move ! (2 ∷ []) $ use1 W (P ⊛ P) twice $ split ! $
@@ -391,7 +393,7 @@ module _ {M : Type 1} {𝓤 : URA M} {H : Heap 𝓤} {A : Atoms 𝓤} {K : Type 
       use1 W (raw (fact 𝓤 (r ≡ x))) (whole r (atExit D (y .0 .0) (y .0 .3) ws)) $ heard ! (r ≡ x) (λ e. let-go ! $ check ! e $ done !))
       (λ z. r .val z ∷ []) (r .tells) u) $
       await t tt $ learn t (λ is. split t $ move t (1 ∷ []) $ let-go t $ join t $ use1 W T (sp .back) $ join t $
-      regoal t (λ (v : Val). lands C Λ E d v rest q) (is .0) refl $ by t
+      regoal t (λ (v : Val). lands (𝓣 .C) (𝓣 .Λ) E d v rest q) (is .0) refl $ by t
       (via 𝓤 _ (pop 𝓤 H A (T ⊛ P) (del 𝓤 H A n Γ))
       (via 𝓤 _ (subst (λ (i : Item 𝓤). ent 𝓤 (sep 𝓤 (mean 𝓤 H A i) (⋆ 𝓤 H A (del 𝓤 H A n Γ)))
       (⋆ 𝓤 H A Γ)) e (unpull 𝓤 H A n Γ)) (k (is .1) (r .typed 𝓤 H A W x (is .1)) .prf)))))
@@ -417,18 +419,19 @@ pub record Loan {M : Type 1} {𝓤 : URA M} {H : Heap 𝓤} {A : Atoms 𝓤} (W 
   pub picks : (ν : ℕ) (δ : GName) (ws : Ws 𝓤 H A W D c (y ν δ))
       → Sq W (‵ (last 𝓤 H A W D c (y ν δ) ws) ∷ []) (prop (sem 𝓤 H A (finally R δ (left ν δ ws))))
 
-module _ {M : Type 1} {𝓤 : URA M} {H : Heap 𝓤} {A : Atoms 𝓤} {K : Type 0} {W : Given 𝓤 H A} {E : Env 𝓤 H} {C : Calls 𝓤 H} {Λ : Loops 𝓤 H}
+module _ {M : Type 1} {𝓤 : URA M} {H : Heap 𝓤} {A : Atoms 𝓤} {K : Type 0} {W : Given 𝓤 H A} {E : Env 𝓤 H}
     {q : Post 𝓤 H} {f : Name} {xs : List Operand} {d : Place} {rest : Body} {Γ : List (Item 𝓤)} {T P : Item 𝓤} where
-  pub lends : K → FmC 𝓤 H (W .laws) C → (R : RattleType) (holder : Lft) (share : Share) (γ : GName) (b o m : ℕ) (l : List (R .Denot))
+  pub lends : K → (𝓣 : Tables 𝓤 H) (R : RattleType) (holder : Lft) (share : Share) (γ : GName) (b o m : ℕ) (l : List (R .Denot))
       → ent 𝓤 (mean 𝓤 H A P) (sep 𝓤 (mean 𝓤 H A P) (mean 𝓤 H A P)) → Room R m → length l ≡ m
-      → (D : Ended) (c : Clauses 𝓤 D) → Triple 𝓤 (C f) (Meant 𝓤 H A W D c) → (v : Val) (ψ : Type 0) (φ : List (R .Denot) → Type 0)
+      → (D : Ended) (c : Clauses 𝓤 D) → Triple 𝓤 (𝓣 .C f) (Meant 𝓤 H A W D c) → (v : Val) (ψ : Type 0) (φ : List (R .Denot) → Type 0)
       → (y : ℕ → GName → Binds 𝓤 H A W D c) (L : Loan W D c (mean 𝓤 H A T) (mean 𝓤 H A P) R b o m l v ψ φ y)
       → ((ν : ℕ) (δ : GName) → Opds K W (raw (sep 𝓤 (Meant 𝓤 H A W D c .pre (y ν δ)) (L .tokens ν δ .rest)) ∷
       ‵ (Open R holder (ν ∷ []) share γ b o l δ) ∷ P ∷ Γ) E xs (Meant 𝓤 H A W D c .args (y ν δ)))
       → ((l′ : List (R .Denot)) → ψ → φ l′
-      → Seq K W ((T ⊛ P) ∷ ‵ (slice-at (named 0) holder R b o γ l′ m) ∷ ‵ (flft holder share) ∷ Γ) (lands C Λ E d v rest q))
-      → Seq K W ((T ⊛ P) ∷ ‵ (slice-at (named 0) holder R b o γ l m) ∷ ‵ (flft holder share) ∷ Γ) (runs C Λ E (seq (call f xs d) rest) q)
-  lends t fm R holder share γ b o m l twice room el D c known v ψ φ y L os next =
+      → Seq K W ((T ⊛ P) ∷ ‵ (slice-at (named 0) holder R b o γ l′ m) ∷ ‵ (flft holder share) ∷ Γ) (lands (𝓣 .C) (𝓣 .Λ) E d v rest q))
+      → Seq K W ((T ⊛ P) ∷ ‵ (slice-at (named 0) holder R b o γ l m) ∷ ‵ (flft holder share) ∷ Γ)
+      (runs (𝓣 .C) (𝓣 .Λ) E (seq (call f xs d) rest) q)
+  lends t 𝓣 R holder share γ b o m l twice room el D c known v ψ φ y L os next =
       rewrite t 1 (λ (n : ℕ). ‵ (slice-at (named 0) holder R b o γ l n)) (sym el) refl $ lft-new t tt (λ ν. move t (2 ∷ 3 ∷ []) $
       use2 W (later (some (λ (δ : GName). ‵ (slice-at (named 0) (ν ∷ []) R b o δ l (length l)) ⊛ ‵ (Open R holder (ν ∷ []) share γ b o l δ))))
       (into-loan R holder (ν ∷ []) share γ b o l 𝓤 H A W (named 0) (named 0)) $ await t tt $ pick t (λ δ. split t $
@@ -445,7 +448,7 @@ module _ {M : Type 1} {𝓤 : URA M} {H : Heap 𝓤} {A : Atoms 𝓤} {K : Type 
       (parts-but⊢ W (mean 𝓤 H A P) twice (L .parts ν δ)) $ move t (2 ∷ 0 ∷ []) $ join t $
       use0 W (raw (c (y ν δ .0 .0) (y ν δ .0 .3) .requires (y ν δ .1))) (L .asked ν δ) $ move t (1 ∷ 0 ∷ []) $ join t $
       use1 W (raw pre) (id⊢ 𝓤 _) $ move t (0 ∷ 2 ∷ []) $ join t $ use1 W (raw (sep 𝓤 pre spare)) (id⊢ 𝓤 _) $ move t (0 ∷ 2 ∷ 1 ∷ []) $
-      called fm (raw spare ∷ loan ∷ P ∷ Γ) (Meant 𝓤 H A W D c .args (y ν δ)) (os ν δ) (raw pre) (Meant 𝓤 H A W D c .post (y ν δ))
+      called 𝓣 (raw spare ∷ loan ∷ P ∷ Γ) (Meant 𝓤 H A W D c .args (y ν δ)) (os ν δ) (raw pre) (Meant 𝓤 H A W D c .post (y ν δ))
       (qed W (raw (sep 𝓤 pre spare) ∷ loan ∷ P ∷ Γ) ∵ use1 W (raw pre ⊛ raw spare) (id⊢ 𝓤 _) $ split ! $ frame ! $ done !)
       (known (y ν δ)) (λ u.
       use1 W (later (some (λ (l′ : List (R .Denot)). given (((u ≡ val) × Is (Row 𝓤 H A W D c (y ν δ)) (L .result ν δ) (val ∷ [])) × φ l′)
@@ -458,7 +461,8 @@ module _ {M : Type 1} {𝓤 : URA M} {H : Heap 𝓤} {A : Atoms 𝓤} {K : Type 
       move t (0 ∷ 3 ∷ 2 ∷ []) $ use3 W (later (‵ (slice-at (named 0) holder R b o γ l′ (length l)) ⊛ ‵ (flft holder share)))
       (out-of-loan R holder (ν ∷ []) share γ b o l 𝓤 H A W (named 0) (named 0) δ l′ (subst (Room R) (sym el) room) (L .same l′ (e .1) ∙ sym el)) $
       await t tt $ split t $ rewrite t 0 (λ (n : ℕ). ‵ (slice-at (named 0) holder R b o γ l′ n)) el refl $ move t (2 ∷ 3 ∷ []) $ join t $
-      regoal t (λ (w : Val). lands C Λ E d w rest q) (e .0 .0 ∙ L .tells ν δ .0) refl $ next l′ (L .tells ν δ .1 (e .0 .1)) (e .1))))))
+      regoal t (λ (w : Val). lands (𝓣 .C) (𝓣 .Λ) E d w rest q) (e .0 .0 ∙ L .tells ν δ .0) refl $
+      next l′ (L .tells ν δ .1 (e .0 .1)) (e .1))))))
 
 -- ---- a return
 module _ {M : Type 1} {𝓤 : URA M} {H : Heap 𝓤} {A : Atoms 𝓤} {K : Type 0} {W : Given 𝓤 H A} {T P Q tok : Item 𝓤} where

@@ -95,6 +95,17 @@ module _ {M : Type 1} (𝓤 : URA M) (D : Ended) (ps : Params (D .signature .par
   fit {H} {A} W z =
       all-typed 𝓤 H A (types-of (z .κs)) (all-lawful 𝓤 H A W (D .signature .params) (D .kept) ps (z .κs)) (z .a) (vals-of (z .κs) (z .a)) (z .are)
 
+-- what a call binds, and what the contract asks at a return
+module _ {M : Type 1} (𝓤 : URA M) (H : Heap 𝓤) (A : Atoms 𝓤) (D : Ended) (ps : Params (D .signature .params) (D .kept)) (c : Clauses 𝓤 D) where
+  abbrev pub Bound : Type 0
+  Bound = walkOf 𝓤 H A D (stays (D .signature .params) (D .kept) ps) c .Ghost
+
+  abbrev pub bound : Start 𝓤 D ps c → Bound
+  bound z = ((z .κs, z .qs, z .bounds, z .a, vals-of 𝓤 D ps c (z .κs) (z .a)), z .g)
+
+  abbrev pub End : Bound → Val → SProp 𝓤
+  End y = walkOf 𝓤 H A D (stays (D .signature .params) (D .kept) ps) c .post y
+
 module _ {M : Type 1} (𝓤 : URA M) (H : Heap 𝓤) (𝓜 : Model 𝓤 H) (𝓖 : GhostRules 𝓤 H) (𝓡 : Running 𝓤 H 𝓜) (env : REnv) where
   pub cites : {k : Name} {r : Routine} {c : Contract 𝓤} → env k ≡ r → Triple 𝓤 (𝓡 .run r) c
       → Triple 𝓤 (𝓣of 𝓤 H 𝓜 𝓖 𝓡 env .C k) c
@@ -102,26 +113,16 @@ module _ {M : Type 1} (𝓤 : URA M) (H : Heap 𝓤) (𝓜 : Model 𝓤 H) (𝓖
   cites {k} {r} {c} e t = cited 𝓤 H c 𝓜 𝓡 env k r e t
 
   module _ (f : Fn) (D : Ended) (ps : Params (D .signature .params) (D .kept)) (c : Clauses 𝓤 D) where
-    -- what a call binds
-    abbrev pub Bound : Type 0
-    Bound = walkOf 𝓤 H (𝓖 .A) D (stays (D .signature .params) (D .kept) ps) c .Ghost
-
-    abbrev pub bound : Start 𝓤 D ps c → Bound
-    bound z = ((z .κs, z .qs, z .bounds, z .a, vals-of 𝓤 D ps c (z .κs) (z .a)), z .g)
-
-    abbrev pub End : Bound → Val → SProp 𝓤
-    End y = walkOf 𝓤 H (𝓖 .A) D (stays (D .signature .params) (D .kept) ps) c .post y
-
-    abbrev pub Walk : Bound → Type 1
+    abbrev pub Walk : Bound 𝓤 H (𝓖 .A) D ps c → Type 1
     Walk y = (bs : Blocks (f .locals)) → Sq (givenOf 𝓤 H 𝓜 𝓖)
         (at-entry (D .signature .lifetimes) (y .0 .0) (y .0 .1) (typesAt (D .signature .params) (y .0 .0)) (y .0 .3) (y .0 .4)
         ++ laid (envOf (f .locals) bs) (empty ∷ each-full (flat (typesAt (D .signature .params) (y .0 .0)) (y .0 .4))) [])
         (runs (𝓣of 𝓤 H 𝓜 𝓖 𝓡 env .C) (𝓣of 𝓤 H 𝓜 𝓖 𝓡 env .Λ) (envOf (f .locals) bs) (f .body)
-        (atRet (envOf (f .locals) bs) (End y)))
+        (atRet (envOf (f .locals) bs) (End 𝓤 H (𝓖 .A) D ps c y)))
 
     module _ (key : Name) (closed : Closed 𝓤 H (tables 𝓤 H 𝓜 𝓡 env .C) (tables 𝓤 H 𝓜 𝓡 env .Λ) key f) (fits : Fitting 𝓤 D ps c f) where
       pub walk-with : (φ : Start 𝓤 D ps c → Type 0) → ((z : Start 𝓤 D ps c) → ent 𝓤 (c (z .κs) (z .a) .requires (z .g)) (fact 𝓤 (φ z)))
-          → ((z : Start 𝓤 D ps c) → φ z → Walk (bound z))
+          → ((z : Start 𝓤 D ps c) → φ z → Walk (bound 𝓤 H (𝓖 .A) D ps c z))
           → Meets 𝓤 H (𝓖 .A) (D .signature) (tables 𝓤 H 𝓜 𝓡 env .C key) (closing 𝓤 H (𝓖 .A) D c)
       walk-with φ asks walk =
           let A = 𝓖 .A in
@@ -140,7 +141,7 @@ module _ {M : Type 1} (𝓤 : URA M) (H : Heap 𝓤) (𝓜 : Model 𝓤 H) (𝓖
           (enters-with {W = W} ! {Γ = at-entry (D .signature .lifetimes) κs qs Rs a vss} (T .C) (T .Λ) f (flat Rs vss) _
           (λ bs. fits z bs (fit 𝓤 D ps c W z)) (walk z pre) .prf)))))
 
-      pub walk-in : ((z : Start 𝓤 D ps c) → Walk (bound z))
+      pub walk-in : ((z : Start 𝓤 D ps c) → Walk (bound 𝓤 H (𝓖 .A) D ps c z))
           → Meets 𝓤 H (𝓖 .A) (D .signature) (tables 𝓤 H 𝓜 𝓡 env .C key) (closing 𝓤 H (𝓖 .A) D c)
       walk-in walk = walk-with (λ z. Unit {0}) (λ z. via 𝓤 _ (top 𝓤 _) (factI 𝓤 (Unit {0}) (emp 𝓤) tt)) (λ z _. walk z)
 
@@ -154,9 +155,9 @@ module _ {M : Type 1} (𝓤 : URA M) (H : Heap 𝓤) (𝓜 : Model 𝓤 H) (𝓖
   -- what is to be shown of the function's code
   abbrev pub Passes : Start 𝓤 D ps c → Type 1
   Passes z = (bs : Blocks (f .locals)) → Sq (givenOf 𝓤 H 𝓜 𝓖)
-      (raw (Whole .pre (bound 𝓤 H 𝓜 𝓖 𝓡 env f D ps c z)) ∷ laid (envOf (f .locals) bs) (empty ∷ each-full (passed 𝓤 D ps c z)) [])
+      (raw (Whole .pre (bound 𝓤 H (𝓖 .A) D ps c z)) ∷ laid (envOf (f .locals) bs) (empty ∷ each-full (passed 𝓤 D ps c z)) [])
       (runs (𝓣of 𝓤 H 𝓜 𝓖 𝓡 env .C) (𝓣of 𝓤 H 𝓜 𝓖 𝓡 env .Λ) (envOf (f .locals) bs) (f .body)
-      (atRet (envOf (f .locals) bs) (Whole .post (bound 𝓤 H 𝓜 𝓖 𝓡 env f D ps c z))))
+      (atRet (envOf (f .locals) bs) (Whole .post (bound 𝓤 H (𝓖 .A) D ps c z))))
 
   pub pass-in : (key : Name) → Closed 𝓤 H (tables 𝓤 H 𝓜 𝓡 env .C) (tables 𝓤 H 𝓜 𝓡 env .Λ) key f → Fitting 𝓤 D ps c f
       → ((z : Start 𝓤 D ps c) → Passes z) → Meets 𝓤 H (𝓖 .A) (D .signature) (tables 𝓤 H 𝓜 𝓡 env .C key) (closing 𝓤 H (𝓖 .A) D c)
@@ -174,7 +175,7 @@ module _ {M : Type 1} (𝓤 : URA M) (H : Heap 𝓤) (𝓜 : Model 𝓤 H) (𝓖
       (monoL 𝓤 P (said 𝓤 H (𝓖 .A) (D .signature) (y .0 .0) (y .0 .1) (sp (y .0 .0)) (all-tell (D .signature .params) (D .kept) ps (y .0 .0)) (y .0 .3)
       (λ us. wand 𝓤 P (Q us)) (y .0 .4) (λ are.
       let z : Start 𝓤 D ps c = record { κs = y .0 .0; qs = y .0 .1; bounds = y .0 .2; a = y .0 .3; g = y .1; are = are } in
-      wandI 𝓤 _ P _ (enters-with {W = W} ! {Γ = raw (Whole .pre (bound 𝓤 H 𝓜 𝓖 𝓡 env f D ps c z)) ∷ []} (T .C) (T .Λ) f
+      wandI 𝓤 _ P _ (enters-with {W = W} ! {Γ = raw (Whole .pre (bound 𝓤 H (𝓖 .A) D ps c z)) ∷ []} (T .C) (T .Λ) f
       (passed 𝓤 D ps c z) _
       (λ bs. fits z bs (fit 𝓤 D ps c W z)) (k z) .prf))))
       (comm∗ 𝓤 (wand 𝓤 P (Q (y .0 .4))) P))

@@ -84,7 +84,7 @@ module _ {M : Type 1} (𝓤 : kit.URA M) (H : kit.Heap 𝓤) (𝓜 : kit.Model �
   abbrev clauses : kit.Clauses 𝓤 nth.ended
   clauses = nth.clauses 𝓤 H A (𝓜 .mem) (𝓡 .run)
 
-  abbrev y : Bound 𝓤 H 𝓜 𝓖 𝓡 code.env code.function nth.ended params clauses
+  abbrev y : Bound 𝓤 H A nth.ended params clauses
   y = (((κ, tt), (q, tt), tt, (s, (k, tt)), (v ∷ [], (vint w64 k ∷ [], tt))), tt)
 
   -- the reader after i steps, and the item it then gives
@@ -95,7 +95,7 @@ module _ {M : Type 1} (𝓤 : kit.URA M) (H : kit.Heap 𝓤) (𝓜 : kit.Model �
   it i = itemAt (rd i)
 
   abbrev Post : Val → SProp 𝓤
-  Post = End 𝓤 H 𝓜 𝓖 𝓡 code.env code.function nth.ended params clauses y
+  Post = End 𝓤 H A nth.ended params clauses y
 
   abbrev Own : kit.Fml
   Own = kit.ShrSlice (named 0) κ u8 .own s (v ∷ [])

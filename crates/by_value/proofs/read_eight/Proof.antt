@@ -53,7 +53,7 @@ module _ {M : Type 1} (𝓤 : kit.URA M) (H : kit.Heap 𝓤) (𝓜 : kit.Model �
   abbrev clauses : kit.Clauses 𝓤 eight.ended
   clauses = eight.clauses 𝓤 H A (𝓜 .mem) (𝓡 .run)
 
-  abbrev y : Bound 𝓤 H 𝓜 𝓖 𝓡 code.env code.function eight.ended params clauses
+  abbrev y : Bound 𝓤 H A eight.ended params clauses
   y = (((κ, tt), (q, tt), tt, (s, (mark, tt)), (v ∷ [], (U′.lowered mark ∷ [], tt))), tt)
 
   -- the list that is lent, and what it becomes
@@ -70,7 +70,7 @@ module _ {M : Type 1} (𝓤 : kit.URA M) (H : kit.Heap 𝓤) (𝓜 : kit.Model �
   ans = readAnswer xs 8
 
   abbrev Post : Val → SProp 𝓤
-  Post = End 𝓤 H 𝓜 𝓖 𝓡 code.env code.function eight.ended params clauses y
+  Post = End 𝓤 H A eight.ended params clauses y
 
   abbrev Own : Fml
   Own = kit.ShrSlice (named 0) κ u8 .own s (v ∷ [])

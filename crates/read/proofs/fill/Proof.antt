@@ -54,9 +54,6 @@ module _ {M : Type 1} (𝓤 : kit.URA M) (H : kit.Heap 𝓤) (𝓜 : kit.Model �
   abbrev 𝓣 : kit.Tables 𝓤 H
   𝓣 = 𝓣of 𝓤 H 𝓜 𝓖 𝓡 code.env
 
-  fm : kit.FmC 𝓤 H (W .laws) (𝓣 .C)
-  fm = kit.fmOf 𝓤 H (W .laws) 𝓣
-
   abbrev xs : List ℕ
   xs = s .now
 
@@ -73,7 +70,7 @@ module _ {M : Type 1} (𝓤 : kit.URA M) (H : kit.Heap 𝓤) (𝓜 : kit.Model �
   abbrev clauses : kit.Clauses 𝓤 fill.ended
   clauses = fill.clauses 𝓤 H A (𝓜 .mem) (𝓡 .run)
 
-  abbrev y : Bound 𝓤 H 𝓜 𝓖 𝓡 code.env code.function fill.ended params clauses
+  abbrev y : Bound 𝓤 H A fill.ended params clauses
   y = (
     ((κ, (κ′, tt)), (q, (q′, tt)), tt, (s, (r, (x ys, (start, tt)))), (vs ∷ [], (R′.lowered r ∷ [], (vo ∷ [], (vint w64 start ∷ [], tt))))),
     tt,
@@ -87,7 +84,7 @@ module _ {M : Type 1} (𝓤 : kit.URA M) (H : kit.Heap 𝓤) (𝓜 : kit.Model �
   last = storedFrom xs r start (r .most) 0 ys
 
   abbrev Post : Val → SProp 𝓤
-  Post = End 𝓤 H 𝓜 𝓖 𝓡 code.env code.function fill.ended params clauses y
+  Post = End 𝓤 H A fill.ended params clauses y
 
   -- the string, with its token
   abbrev Own : kit.Fml
@@ -198,7 +195,7 @@ module _ {M : Type 1} (𝓤 : kit.URA M) (H : kit.Heap 𝓤) (𝓜 : kit.Model �
         (λ test.
         let less : g .0 < r .most = ltb→lt (g .0) (r .most) test in
         -- whether a unit of the form stands there
-        calls ! fm 0 refl twice stands-at.ended (stands-at.clauses 𝓤 H A (𝓜 .mem) (𝓡 .run))
+        calls ! 𝓣 0 refl twice stands-at.ended (stands-at.clauses 𝓤 H A (𝓜 .mem) (𝓡 .run))
         (cites 𝓤 H 𝓜 𝓖 𝓡 code.env code.calls-read·spans·stands-at (stands-at.Met.met 𝓤 H 𝓜 𝓖 𝓡))
         (((κ, tt), (q, tt), tt, (s, (r, (g .0, tt))), (vs ∷ [], (R′.lowered r ∷ [], (vint w64 (g .0) ∷ [], tt)))), tt) (the-one W κ q)
         (id⊢ 𝓤 _ & plain W O span r is-r & plain W O number (g .0) (refl, omega (arith, less, most-fits)) & all)
@@ -207,7 +204,7 @@ module _ {M : Type 1} (𝓤 : kit.URA M) (H : kit.Heap 𝓤) (𝓜 : kit.Model �
         kit.branches ! (var ! 13 refl)
         (λ yes-b.
         -- the unit
-        calls ! fm 0 refl twice nth.ended (nth.clauses 𝓤 H A (𝓜 .mem) (𝓡 .run))
+        calls ! 𝓣 0 refl twice nth.ended (nth.clauses 𝓤 H A (𝓜 .mem) (𝓡 .run))
         (cites 𝓤 H 𝓜 𝓖 𝓡 code.env code.calls-read·spans·nth (nth.Met.met 𝓤 H 𝓜 𝓖 𝓡))
         (((κ, tt), (q, tt), tt, (s, (r, (g .0, tt))), (vs ∷ [], (R′.lowered r ∷ [], (vint w64 (g .0) ∷ [], tt)))), tt) (the-one W κ q)
         (id⊢ 𝓤 _ & plain W O span r is-r & plain W O number (g .0) (refl, omega (arith, less, most-fits)) & all)

@@ -68,9 +68,6 @@ module _ {M : Type 1} (𝓤 : kit.URA M) (H : kit.Heap 𝓤) (𝓜 : kit.Model �
   abbrev 𝓣 : kit.Tables 𝓤 H
   𝓣 = 𝓣of 𝓤 H 𝓜 𝓖 𝓡 code.env
 
-  fm : kit.FmC 𝓤 H (W .laws) (𝓣 .C)
-  fm = kit.fmOf 𝓤 H (W .laws) 𝓣
-
   abbrev xs : List ℕ
   xs = s .now
 
@@ -87,7 +84,7 @@ module _ {M : Type 1} (𝓤 : kit.URA M) (H : kit.Heap 𝓤) (𝓜 : kit.Model �
   abbrev clauses : kit.Clauses 𝓤 read.ended
   clauses = read.clauses 𝓤 H A (𝓜 .mem) (𝓡 .run)
 
-  abbrev y : Bound 𝓤 H 𝓜 𝓖 𝓡 code.env code.function read.ended params clauses
+  abbrev y : Bound 𝓤 H A read.ended params clauses
   y = (((κ, (κ′, tt)), (q, (q′, tt)), tt, (s, (x γ ys, tt)), (vs ∷ [], (vo ∷ [], tt))), tt)
 
   -- the answer, and how many units are stored
@@ -101,7 +98,7 @@ module _ {M : Type 1} (𝓤 : kit.URA M) (H : kit.Heap 𝓤) (𝓜 : kit.Model �
   same i = length-fill (unitAt xs) (after xs) i first ys
 
   abbrev Post : Val → SProp 𝓤
-  Post = End 𝓤 H 𝓜 𝓖 𝓡 code.env code.function read.ended params clauses y
+  Post = End 𝓤 H A read.ended params clauses y
 
   -- the string with its token, and the list
   abbrev Own : Fml
@@ -201,7 +198,7 @@ module _ {M : Type 1} (𝓤 : kit.URA M) (H : kit.Heap 𝓤) (𝓜 : kit.Model �
         let less : i .0 < n = ltb→lt (i .0) n test in
         -- the span at the cursor
         sets ! 7 (bin ! (var ! 21 refl) (var ! 17 refl) (i .1 .0)) refl (in64 (omega (arith, n-fits))) $
-        calls ! fm 0 refl twice span-at.ended (span-at.clauses 𝓤 H A (𝓜 .mem) (𝓡 .run))
+        calls ! 𝓣 0 refl twice span-at.ended (span-at.clauses 𝓤 H A (𝓜 .mem) (𝓡 .run))
         (cites 𝓤 H 𝓜 𝓖 𝓡 code.env code.calls-read·spans·span-at (span-at.Met.met 𝓤 H 𝓜 𝓖 𝓡)) (
           (
             (κ, tt),
@@ -218,7 +215,7 @@ module _ {M : Type 1} (𝓤 : kit.URA M) (H : kit.Heap 𝓤) (𝓜 : kit.Model �
         -- the list is borrowed again, and `fill` stores the units
         sets ! 5 (behind ! 25 refl refl) refl (tt, tt) $
         sets ! 3 (resliced ! 5 25 refl refl refl) refl (sliced (room .0)) $
-        lends ! fm U.the-row κ′ q′ γ b o (length ys) (got xs ys (i .0)) twice room (same (i .0)) fill.ended
+        lends ! 𝓣 U.the-row κ′ q′ γ b o (length ys) (got xs ys (i .0)) twice room (same (i .0)) fill.ended
         (fill.clauses 𝓤 H A (𝓜 .mem) (𝓡 .run))
         (cites 𝓤 H 𝓜 𝓖 𝓡 code.env code.calls-read·fill (fill.Met.met 𝓤 H 𝓜 𝓖 𝓡)) (vint w64 (count (i .0)))
         (Is kit.usize (count (i .0)) (vint w64 (count (i .0)) ∷ [])) (λ l. l ≡ got xs ys (i .0 + count (i .0)))
@@ -247,7 +244,7 @@ module _ {M : Type 1} (𝓤 : kit.URA M) (H : kit.Heap 𝓤) (𝓜 : kit.Model �
         }) (λ ν δ. arg ! 27 refl (arg ! 15 refl (arg ! 3 refl (arg ! 17 refl (no-more !))))) (λ l is-k e.
         kit.rewrite ! 1 (λ (w : List UnitRecord). ‵ (Units w)) e refl $ lands-in ! 13 refl (number .typed 𝓤 H A W (count (i .0)) is-k) $
         -- the cursor and the number move on
-        calls ! fm 0 refl twice moved.ended (moved.clauses 𝓤 H A (𝓜 .mem) (𝓡 .run))
+        calls ! 𝓣 0 refl twice moved.ended (moved.clauses 𝓤 H A (𝓜 .mem) (𝓡 .run))
         (cites 𝓤 H 𝓜 𝓖 𝓡 code.env code.calls-read·spans·moved (moved.Met.met 𝓤 H 𝓜 𝓖 𝓡))
         ((tt, tt, tt, (span (i .0), (count (i .0), tt)), (R′.lowered (span (i .0)) ∷ [], (vint w64 (count (i .0)) ∷ [], tt))), tt) (none W (A .lft κ q))
         (plain W O a-span (span (i .0)) is-r & plain W O number (count (i .0)) is-k & all) (kit.factI 𝓤 _ (kit.emp 𝓤) (place-fits (i .0)))
@@ -272,18 +269,18 @@ module _ {M : Type 1} (𝓤 : kit.URA M) (H : kit.Heap 𝓤) (𝓜 : kit.Model �
       -- [the tokens of the string and of the list; what they own; the locals]
       move ! (0 ∷ 2 ∷ []) $ join ! $ move ! (0 ∷ 2 ∷ []) $
       sets ! 11 (of-opd ! (part ! 25 1 refl refl refl)) refl (in64 (room .0)) $
-      calls ! fm 0 refl twice answer.ended (answer.clauses 𝓤 H A (𝓜 .mem) (𝓡 .run))
+      calls ! 𝓣 0 refl twice answer.ended (answer.clauses 𝓤 H A (𝓜 .mem) (𝓡 .run))
       (cites 𝓤 H 𝓜 𝓖 𝓡 code.env code.calls-read·answer (answer.Met.met 𝓤 H 𝓜 𝓖 𝓡))
       (((κ, tt), (q, tt), tt, (s, (length ys, tt)), (vs ∷ [], (vint w64 (length ys) ∷ [], tt))), tt) (the-one W κ q)
       (id⊢ 𝓤 _ & plain W O number (length ys) (refl, room .0) & all) (id⊢ 𝓤 _) ans (λ r e. id⊢ 𝓤 _) an-answer
       (arg ! 27 refl (arg ! 11 refl (no-more !)))
       (λ is-ans ok. lands-in ! 23 refl ok $
-      calls ! fm 0 refl twice stored.ended (stored.clauses 𝓤 H A (𝓜 .mem) (𝓡 .run))
+      calls ! 𝓣 0 refl twice stored.ended (stored.clauses 𝓤 H A (𝓜 .mem) (𝓡 .run))
       (cites 𝓤 H 𝓜 𝓖 𝓡 code.env code.calls-read·stored (stored.Met.met 𝓤 H 𝓜 𝓖 𝓡))
       ((tt, tt, tt, (ans, tt), (N′.lowered ans ∷ [], tt)), tt)
       (none W (A .lft κ q)) (plain W O an-answer ans is-ans & all) (id⊢ 𝓤 _) n (λ r e. id⊢ 𝓤 _) number (arg ! 23 refl (no-more !))
       (λ is-n ok. lands-in ! 21 refl ok $
-      calls ! fm 0 refl twice first-fn.ended (first-fn.clauses 𝓤 H A (𝓜 .mem) (𝓡 .run))
+      calls ! 𝓣 0 refl twice first-fn.ended (first-fn.clauses 𝓤 H A (𝓜 .mem) (𝓡 .run))
       (cites 𝓤 H 𝓜 𝓖 𝓡 code.env code.calls-cursor·Cursor·first (first-fn.Met.met 𝓤 H 𝓜 𝓖 𝓡)) ((tt, tt, tt, tt, tt), tt)
       (none W (A .lft κ q))
       all (id⊢ 𝓤 _) first (λ r e. id⊢ 𝓤 _) a-cursor (no-more !) (λ is-first ok. lands-in ! 19 refl ok $

@@ -89,7 +89,7 @@ module _ {M : Type 1} (𝓤 : kit.URA M) (H : kit.Heap 𝓤) (𝓜 : kit.Model �
     abbrev clauses : kit.Clauses 𝓤 next.ended
     clauses = next.clauses 𝓤 H A (𝓜 .mem) (𝓡 .run)
 
-    abbrev y : Bound 𝓤 H 𝓜 𝓖 𝓡 code.env code.function next.ended params clauses
+    abbrev y : Bound 𝓤 H A next.ended params clauses
     y = (((κ, (κ′, tt)), (q, (q′, tt)), bounds, (record { ptr = (b, o); name = γ; now = h }, tt), (vptr b o ∷ [], tt)), tt)
 
     abbrev v : Val
@@ -103,7 +103,7 @@ module _ {M : Type 1} (𝓤 : kit.URA M) (H : kit.Heap 𝓤) (𝓜 : kit.Model �
     Octets = kit.ShrSlice (named 1) κ′ u8 .own (h .octets) (v ∷ [])
 
     abbrev Post : Val → SProp 𝓤
-    Post = End 𝓤 H 𝓜 𝓖 𝓡 code.env code.function next.ended params clauses y
+    Post = End 𝓤 H A next.ended params clauses y
 
     abbrev O : SProp 𝓤
     O = kit.sem 𝓤 H A Octets
@@ -140,7 +140,7 @@ module _ {M : Type 1} (𝓤 : kit.URA M) (H : kit.Heap 𝓤) (𝓜 : kit.Model �
         use1 W (‵ (kit.ownAt (D .parts) L 0 (h .octets)) ⊛ ‵ (kit.rest (D .parts) L 0 fields)) (kit.own-out 𝓤 H A W (D .parts) L 0 fields) $
         split ! $ move ! (1 ∷ []) $ kit.let-go ! $ use1 W (‵ Octets) (id⊢ 𝓤 _) $ move ! (5 ∷ 0 ∷ []) $ join ! $
         let owed = LL.owed D L h _ is-h in
-        calls ! (kit.fmOf 𝓤 H (W .laws) (𝓣of 𝓤 H 𝓜 𝓖 𝓡 code.env)) 0 refl
+        calls ! (𝓣of 𝓤 H 𝓜 𝓖 𝓡 code.env) 0 refl
         (kit.shr-slice-copy 𝓤 H A W (named 1) κ′ u8 .twice (h .octets) (v ∷ []))
         step.ended (step.clauses 𝓤 H A (𝓜 .mem) (𝓡 .run))
         (cites 𝓤 H 𝓜 𝓖 𝓡 code.env code.calls-reader·step (step.Met.met 𝓤 H 𝓜 𝓖 𝓡)) (

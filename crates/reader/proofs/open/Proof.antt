@@ -58,11 +58,11 @@ module _ {M : Type 1} (𝓤 : kit.URA M) (H : kit.Heap 𝓤) (𝓜 : kit.Model �
   abbrev clauses : kit.Clauses 𝓤 opn.ended
   clauses = opn.clauses 𝓤 H A (𝓜 .mem) (𝓡 .run)
 
-  abbrev y : Bound 𝓤 H 𝓜 𝓖 𝓡 code.env code.function opn.ended params clauses
+  abbrev y : Bound 𝓤 H A opn.ended params clauses
   y = (((κ, tt), (q, tt), tt, (s, tt), (v ∷ [], tt)), tt)
 
   exits : Sq W (‵ (kit.flft κ q) ∷ ‵ (kit.ShrSlice (named 0) κ u8 .own s (v ∷ [])) ∷ [])
-      (kit.prop (End 𝓤 H 𝓜 𝓖 𝓡 code.env code.function opn.ended params clauses y (T′.lowered made)))
+      (kit.prop (End 𝓤 H A opn.ended params clauses y (T′.lowered made)))
   exits =
       kit.suffices ! _ (kit.ends-at 𝓤 H A opn.ended (stays (opn.signature .params) (opn.ended .kept) params) clauses W y (T′.lowered made) made
       (tt, tt) (tt, tt)) $ kit.says ! refl $ nothing ! $ joins ! 0 refl $ frame ! $ copies ! (named 0) κ u8 s (v ∷ []) $

@@ -67,9 +67,6 @@ module _ {M : Type 1} (𝓤 : kit.URA M) (H : kit.Heap 𝓤) (𝓜 : kit.Model �
   abbrev 𝓣 : kit.Tables 𝓤 H
   𝓣 = 𝓣of 𝓤 H 𝓜 𝓖 𝓡 code.env
 
-  fm : kit.FmC 𝓤 H (W .laws) (𝓣 .C)
-  fm = kit.fmOf 𝓤 H (W .laws) 𝓣
-
   abbrev us : List UnitRecord
   us = s .now
 
@@ -92,14 +89,14 @@ module _ {M : Type 1} (𝓤 : kit.URA M) (H : kit.Heap 𝓤) (𝓜 : kit.Model �
   abbrev clauses : kit.Clauses 𝓤 stow.ended
   clauses = stow.clauses 𝓤 H A (𝓜 .mem) (𝓡 .run)
 
-  abbrev y : Bound 𝓤 H 𝓜 𝓖 𝓡 code.env code.function stow.ended params clauses
+  abbrev y : Bound 𝓤 H A stow.ended params clauses
   y = (
     ((κ₀, (κ₁, (κ₂, tt))), (q₀, (q₁, (q₂, tt))), tt, (s, (t, (x γ ys, tt))), (vs ∷ [], (vt ∷ [], (vw ∷ [], tt)))),
     tt,
   )
 
   abbrev Post : Val → SProp 𝓤
-  Post = End 𝓤 H 𝓜 𝓖 𝓡 code.env code.function stow.ended params clauses y
+  Post = End 𝓤 H A stow.ended params clauses y
 
   -- the units and the segments, each with its token, and the room
   abbrev Own₀ : Fml
@@ -224,7 +221,7 @@ module _ {M : Type 1} (𝓤 : kit.URA M) (H : kit.Heap 𝓤) (𝓜 : kit.Model �
         -- the room is borrowed again, for `turn`
         sets ! 10 (behind ! 30 refl refl) refl (tt, tt) $
         sets ! 8 (resliced ! 10 30 refl refl refl) refl (sliced (room .0)) $ move ! (1 ∷ 2 ∷ 3 ∷ []) $
-        lends ! fm u8 κ₂ q₂ γ b o (length ys) (g .1 .0) twice₁ room (g .1 .1 .1 .0 .same) turn.ended (turn.clauses 𝓤 H A (𝓜 .mem) (𝓡 .run))
+        lends ! 𝓣 u8 κ₂ q₂ γ b o (length ys) (g .1 .0) twice₁ room (g .1 .1 .1 .0 .same) turn.ended (turn.clauses 𝓤 H A (𝓜 .mem) (𝓡 .run))
         (cites 𝓤 H 𝓜 𝓖 𝓡 code.env code.calls-check-list·turn (turn.Met.met 𝓤 H 𝓜 𝓖 𝓡)) (mach (next (g .0))) (IsP (next (g .0)))
         (λ l. l ≡ turned g) (λ ν δ. (
           (
@@ -255,7 +252,7 @@ module _ {M : Type 1} (𝓤 : kit.URA M) (H : kit.Heap 𝓤) (𝓜 : kit.Model �
         recasts ! 16 (vint w64) (add-one (g .0)) refl $
         sets ! 6 (behind ! 30 refl refl) refl (tt, tt) $
         sets ! 4 (resliced ! 6 30 refl refl refl) refl (sliced (room .0)) $ move ! (3 ∷ 1 ∷ 2 ∷ []) $
-        lends ! fm u8 κ₂ q₂ γ b o (length ys) (turned g) twice₀ room
+        lends ! 𝓣 u8 κ₂ q₂ γ b o (length ys) (turned g) twice₀ room
         (length-room (next (g .0)) (unit (g .0)) (g .0) (g .1 .0) ∙ g .1 .1 .1 .0 .same) quickly.ended (quickly.clauses 𝓤 H A (𝓜 .mem) (𝓡 .run))
         (cites 𝓤 H 𝓜 𝓖 𝓡 code.env code.calls-write·stow-quickly (quickly.Met.met 𝓤 H 𝓜 𝓖 𝓡)) (vint w64 (fin (g .0)))
         (Is kit.usize (fin (g .0)) (vint w64 (fin (g .0)) ∷ [])) (Kept (g .0) (turned g)) (λ ν δ. (
@@ -304,12 +301,12 @@ module _ {M : Type 1} (𝓤 : kit.URA M) (H : kit.Heap 𝓤) (𝓜 : kit.Model �
       -- [the tokens of the units, the segments and the room; what they own; the locals]
       move ! (1 ∷ 4 ∷ []) $ join ! $ move ! (1 ∷ 3 ∷ []) $ join ! $ move ! (0 ∷ 1 ∷ 3 ∷ []) $
       sets ! 20 (of-opd ! (part ! 34 1 refl refl refl)) refl (in64 (s-room .0)) $
-      calls ! fm 0 refl twice₀ looked-at.ended (looked-at.clauses 𝓤 H A (𝓜 .mem) (𝓡 .run))
+      calls ! 𝓣 0 refl twice₀ looked-at.ended (looked-at.clauses 𝓤 H A (𝓜 .mem) (𝓡 .run))
       (cites 𝓤 H 𝓜 𝓖 𝓡 code.env code.calls-check-list·looked-at (looked-at.Met.met 𝓤 H 𝓜 𝓖 𝓡))
       ((tt, tt, tt, (length us, tt), (vint w64 (length us) ∷ [], tt)), tt) (none W (A .lft κ₀ q₀))
       (plain W O₀ number (length us) (refl, s-room .0) & all) (id⊢ 𝓤 _) n (λ r e. id⊢ 𝓤 _) number (arg ! 20 refl (no-more !)) (λ is-n ok.
       lands-in ! 28 refl ok $
-      calls ! fm 0 refl twice₀ begin.ended (begin.clauses 𝓤 H A (𝓜 .mem) (𝓡 .run))
+      calls ! 𝓣 0 refl twice₀ begin.ended (begin.clauses 𝓤 H A (𝓜 .mem) (𝓡 .run))
       (cites 𝓤 H 𝓜 𝓖 𝓡 code.env code.calls-check-list·begin (begin.Met.met 𝓤 H 𝓜 𝓖 𝓡)) ((tt, tt, tt, tt, tt), tt)
       (none W (A .lft κ₀ q₀)) all
       (id⊢ 𝓤 _) begun (λ r e. id⊢ 𝓤 _) a-progress (no-more !) (λ is-p ok.

@@ -69,9 +69,6 @@ module _ {M : Type 1} (𝓤 : kit.URA M) (H : kit.Heap 𝓤) (𝓜 : kit.Model �
   abbrev 𝓣 : kit.Tables 𝓤 H
   𝓣 = 𝓣of 𝓤 H 𝓜 𝓖 𝓡 code.env
 
-  fm : kit.FmC 𝓤 H (W .laws) (𝓣 .C)
-  fm = kit.fmOf 𝓤 H (W .laws) 𝓣
-
   abbrev us : List UnitRecord
   us = s .now
 
@@ -88,7 +85,7 @@ module _ {M : Type 1} (𝓤 : kit.URA M) (H : kit.Heap 𝓤) (𝓜 : kit.Model �
   abbrev clauses : kit.Clauses 𝓤 stow-quickly.ended
   clauses = stow-quickly.clauses 𝓤 H A (𝓜 .mem) (𝓡 .run)
 
-  abbrev y : Bound 𝓤 H 𝓜 𝓖 𝓡 code.env code.function stow-quickly.ended params clauses
+  abbrev y : Bound 𝓤 H A stow-quickly.ended params clauses
   y = (
     (
       (κ₀, (κ₁, tt)),
@@ -101,7 +98,7 @@ module _ {M : Type 1} (𝓤 : kit.URA M) (H : kit.Heap 𝓤) (𝓜 : kit.Model �
   )
 
   abbrev Post : Val → SProp 𝓤
-  Post = End 𝓤 H 𝓜 𝓖 𝓡 code.env code.function stow-quickly.ended params clauses y
+  Post = End 𝓤 H A stow-quickly.ended params clauses y
 
   -- the units with their token, and the room
   abbrev Own : Fml
@@ -247,7 +244,7 @@ module _ {M : Type 1} (𝓤 : kit.URA M) (H : kit.Heap 𝓤) (𝓜 : kit.Model �
         -- the room is borrowed again, for `quick_turn`
         sets ! 5 (behind ! 21 refl refl) refl (tt, tt) $
         sets ! 3 (resliced ! 5 21 refl refl refl) refl (sliced (room .0)) $
-        lends ! fm u8 κ₁ q₁ γ b o (length ys) (got g) twice room (known g .passed .same) quick-turn.ended
+        lends ! 𝓣 u8 κ₁ q₁ γ b o (length ys) (got g) twice room (known g .passed .same) quick-turn.ended
         (quick-turn.clauses 𝓤 H A (𝓜 .mem) (𝓡 .run))
         (cites 𝓤 H 𝓜 𝓖 𝓡 code.env code.calls-check-list·quick-turn (quick-turn.Met.met 𝓤 H 𝓜 𝓖 𝓡)) (flag .val (plainOf (unit (g .0))))
         (Unit {0})
@@ -303,7 +300,7 @@ module _ {M : Type 1} (𝓤 : kit.URA M) (H : kit.Heap 𝓤) (𝓜 : kit.Model �
   walk bs =
       -- [the tokens of the units and of the room; what the progress, the units, the two numbers and the room own; the locals]
       move ! (2 ∷ 4 ∷ 5 ∷ 0 ∷ 3 ∷ []) $ let-go ! $ let-go ! $ let-go ! $ join ! $ move ! (0 ∷ 2 ∷ []) $
-      calls ! fm 0 refl twice quick-until.ended (quick-until.clauses 𝓤 H A (𝓜 .mem) (𝓡 .run))
+      calls ! 𝓣 0 refl twice quick-until.ended (quick-until.clauses 𝓤 H A (𝓜 .mem) (𝓡 .run))
       (cites 𝓤 H 𝓜 𝓖 𝓡 code.env code.calls-check-list·quick-until (quick-until.Met.met 𝓤 H 𝓜 𝓖 𝓡))
       ((tt, tt, tt, (p, (i₀, (n, tt))), (mach p ∷ [], (vint w64 i₀ ∷ [], (vint w64 n ∷ [], tt)))), tt) (none W (A .lft κ₀ q₀))
       (plain W O a-progress p is-p & plain W O number i₀ (refl, i₀-fits) & plain W O number n (refl, n-fits) & all) (id⊢ 𝓤 _) until

@@ -104,7 +104,7 @@ module _ {M : Type 1} (𝓤 : kit.URA M) (H : kit.Heap 𝓤) (𝓜 : kit.Model �
   abbrev clauses : kit.Clauses 𝓤 write.ended
   clauses = write.clauses 𝓤 H A (𝓜 .mem) (𝓡 .run)
 
-  abbrev y : Bound 𝓤 H 𝓜 𝓖 𝓡 code.env code.function write.ended params clauses
+  abbrev y : Bound 𝓤 H A write.ended params clauses
   y = (
     (
       (κ₀, (κ₁, (κ₂, (κ₃, tt)))),
@@ -117,7 +117,7 @@ module _ {M : Type 1} (𝓤 : kit.URA M) (H : kit.Heap 𝓤) (𝓜 : kit.Model �
   )
 
   abbrev Post : Val → SProp 𝓤
-  Post = End 𝓤 H 𝓜 𝓖 𝓡 code.env code.function write.ended params clauses y
+  Post = End 𝓤 H A write.ended params clauses y
 
   abbrev Units : Fml
   Units = kit.ShrSlice (named 0) κ₀ U.the-row .own s (vs ∷ [])
@@ -213,7 +213,7 @@ module _ {M : Type 1} (𝓤 : kit.URA M) (H : kit.Heap 𝓤) (𝓜 : kit.Model �
       sets ! 17 (behind ! 23 refl refl) refl (tt, tt) $
       sets ! 15 (resliced ! 17 23 refl refl refl) refl (sliced (room .0)) $
       -- [the units and the segments; the room; its token; the output; its token; the locals]
-      lends ! fm u8 κ₂ q₂ γ b o (length ys) ys twice room refl stow.ended (stow.clauses 𝓤 H A (𝓜 .mem) (𝓡 .run))
+      lends ! 𝓣 u8 κ₂ q₂ γ b o (length ys) ys twice room refl stow.ended (stow.clauses 𝓤 H A (𝓜 .mem) (𝓡 .run))
       (cites 𝓤 H 𝓜 𝓖 𝓡 code.env code.calls-write·stow (stow.Met.met 𝓤 H 𝓜 𝓖 𝓡)) (mach p) IsP Kept (λ ν δ. (
         (
           (κ₀, (κ₁, (ν ∷ [], tt))),

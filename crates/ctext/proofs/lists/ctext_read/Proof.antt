@@ -36,7 +36,7 @@ module _ {M : Type 1} (𝓤 : kit.URA M) (H : kit.Heap 𝓤) (𝓜 : kit.Model �
       sets ! 1 (resliced ! 3 5 refl refl refl) refl (sliced (z .are .1 .0 .0 .1 .0)) $
       calls-whole ! (kit.fmOf 𝓤 H (W .laws) (𝓣of 𝓤 H 𝓜 𝓖 𝓡 code.env)) read.signature (read.spec 𝓤 H (𝓖 .A) (𝓜 .mem) (𝓡 .run))
       (cites 𝓤 H 𝓜 𝓖 𝓡 code.env code.calls-read·read (read.Met.met 𝓤 H 𝓜 𝓖 𝓡))
-      (bound 𝓤 H 𝓜 𝓖 𝓡 code.env code.function read.ended params clauses z)
+      (bound 𝓤 H (𝓖 .A) read.ended params clauses z)
       (LL.lawful N.the-type N′.the-laws 𝓤 H (𝓖 .A) W) (arg ! 7 refl (arg ! 1 refl (kit.no-more !))) (λ v typed.
       lands-in ! 9 refl (typed .0) $ kit.returns ! (kit.look ! 9 refl) $ leaves ! 1 refl refl $ kit.done !)
 

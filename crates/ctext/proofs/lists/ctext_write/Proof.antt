@@ -38,7 +38,7 @@ module _ {M : Type 1} (𝓤 : kit.URA M) (H : kit.Heap 𝓤) (𝓜 : kit.Model �
       sets ! 1 (resliced ! 3 9 refl refl refl) refl (sliced (z .are .1 .1 .1 .0 .0 .1 .0)) $
       calls-whole ! (kit.fmOf 𝓤 H (W .laws) (𝓣of 𝓤 H 𝓜 𝓖 𝓡 code.env)) write.signature (write.spec 𝓤 H (𝓖 .A) (𝓜 .mem) (𝓡 .run))
       (cites 𝓤 H 𝓜 𝓖 𝓡 code.env code.calls-write·write (write.Met.met 𝓤 H 𝓜 𝓖 𝓡))
-      (bound 𝓤 H 𝓜 𝓖 𝓡 code.env code.function write.ended params clauses z)
+      (bound 𝓤 H (𝓖 .A) write.ended params clauses z)
       (LL.lawful N.the-type N′.the-laws 𝓤 H (𝓖 .A) W) (arg ! 15 refl (arg ! 13 refl (arg ! 5 refl (arg ! 1 refl (kit.no-more !))))) (λ v typed.
       lands-in ! 17 refl (typed .0) $ kit.returns ! (kit.look ! 17 refl) $ leaves ! 1 refl refl $ kit.done !)
 
