@@ -118,7 +118,8 @@ module _ (n : ℕ) (old : List ℕ) (end : ℕ) (room : 20 ≤ end) (within : en
         ∙ h .holds
 
 -- the parts of a line, each before what stands after it
-pub line-of : (number place : ℕ) (xs₀ xs₁ xs₂ xs₃ xs₄ xs₅ : List ℕ) → xs₀ ≡ [] → xs₁ ≡ (0x0A ∷ []) ++ xs₀ → xs₂ ≡ decimal place ++ xs₁
+pub line-of : (number place : ℕ) (xs₀ xs₁ xs₂ xs₃ xs₄ xs₅ : List ℕ) → xs₀ ≡ [] → xs₁ ≡ (0x0A ∷ []) ++ xs₀
+    → xs₂ ≡ decimal place ++ xs₁
     → xs₃ ≡ (0x20 ∷ 0x61 ∷ 0x74 ∷ 0x20 ∷ []) ++ xs₂ → xs₄ ≡ decimal number ++ xs₃
     → xs₅ ≡ (0x72 ∷ 0x65 ∷ 0x66 ∷ 0x75 ∷ 0x73 ∷ 0x65 ∷ 0x64 ∷ 0x20 ∷ []) ++ xs₄ → xs₅ ≡ refusalLine number place
 unfolding refusalLine

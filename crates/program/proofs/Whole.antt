@@ -43,11 +43,13 @@ pub record Line (s out : List ℕ) (number place : ℕ) : Type 0 where
   pub stays : shortestOutput s room out ≡ out
 
 -- what is printed where the answer for 65,535 octets of output is known
-printed-form : (s : List ℕ) (p c : ℕ) → shortestAnswer s room limit.octets ≡ answer refusal.accepted p c → printedOf s ≡ writing (readingOf s) (fresh .sets)
+printed-form : (s : List ℕ) (p c : ℕ) → shortestAnswer s room limit.octets ≡ answer refusal.accepted p c
+    → printedOf s ≡ writing (readingOf s) (fresh .sets)
 unfolding printedOf pick
 printed-form s p c e = rw e
 
-pub printed-line : (s : List ℕ) (n p c : ℕ) → shortestAnswer s room limit.octets ≡ answer n p c → (n ≡ refusal.accepted → ⊥) → printedOf s ≡ refusalLine n p
+pub printed-line : (s : List ℕ) (n p c : ℕ) → shortestAnswer s room limit.octets ≡ answer n p c → (n ≡ refusal.accepted → ⊥)
+    → printedOf s ≡ refusalLine n p
 unfolding printedOf pick
 printed-line s n p c e z = rw (e, ne-eqb n refusal.accepted z)
 
@@ -142,7 +144,8 @@ module _ (s : List ℕ) (ok : checkOf s .number ≡ refusal.accepted) where
     form-counted (written us v h k) q = record { counts = form-length us v h; short = h; stored = stored-form us v h k }
 
     -- any other refusal is the same for every output
-    any-output : {n p c : ℕ} → Outcome rs s room (length out) n p c → (n ≡ refusal.accepted → ⊥) → (0 < c → ⊥) → Outcome rs s room limit.octets n p c
+    any-output : {n p c : ℕ} → Outcome rs s room (length out) n p c → (n ≡ refusal.accepted → ⊥) → (0 < c → ⊥)
+        → Outcome rs s room limit.octets n p c
     any-output (long-list h) z q = long-list h
     any-output (offending h f) z q = offending h f
     any-output (short-work h f w) z q = short-work h f w

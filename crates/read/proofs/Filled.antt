@@ -42,12 +42,14 @@ abbrev pub filledTo : List ℕ → ℕ → Cursor → List UnitRecord → List U
 filledTo s n c ys = fillFrom (unitAt s) (after s) n c ys
 
 -- a turn that gives a unit, by the state of the cursor after it
-given : {r : Turn} {u : UnitRecord} {place : ℕ} {st : State} → Turns r (Gives u place st) → (to : State) × ((r ≡ turn u (cursor place to)) × Like st to)
+given : {r : Turn} {u : UnitRecord} {place : ℕ} {st : State} → Turns r (Gives u place st)
+    → (to : State) × ((r ≡ turn u (cursor place to)) × Like st to)
 given (turns {to = to} l) = (to, (refl, l))
 
 module _ (s : List ℕ) (short : length s ≤ limit.octets) where
   -- a cursor from which the next unit, if there is one, is that of the elements
-  fills : {at : ℕ} {st : State} {es : Elements} → Ahead s at st es → (c : Cursor) → (1 ≤ length (recordsFrom es) → Turns (advanceOf s c) (outcomeOf es))
+  fills : {at : ℕ} {st : State} {es : Elements} → Ahead s at st es → (c : Cursor)
+      → (1 ≤ length (recordsFrom es) → Turns (advanceOf s c) (outcomeOf es))
       → (ys : List UnitRecord) → length (recordsFrom es) ≤ length ys
       → filledTo s (length (recordsFrom es)) c ys ≡ recordsFrom es ++ drop (length (recordsFrom es)) ys
   unfolding recordsFrom outcomeOf
@@ -61,7 +63,8 @@ module _ (s : List ℕ) (short : length s ≤ limit.octets) where
       ∙ ap (λ (l : List UnitRecord). recordOf p at ∷ l) (fills a (cursor (at + size p) (g .0)) (advance-ahead s short a (g .1 .1)) ys (le-of-suc-le-suc k))
 
 -- an accepted string has at most 65,535 octets
-short-by : (s : List ℕ) (b : Bool) → ltb limit.octets (length s) ≡ b → pick b (refusedAt refusal.too-long 0) (answerOf 0 (elementsOf s)) .number ≡ refusal.accepted → length s ≤ limit.octets
+short-by : (s : List ℕ) (b : Bool) → ltb limit.octets (length s) ≡ b
+    → pick b (refusedAt refusal.too-long 0) (answerOf 0 (elementsOf s)) .number ≡ refusal.accepted → length s ≤ limit.octets
 unfolding pick
 short-by s true e z = absurd (let y : _≡_ {A = ℕ} refusal.too-long refusal.accepted = z in omega arith)
 short-by s false e z = ltb-false limit.octets (length s) e

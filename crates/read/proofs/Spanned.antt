@@ -44,17 +44,20 @@ module _ (s : List ℕ) (ys : List UnitRecord) where
     next-list j l h in-list e k g =
         let m : suc (i + j) ≡ i + suc j = omega arith in
         let u : nthOf s r j ≡ unitAt s (cur (i + j)) = ap (λ (t : Turn). t .unit) (span-turns s (cur i) n short j h e) ∙ ap (unitAt s) k in
-        ap (λ (z : List UnitRecord). set z (i + j) (nthOf s r j)) g ∙ ap (set (got (i + j)) (i + j)) u ∙ fill-suc (unitAt s) (after s) (i + j) first ys in-list ∙ ap got m
+        ap (λ (z : List UnitRecord). set z (i + j) (nthOf s r j)) g ∙ ap (set (got (i + j)) (i + j)) u ∙ fill-suc (unitAt s) (after s)
+        (i + j) first ys in-list ∙ ap got m
 
     abbrev Reached : ℕ → List UnitRecord → Type 0
     Reached k l = (l ≡ got (i + k)) × (at k ≡ cur (i + k))
 
-    goes-on : (m j : ℕ) (l : List UnitRecord) → j + m ≤ r .most → i + r .most ≤ length ys → Reached j l → Reached (countFrom s r m j) (storedFrom s r i m j l)
+    goes-on : (m j : ℕ) (l : List UnitRecord) → j + m ≤ r .most → i + r .most ≤ length ys → Reached j l
+        → Reached (countFrom s r m j) (storedFrom s r i m j l)
     unfolding countFrom storedFrom pick
     goes-on zero j l h k e = e
     goes-on (suc m) j l h k e = by (stands s r j) refl (λ u. goes-on m (suc j) (set l (i + j) (nthOf s r j)) (omega (arith, h)) k u)
       where
-        by : (b : Bool) → stands s r j ≡ b → (Reached (suc j) (set l (i + j) (nthOf s r j)) → Reached (countFrom s r m (suc j)) (storedFrom s r i m (suc j) (set l (i + j) (nthOf s r j))))
+        by : (b : Bool) → stands s r j ≡ b → (Reached (suc j) (set l (i + j) (nthOf s r j))
+            → Reached (countFrom s r m (suc j)) (storedFrom s r i m (suc j) (set l (i + j) (nthOf s r j))))
             → Reached (pick b (countFrom s r m (suc j)) j) (pick b (storedFrom s r i m (suc j) (set l (i + j) (nthOf s r j))) l)
         by true t onward = onward (next-list j l (omega (arith, h)) (omega (arith, h, k)) t (e .1) (e .0), next-cursor j (omega (arith, h)) t (e .1))
         by false t onward = e

@@ -25,8 +25,10 @@ use Rattle.element.specs.Start.{startOf, begunBy}
 use Rattle.element.proofs.Sizes.{found}
 use Rattle.grammar.proofs.Places.{at-passed}
 use Rattle.units.specs.Next.{outcomeOf, nextOf}
-use Rattle.cursor.specs.Cursor.{freed, cursor, stateIn, turn, turnOf, elementTurn, first-double, textOctet, setAt, kindAt, ifGraphic, oneOf, doubleOf, octetOf, quickOf, textTurn, advanceAt, advanceOf}
-use Rattle.read.specs.Spans.{any, ones, left-twos, right-twos, singleOf, leftFirst, hasTwo, formAt, lesserOf, anyOf, ofForm, byForm, spanOf, Fits, movedOf, stands, oneAt, twoAt, nthOf}
+use Rattle.cursor.specs.Cursor.{freed, cursor, stateIn, turn, turnOf, elementTurn, first-double, textOctet, setAt, kindAt, ifGraphic, oneOf, doubleOf, octetOf}
+use Rattle.cursor.specs.Cursor.{quickOf, textTurn, advanceAt, advanceOf}
+use Rattle.read.specs.Spans.{any, ones, left-twos, right-twos, singleOf, leftFirst, hasTwo, formAt, lesserOf, anyOf, ofForm, byForm, spanOf, Fits}
+use Rattle.read.specs.Spans.{movedOf, stands, oneAt, twoAt, nthOf}
 use Rattle.cursor.specs.declared.Cursor.{Cursor}
 use Rattle.cursor.specs.declared.Turn.{Turn}
 use Rattle.read.specs.declared.spans.Span.{Span}
@@ -96,7 +98,8 @@ two-range set e = go (ltb set first-double) refl e
 
 module _ (s : List ℕ) where
   -- an octet that is not an escape: the unit is that of text, or the element's
-  plain-turn : (at : ℕ) (to : Sets) (r : Turn) → at < length s → (getD s at 0 ≡ 0x1B → ⊥) → r ≡ textTurn s (cursor at (freed to)) → r ≡ advanceOf s (cursor at (freed to))
+  plain-turn : (at : ℕ) (to : Sets) (r : Turn) → at < length s → (getD s at 0 ≡ 0x1B → ⊥) → r ≡ textTurn s (cursor at (freed to))
+      → r ≡ advanceOf s (cursor at (freed to))
   unfolding advanceAt
   plain-turn at to r h n e = on-advance s at (cursor at (freed to)) r h (on-ne (getD s at 0) 0x1B _ _ _ n e)
 
@@ -144,18 +147,22 @@ module _ (s : List ℕ) where
         (on-quick s at (freed to) (elementTurn s (cursor at (freed to))) _ h (on-false (textOctet (getD s at 0)) _ _ _ t (lone-turn at k to h e)))
 
     -- the octet b of kind k, which is no text and leaves the state
-    blank-advance : (at b k : ℕ) (to : Sets) → at < length s → getD s at 0 ≡ b → (b ≡ 0x1B → ⊥) → textOctet b ≡ false → oneOf at b (setAt b to) ≡ lone at k
-        → ((t : List ℕ) → elementOf (b ∷ t) (freed to) ≡ Found (part k 0 0 0 1 false) (freed to)) → turn (oneAt s at to) (cursor (at + 1) (freed to)) ≡ advanceOf s (cursor at (freed to))
+    blank-advance : (at b k : ℕ) (to : Sets) → at < length s → getD s at 0 ≡ b → (b ≡ 0x1B → ⊥) → textOctet b ≡ false
+        → oneOf at b (setAt b to) ≡ lone at k
+        → ((t : List ℕ) → elementOf (b ∷ t) (freed to) ≡ Found (part k 0 0 0 1 false) (freed to))
+        → turn (oneAt s at to) (cursor (at + 1) (freed to)) ≡ advanceOf s (cursor at (freed to))
     blank-advance at b k to h e n t g f =
         let i : elementOf (from at s) (freed to) ≡ Found (part k 0 0 0 1 false) (freed to) = rw (from-octet s at h, e) (f _) in
         let j : turn (oneAt s at to) (cursor (at + 1) (freed to)) ≡ turn (lone at k) (cursor (at + 1) (freed to)) = rw (e, g) in
         j ∙ lone-advance at k to h (rw e n) (rw e t) i
 
-    tab-advance : (at : ℕ) (to : Sets) → at < length s → getD s at 0 ≡ 0x09 → turn (oneAt s at to) (cursor (at + 1) (freed to)) ≡ advanceOf s (cursor at (freed to))
+    tab-advance : (at : ℕ) (to : Sets) → at < length s → getD s at 0 ≡ 0x09
+        → turn (oneAt s at to) (cursor (at + 1) (freed to)) ≡ advanceOf s (cursor at (freed to))
     unfolding shapeOf startOf begunBy directedOf steppedOf stepOf textOctet kindAt ifGraphic pick
     tab-advance at to h e = blank-advance at 0x09 kind.tab to h e (λ q. omega arith) refl refl (λ _. refl)
 
-    newline-advance : (at : ℕ) (to : Sets) → at < length s → getD s at 0 ≡ 0x0A → turn (oneAt s at to) (cursor (at + 1) (freed to)) ≡ advanceOf s (cursor at (freed to))
+    newline-advance : (at : ℕ) (to : Sets) → at < length s → getD s at 0 ≡ 0x0A
+        → turn (oneAt s at to) (cursor (at + 1) (freed to)) ≡ advanceOf s (cursor at (freed to))
     unfolding shapeOf startOf begunBy directedOf steppedOf stepOf textOctet kindAt ifGraphic pick
     newline-advance at to h e = blank-advance at 0x0A kind.newline to h e (λ q. omega arith) refl refl (λ _. refl)
 
@@ -177,7 +184,8 @@ data FormIs (b : ℕ) (sets : Sets) : ℕ → Type 0 where
   is-left : leftFirst b ≡ true → hasTwo (sets .gl) ≡ true → FormIs b sets left-twos
   is-right : 0xA0 ≤ b → hasTwo (sets .gr) ≡ true → FormIs b sets right-twos
 
-form-pick : {b : ℕ} {sets : Sets} (t : Bool) (x y : ℕ) → (t ≡ true → FormIs b sets x) → (t ≡ false → FormIs b sets y) → FormIs b sets (pick t x y)
+form-pick : {b : ℕ} {sets : Sets} (t : Bool) (x y : ℕ) → (t ≡ true → FormIs b sets x) → (t ≡ false → FormIs b sets y)
+    → FormIs b sets (pick t x y)
 unfolding pick
 form-pick true x y h k = h refl
 form-pick false x y h k = k refl
@@ -242,13 +250,25 @@ module _ (s : List ℕ) (c : Cursor) (n : ℕ) where
 
   -- ---- its units are in the string, and there is one
   fits-by : {r : Span} → Spans r → Fits s r
-  fits-by as-any = record { of-ones = λ e. absurd (let z : _≡_ {A = ℕ} any ones = e in omega (arith, z)); of-twos = λ h. absurd (let z : ones < any = h in omega (arith, z)) }
+  fits-by as-any = record {
+    of-ones = λ e. absurd (let z : _≡_ {A = ℕ} any ones = e in omega (arith, z));
+    of-twos = λ h. absurd
+        (let z : ones < any = h in omega (arith, z));
+  }
   fits-by (as-ones h e) =
       record { of-ones = λ _. omega (arith, h, least octets n .0); of-twos = λ k. absurd (let z : ones < ones = k in omega (arith, z)) }
   fits-by (as-left h l t) =
-      record { of-ones = λ e. absurd (let z : _≡_ {A = ℕ} left-twos ones = e in omega (arith, z)); of-twos = λ _. omega (arith, h, least (octets / 2) n .0) }
+      record {
+        of-ones =
+            λ e. absurd (let z : _≡_ {A = ℕ} left-twos ones = e in omega (arith, z));
+        of-twos = λ _. omega (arith, h, least (octets / 2) n .0);
+      }
   fits-by (as-right h l t) =
-      record { of-ones = λ e. absurd (let z : _≡_ {A = ℕ} right-twos ones = e in omega (arith, z)); of-twos = λ _. omega (arith, h, least (octets / 2) n .0) }
+      record {
+        of-ones =
+            λ e. absurd (let z : _≡_ {A = ℕ} right-twos ones = e in omega (arith, z));
+        of-twos = λ _. omega (arith, h, least (octets / 2) n .0);
+      }
 
   most-by : {r : Span} → 1 ≤ n → Spans r → (r .most ≤ n) × (1 ≤ r .most)
   most-by i as-any = (i, omega arith)
@@ -313,22 +333,26 @@ module _ (s : List ℕ) (c : Cursor) (n : ℕ) where
     any-by zero h = refl
     any-by (suc j) h = absurd (omega (arith, h))
 
-    turns-by : {r : Span} → Spans r → (j : ℕ) → j < r .most → stands s r j ≡ true → turn (nthOf s r j) (stood r (suc j)) ≡ advanceOf s (stood r j)
+    turns-by : {r : Span} → Spans r → (j : ℕ) → j < r .most → stands s r j ≡ true
+        → turn (nthOf s r j) (stood r (suc j)) ≡ advanceOf s (stood r j)
     unfolding stands nthOf pick
     turns-by as-any j h e = any-by j h
     turns-by (as-ones k i) j h e =
-        rw (ones-at (lesserOf octets n) j, ones-at (lesserOf octets n) (suc j), ← (one-on j)) (one-advance s short (c .place + j) (setsIn c) (omega (arith, h, k, least octets n .0)) e)
+        rw (ones-at (lesserOf octets n) j, ones-at (lesserOf octets n) (suc j), ← (one-on j))
+        (one-advance s short (c .place + j) (setsIn c) (omega (arith, h, k, least octets n .0)) e)
     turns-by (as-left k l t) j h e =
         let i = left-range (getD s (c .place + 2 * j) 0) e in
         let u = two-range (c .gl) t in
         rw (left-at (lesserOf (octets / 2) n) j, left-at (lesserOf (octets / 2) n) (suc j), ← (two-on j))
-        (two-text s (c .place + 2 * j) (c .gl) (setsIn c) (omega (arith, h, k, least (octets / 2) n .0)) (i .0) (left-text (getD s (c .place + 2 * j) 0) (omega (arith, i .0)) (i .1))
+        (two-text s (c .place + 2 * j) (c .gl) (setsIn c) (omega (arith, h, k, least (octets / 2) n .0)) (i .0)
+        (left-text (getD s (c .place + 2 * j) 0) (omega (arith, i .0)) (i .1))
         (left-set (getD s (c .place + 2 * j) 0) (setsIn c) (i .1)) (u .0) (u .1))
     turns-by (as-right k l t) j h e =
         let i = leb-true 0xA0 (getD s (c .place + 2 * j) 0) e in
         let u = two-range (c .gr) t in
         rw (right-at (lesserOf (octets / 2) n) j, right-at (lesserOf (octets / 2) n) (suc j), ← (two-on j))
-        (two-text s (c .place + 2 * j) (c .gr) (setsIn c) (omega (arith, h, k, least (octets / 2) n .0)) (omega (arith, i)) (right-text (getD s (c .place + 2 * j) 0) i)
+        (two-text s (c .place + 2 * j) (c .gr) (setsIn c) (omega (arith, h, k, least (octets / 2) n .0)) (omega (arith, i))
+        (right-text (getD s (c .place + 2 * j) 0) i)
         (right-set (getD s (c .place + 2 * j) 0) (setsIn c) i) (u .0) (u .1))
 
     pub span-turns : (j : ℕ) → j < spanOf s c n .most → stands s (spanOf s c n) j ≡ true

@@ -62,7 +62,14 @@ setsOf r = sets (r .gl) (r .gr)
 
 abbrev pub anyOf : List ℕ → Cursor → Span
 anyOf s c =
-    record { place = advanceOf s c .cursor .place; most = 1; unit = advanceOf s c .unit; form = any; gl = advanceOf s c .cursor .gl; gr = advanceOf s c .cursor .gr }
+    record {
+      place = advanceOf s c .cursor .place;
+      most = 1;
+      unit = advanceOf s c .unit;
+      form = any;
+      gl = advanceOf s c .cursor .gl;
+      gr = advanceOf s c .cursor .gr;
+    }
 
 abbrev pub ofForm : Cursor → ℕ → ℕ → Span
 ofForm c form most = record { place = c .place; most = most; unit = blank; form = form; gl = c .gl; gr = c .gr }

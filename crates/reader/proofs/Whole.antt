@@ -65,7 +65,8 @@ module _ (s : RefT (List ℕ)) (short : length (now s) ≤ limit.octets) where
   abbrev reader : ℕ → ℕ → State → Reader
   reader place count st = record { octets = s; place = place; count = count; state = st }
 
-  step-is : (place count : ℕ) (st : State) → mayStand (length (now s)) place st ≡ true → stepOf (reader place count st) ≡ afterOf place count st (nextOf (now s) place st)
+  step-is : (place count : ℕ) (st : State) → mayStand (length (now s)) place st ≡ true
+      → stepOf (reader place count st) ≡ afterOf place count st (nextOf (now s) place st)
   unfolding stepAt pick
   step-is place count st h = rw (le-ltb limit.octets (length (now s)) short, h)
 
@@ -97,7 +98,8 @@ module _ (s : RefT (List ℕ)) (short : length (now s) ≤ limit.octets) where
       ap itemAt (sym (after-moved k (reader place count to)) ∙ ap (readerAfter k) m) ∙ h k
 
   items : {at : ℕ} {st : State} {es : Elements} → Ahead (now s) at st es → (place count : ℕ) (to : State) → Stands (reader place count to) at st es
-      → count + length (recordsFrom es) ≤ largest → (k : ℕ) → itemAt (readerAfter k (reader place count to)) ≡ itemOf k (recordsFrom es) (answerOf count es)
+      → count + length (recordsFrom es) ≤ largest → (k : ℕ) → itemAt (readerAfter k (reader place count to)) ≡ itemOf k (recordsFrom es)
+      (answerOf count es)
   unfolding recordsFrom outcomeOf answerOf afterOf endedOf itemOf pick
   items (ends e) place count to h n k =
       repeats k (reader place count to) _ (step-is place count to (h .may) ∙ ap (afterOf place count to) (h .gives))
@@ -107,7 +109,8 @@ module _ (s : RefT (List ℕ)) (short : length (now s) ≤ limit.octets) where
   items (passes t e a) place count to h n k =
       items a place count to (record { may = h .may; gives = h .gives; fit = t .fit (h .fit) }) n k
   items {at} (reads {p = p} {next = next} {es = es} t m e a) place count to h n k =
-      further place count to (recordOf p at) (at + size p) next (recordsFrom es) (answerOf (count + 1) es) (omega arith) (step-is place count to (h .may) ∙ ap (afterOf place count to) (h .gives))
+      further place count to (recordOf p at) (at + size p) next (recordsFrom es) (answerOf (count + 1) es) (omega arith)
+      (step-is place count to (h .may) ∙ ap (afterOf place count to) (h .gives))
       (items a (at + size p) (count + 1) next
       (record {
         may = may-stand (length (now s)) (at + size p) next (t .fits) (t .fit (h .fit));

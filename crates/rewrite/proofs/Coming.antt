@@ -37,7 +37,8 @@ pub record Next (s : List ℕ) (o : Outcome) (l : List UnitRecord) : Type 0 wher
   pub is : l ≡ unit ∷ rest
   pub comes : Comes s place to rest
 
-next-of : (s : List ℕ) {at : ℕ} {st : State} {es : Elements} → Ahead s at st es → 1 ≤ length (recordsFrom es) → Next s (outcomeOf es) (recordsFrom es)
+next-of : (s : List ℕ) {at : ℕ} {st : State} {es : Elements} → Ahead s at st es → 1 ≤ length (recordsFrom es)
+    → Next s (outcomeOf es) (recordsFrom es)
 unfolding recordsFrom outcomeOf
 next-of s (ends e) k = absurd (omega arith)
 next-of s (stops f e) k = absurd (omega arith)
@@ -53,5 +54,6 @@ next-of s {at} (reads {p = p} {next = next} {es = es} t m e a) k =
       comes = record { es = es; ahead = a; are = refl };
     }
 
-pub next : (s : List ℕ) → length s ≤ limit.octets → (at : ℕ) (st : State) (l : List UnitRecord) → Comes s at st l → 1 ≤ length l → Next s (nextOf s at st) l
+pub next : (s : List ℕ) → length s ≤ limit.octets → (at : ℕ) (st : State) (l : List UnitRecord) → Comes s at st l → 1 ≤ length l
+    → Next s (nextOf s at st) l
 next s short at st l h k = rw (next-ahead s short (h .ahead)) (rw (h .are) at (next-of s (h .ahead) (rw (h .are) k)))

@@ -47,7 +47,8 @@ module _ (s : List ℕ) (a : Answer) (is : a ≡ checkOf s) where
   refused-output work out z = rw (ne-eqb (checkOf s .number) refusal.accepted (λ e. z (rw is e)))
 
   -- an accepted string, none of whose records offends
-  module _ (octets : Octets s) (z : a .number ≡ refusal.accepted) (before after out : List ℕ) (stowed : Stowed s (recordsOf s) (a .count) before after) where
+  module _ (octets : Octets s) (z : a .number ≡ refusal.accepted) (before after out : List ℕ)
+      (stowed : Stowed s (recordsOf s) (a .count) before after) where
     done : Finished (recordsOf s) s (length before) out (finishAnswer begun (a .count) s after (length out)) (finishOutput begun (a .count) s after out)
     unfolding finishAnswer finishOutput
     done =

@@ -132,14 +132,17 @@ module _ {M : Type 1} {𝓤 : URA M} where
 
     swapped : (Γ Δ : List (Item 𝓤)) → ent 𝓤 (∗∗ (Γ ++ Δ)) (∗∗ (Δ ++ Γ))
     swapped Γ Δ =
-        via 𝓤 (sep 𝓤 (∗∗ Γ) (∗∗ Δ)) (⊢++ 𝓤 H A Γ Δ) (via 𝓤 (sep 𝓤 (∗∗ Δ) (∗∗ Γ)) (comm∗ 𝓤 (∗∗ Γ) (∗∗ Δ)) (++⊢ 𝓤 H A Δ Γ))
+        via 𝓤 (sep 𝓤 (∗∗ Γ) (∗∗ Δ)) (⊢++ 𝓤 H A Γ Δ) (via 𝓤 (sep 𝓤 (∗∗ Δ) (∗∗ Γ)) (comm∗ 𝓤 (∗∗ Γ) (∗∗ Δ))
+        (++⊢ 𝓤 H A Δ Γ))
 
     -- what stands before the locals stands after them, and the other way round
     under : (E : Locals) (Γ : List (Item 𝓤)) → ent 𝓤 (∗∗ (Γ ++ laid E [] [])) (∗∗ (laid E [] Γ))
-    under E Γ = subst (λ (Δ : List (Item 𝓤)). ent 𝓤 (∗∗ (Γ ++ laid E [] [])) (∗∗ Δ)) (sym (laid-after E [] [] Γ)) (swapped Γ (laid E [] []))
+    under E Γ =
+        subst (λ (Δ : List (Item 𝓤)). ent 𝓤 (∗∗ (Γ ++ laid E [] [])) (∗∗ Δ)) (sym (laid-after E [] [] Γ)) (swapped Γ (laid E [] []))
 
     over : (E : Locals) (hs : List Holds) (Γ : List (Item 𝓤)) → ent 𝓤 (∗∗ (laid E hs Γ)) (∗∗ (Γ ++ laid E hs []))
-    over E hs Γ = subst (λ (Δ : List (Item 𝓤)). ent 𝓤 (∗∗ Δ) (∗∗ (Γ ++ laid E hs []))) (sym (laid-after E hs [] Γ)) (swapped (laid E hs []) Γ)
+    over E hs Γ =
+        subst (λ (Δ : List (Item 𝓤)). ent 𝓤 (∗∗ Δ) (∗∗ (Γ ++ laid E hs []))) (sym (laid-after E hs [] Γ)) (swapped (laid E hs []) Γ)
 
     frees-laid : (E : Locals) (Γ : List (Item 𝓤)) (P : SProp 𝓤) → ent 𝓤 (∗∗ Γ) P → ent 𝓤 (∗∗ (laid E [] Γ)) (release 𝓤 H E P)
     frees-laid [] Γ P h = h

@@ -4,10 +4,7 @@ pub mod Body
 pub mod Calls
 pub mod Locals
 pub mod Filling
-pub mod Passing
-pub mod Lent
 pub mod Frame
 pub mod Steps
 pub mod Loop
 pub mod Entry
-pub mod Calling

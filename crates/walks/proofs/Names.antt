@@ -19,10 +19,10 @@ pub use prog.Model.{Model}
 pub use contract.Running.{GhostRules, Running, givenOf, tablesOf}
 pub use contract.Monad.{factI, fact-mono}
 pub use types.Kit.{drop as let-go, Given, Item, ‵, raw, given, some, later, _⊛_, ⋆, prop, runs, atRet, Sq, _$_, _∵_, !, qed, by, move, keep}
-pub use types.Kit.{use0, use1, use2, use3, split, join, pick, learn, rewrite, fsplit, fsplit3, fjoin, fjoin3, feqL, feqI, check, show, suffices, frame, await}
+pub use types.Kit.{use1, use2, use3, split, join, pick, learn, rewrite, fsplit, fsplit3, fjoin, fjoin3, feqL, feqI, check, show, suffices, frame, await}
 pub use types.Kit.{done}
 pub use types.Run.{look, look-raw, init, store, store-raw, forget, stop, hop, fld, from, load, lit, false-lit, of-opd, bin, addr}
-pub use types.Run.{and-then, no-more, assigns, assigns-last, branches, land, returns, returns-within}
+pub use types.Run.{and-then, no-more, assigns, assigns-last, branches, returns, returns-within}
 pub use types.Run.{exec}
 pub use types.Part.{agg, rep, whole, sub, look-in, store-in}
 pub use types.SemTy.{Body, cells, Arr}
@@ -32,10 +32,10 @@ pub use denote.RattleType.{RattleType, owns}
 pub use denote.Memory.{mem, cellAt}
 pub use denote.Shadow.{pureI}
 pub use denote.Laws.{Is, shows}
-pub use denote.Plain.{bool-vals, bool-tells, uint-makes, uint-vals, uint-tells, uint-lawful}
+pub use denote.Plain.{uint-makes, uint-vals, uint-tells}
 pub use denote.Builtin.{u8, usize}
 pub use denote.Ref.{RefT, NamedLft, MutRef, ptr-vals, mut-tells, mut-lawful}
-pub use denote.Slice.{sliceVal, ShrSlice, MutSlice, Room, finally, heres, codedHoleys, at-slice, slice-vals, shr-slice-tells, mut-slice-tells}
+pub use denote.Slice.{sliceVal, ShrSlice, MutSlice, Room, finally, heres, codedHoleys, at-slice, slice-vals, shr-slice-tells}
 pub use denote.Slice.{shr-slice-lawful, shr-slice-copy}
 pub use denote.Lend.{Held, lends-slice, slice-back}
 pub use denote.Index.{row, place-is, elem-out, elem-back, elem-put, opens-slice, closes-slice, looks-slice, shuts-slice}
@@ -51,5 +51,5 @@ pub use denote.Triple.Spec.{tripleOf}
 pub use denote.Triple.Statement.{Contract, Triple}
 pub use denote.Triple.Clauses.{Clauses, Lasts, lasts}
 pub use denote.Triple.Table.{cited}
-pub use denote.Triple.Walked.{says, needs, Stays, stay-none, stay-none-slice, stay-slice, stay-ref, gave-slice, walkOf, goes-none, goes-none-slice}
-pub use denote.Triple.Walked.{goes-slice, goes-ref, goes-gave-slice, Walks, ends-at, walked}
+pub use denote.Triple.Walked.{says, Stays, stay-none, stay-none-slice, stay-ref, walkOf, goes-none, goes-none-slice}
+pub use denote.Triple.Walked.{goes-ref, Walks, ends-at, walked}

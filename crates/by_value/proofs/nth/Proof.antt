@@ -84,7 +84,7 @@ module _ {M : Type 1} (𝓤 : kit.URA M) (H : kit.Heap 𝓤) (𝓜 : kit.Model �
   abbrev clauses : kit.Clauses 𝓤 nth.ended
   clauses = nth.clauses 𝓤 H A (𝓜 .mem) (𝓡 .run)
 
-  abbrev y : Bound 𝓤 H 𝓜 𝓖 𝓡 code.env code.function nth.ended params clauses
+  abbrev y : Bound 𝓤 H A nth.ended params clauses
   y = (((κ, tt), (q, tt), tt, (s, (k, tt)), (v ∷ [], (vint w64 k ∷ [], tt))), tt)
 
   -- the reader after i steps, and the item it then gives
@@ -95,7 +95,7 @@ module _ {M : Type 1} (𝓤 : kit.URA M) (H : kit.Heap 𝓤) (𝓜 : kit.Model �
   it i = itemAt (rd i)
 
   abbrev Post : Val → SProp 𝓤
-  Post = End 𝓤 H 𝓜 𝓖 𝓡 code.env code.function nth.ended params clauses y
+  Post = End 𝓤 H A nth.ended params clauses y
 
   abbrev Own : kit.Fml
   Own = kit.ShrSlice (named 0) κ u8 .own s (v ∷ [])
@@ -175,7 +175,8 @@ module _ {M : Type 1} (𝓤 : kit.URA M) (H : kit.Heap 𝓤) (𝓜 : kit.Model �
     gave-next : (ν : ℕ) (γ : GName) (u : Val)
         → ent 𝓤 (Next .post (to-next ν γ) u)
         (H .⇛ (guard 𝓤 ((u ≡ item (itemAt h)) × IsI (itemAt h)) (sep 𝓤 (mean 𝓤 H A (Tokens ν κ q)) (A .res γ (R .coded .code (moved h))))))
-    gave-next ν γ u = gave-value 𝓤 H A W next.ended (next.clauses 𝓤 H A (𝓜 .mem) (𝓡 .run)) (to-next ν γ) (itemAt h) (fres γ (R .coded .code (moved h)))
+    gave-next ν γ u =
+        gave-value 𝓤 H A W next.ended (next.clauses 𝓤 H A (𝓜 .mem) (𝓡 .run)) (to-next ν γ) (itemAt h) (fres γ (R .coded .code (moved h)))
         (gives-next ν γ) (EL.vals I.the-type I′.the-laws) (EL.tells I.the-type I′.the-laws) u
 
   -- ---- the loop
@@ -251,5 +252,6 @@ module _ {M : Type 1} (𝓤 : kit.URA M) (H : kit.Heap 𝓤) (𝓜 : kit.Model �
 pub nth-spec : {M : Type 1} → nth.Statement.statement M
 unfolding code.routine
 nth-spec 𝓤 H 𝓜 𝓖 𝓡 =
-    walk-in 𝓤 H 𝓜 𝓖 𝓡 code.env code.function nth.ended params (nth.clauses 𝓤 H (𝓖 .A) (𝓜 .mem) (𝓡 .run)) nth.Key.name (code.unfolded 𝓤 H 𝓜 𝓡)
-    (λ κs a bs fit. fit) (λ κs qs bounds a g are. walk 𝓤 H 𝓜 𝓖 𝓡 (κs .0) (qs .0) (a .0) (a .1 .0) (are .1 .0 .1))
+    walk-in 𝓤 H 𝓜 𝓖 𝓡 code.env code.function nth.ended params (nth.clauses 𝓤 H (𝓖 .A) (𝓜 .mem) (𝓡 .run)) nth.Key.name
+    (code.unfolded 𝓤 H 𝓜 𝓡)
+    (λ z bs fit. fit) (λ z. walk 𝓤 H 𝓜 𝓖 𝓡 (z .κs .0) (z .qs .0) (z .a .0) (z .a .1 .0) (z .are .1 .0 .1))

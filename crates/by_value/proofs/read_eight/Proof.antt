@@ -53,7 +53,7 @@ module _ {M : Type 1} (𝓤 : kit.URA M) (H : kit.Heap 𝓤) (𝓜 : kit.Model �
   abbrev clauses : kit.Clauses 𝓤 eight.ended
   clauses = eight.clauses 𝓤 H A (𝓜 .mem) (𝓡 .run)
 
-  abbrev y : Bound 𝓤 H 𝓜 𝓖 𝓡 code.env code.function eight.ended params clauses
+  abbrev y : Bound 𝓤 H A eight.ended params clauses
   y = (((κ, tt), (q, tt), tt, (s, (mark, tt)), (v ∷ [], (U′.lowered mark ∷ [], tt))), tt)
 
   -- the list that is lent, and what it becomes
@@ -70,7 +70,7 @@ module _ {M : Type 1} (𝓤 : kit.URA M) (H : kit.Heap 𝓤) (𝓜 : kit.Model �
   ans = readAnswer xs 8
 
   abbrev Post : Val → SProp 𝓤
-  Post = End 𝓤 H 𝓜 𝓖 𝓡 code.env code.function eight.ended params clauses y
+  Post = End 𝓤 H A eight.ended params clauses y
 
   abbrev Own : Fml
   Own = kit.ShrSlice (named 0) κ u8 .own s (v ∷ [])
@@ -135,7 +135,8 @@ module _ {M : Type 1} (𝓤 : kit.URA M) (H : kit.Heap 𝓤) (𝓜 : kit.Model �
       move ! (4 ∷ []) $ copies ! (named 0) κ u8 s (v ∷ []) $ move ! (5 ∷ 4 ∷ []) $ join ! $ move ! (1 ∷ 3 ∷ []) $ join ! $
       use2 W (raw (Reads .pre (to array ν δ))) (asks array ν δ .prf) $
       calls-ends ! (kit.fmOf 𝓤 H (W .laws) (𝓣of 𝓤 H 𝓜 𝓖 𝓡 code.env)) read.ended (read.clauses 𝓤 H A (𝓜 .mem) (𝓡 .run))
-      (cites 𝓤 H 𝓜 𝓖 𝓡 code.env code.calls-read·read (read.Met.met 𝓤 H 𝓜 𝓖 𝓡)) (to array ν δ) ans (λ (zs : List UnitRecord). zs ≡ listAfter xs marks)
+      (cites 𝓤 H 𝓜 𝓖 𝓡 code.env code.calls-read·read (read.Met.met 𝓤 H 𝓜 𝓖 𝓡)) (to array ν δ) ans
+      (λ (zs : List UnitRecord). zs ≡ listAfter xs marks)
       (λ zs. finally U.the-row δ zs) (λ m ws. gives array ν δ m ws .prf) (LL.vals N.the-type N′.the-laws) (LL.tells N.the-type N′.the-laws)
       (arg ! 12 refl (arg ! 3 refl (kit.no-more !))) (λ zs e is.
       use1 W (‵ (flft κ q) ⊛ ‵ (flft (ν ∷ []) fullShare) ⊛ ‵ ftrue) (kit.id⊢ 𝓤 _) $
@@ -159,4 +160,4 @@ pub read-eight-spec : {M : Type 1} → eight.Statement.statement M
 unfolding code.routine
 read-eight-spec 𝓤 H 𝓜 𝓖 𝓡 =
     walk-in 𝓤 H 𝓜 𝓖 𝓡 code.env code.function eight.ended params (eight.clauses 𝓤 H (𝓖 .A) (𝓜 .mem) (𝓡 .run)) eight.Key.name
-    (code.unfolded 𝓤 H 𝓜 𝓡) (λ κs a bs fit. fit) (λ κs qs bounds a g are. walk 𝓤 H 𝓜 𝓖 𝓡 (κs .0) (qs .0) (a .0) (a .1 .0) (are .1 .0))
+    (code.unfolded 𝓤 H 𝓜 𝓡) (λ z bs fit. fit) (λ z. walk 𝓤 H 𝓜 𝓖 𝓡 (z .κs .0) (z .qs .0) (z .a .0) (z .a .1 .0) (z .are .1 .0))

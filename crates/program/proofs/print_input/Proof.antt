@@ -12,9 +12,6 @@ use Rattle.program.specs.Printed.{room, printedOf, storedIn}
 use Rattle.program.proofs.print_input.Statement.{statement}
 use Rattle.program.proofs.print_input.Tie as tie
 
-slice-aggregate-print : tie.Need-slice-aggregate-print
-slice-aggregate-print c = sym (length-take-le _ _ (omega arith))
-
 returns-2 : tie.Need-returns-2
 returns-2 c =
     let args = c .before .before .before .before .before .before .before .args in
@@ -30,7 +27,7 @@ pub print-input-spec : {M : Type 1} → statement M
 print-input-spec =
     tie.close
     (tie.spec
-    slice-aggregate-print
+    (λ c. sym (length-take-le _ _ (omega arith)))
     (search needs)
     (search needs)
     (λ c. search needs)

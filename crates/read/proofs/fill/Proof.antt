@@ -18,7 +18,7 @@ use Rattle.base.proofs.Unit.Laws as U′
 use Rattle.walks.proofs.Body.{𝓣of, tests, holds, fails}
 use Rattle.walks.proofs.Data.{Data, number, flag, struct, Params, shared, lent, by-value}
 use Rattle.walks.proofs.Entry.{Bound, End, Walk, walk-with, cites}
-use Rattle.walks.proofs.Calling.{calls, plain, all, _&_, but, _&′_, the-one, beside, ends}
+use Rattle.walks.proofs.Calls.{calls, plain, all, _&_, but, _&′_, the-one, beside, ends}
 use Rattle.walks.proofs.Loop.{Turns, rounds, loop-by}
 use Rattle.walks.proofs.Frame.{empty, full, Blocks, envOf, laid, clears, leaves}
 use Rattle.walks.proofs.Steps.{var, arg, part, sets, resets-last, lands-in, recasts, in64, past}
@@ -54,9 +54,6 @@ module _ {M : Type 1} (𝓤 : kit.URA M) (H : kit.Heap 𝓤) (𝓜 : kit.Model �
   abbrev 𝓣 : kit.Tables 𝓤 H
   𝓣 = 𝓣of 𝓤 H 𝓜 𝓖 𝓡 code.env
 
-  fm : kit.FmC 𝓤 H (W .laws) (𝓣 .C)
-  fm = kit.fmOf 𝓤 H (W .laws) 𝓣
-
   abbrev xs : List ℕ
   xs = s .now
 
@@ -73,7 +70,7 @@ module _ {M : Type 1} (𝓤 : kit.URA M) (H : kit.Heap 𝓤) (𝓜 : kit.Model �
   abbrev clauses : kit.Clauses 𝓤 fill.ended
   clauses = fill.clauses 𝓤 H A (𝓜 .mem) (𝓡 .run)
 
-  abbrev y : Bound 𝓤 H 𝓜 𝓖 𝓡 code.env code.function fill.ended params clauses
+  abbrev y : Bound 𝓤 H A fill.ended params clauses
   y = (
     ((κ, (κ′, tt)), (q, (q′, tt)), tt, (s, (r, (x ys, (start, tt)))), (vs ∷ [], (R′.lowered r ∷ [], (vo ∷ [], (vint w64 start ∷ [], tt))))),
     tt,
@@ -87,7 +84,7 @@ module _ {M : Type 1} (𝓤 : kit.URA M) (H : kit.Heap 𝓤) (𝓜 : kit.Model �
   last = storedFrom xs r start (r .most) 0 ys
 
   abbrev Post : Val → SProp 𝓤
-  Post = End 𝓤 H 𝓜 𝓖 𝓡 code.env code.function fill.ended params clauses y
+  Post = End 𝓤 H A fill.ended params clauses y
 
   -- the string, with its token
   abbrev Own : kit.Fml
@@ -115,7 +112,8 @@ module _ {M : Type 1} (𝓤 : kit.URA M) (H : kit.Heap 𝓤) (𝓜 : kit.Model �
       fjoin ! $ kit.pureI ! (kit.at-slice U.the-row (x l) (vo ∷ [])) (tt, (tt, tt))
       (ap (λ (m : ℕ). sliceVal (b, o) m ∷ []) (sym same), subst (Room U.the-row) (sym same) room) $ fjoin ! $ move ! (2 ∷ 0 ∷ 1 ∷ []) $
       ends ! fill.ended params clauses y twice (beside W κ q κ′ q′) number n (refl, n-fits) (tt, (tt, (l, (tt, tt)))) (tt, (tt, (same, (tt, tt))))
-      (kit.factI 𝓤 _ (kit.emp 𝓤) (refl, e)) (id⊢ 𝓤 _ &′ plain W O span r is-r &′ but (id⊢ 𝓤 _) (plain W O number start (refl, start-fits) & all))
+      (kit.factI 𝓤 _ (kit.emp 𝓤) (refl, e))
+      (id⊢ 𝓤 _ &′ plain W O span r is-r &′ but (id⊢ 𝓤 _) (plain W O number start (refl, start-fits) & all))
 
   -- ---- the loop: its variant is how many units are passed, how many may follow, the list, and what is known of them
   record Known (j m : ℕ) (l : List UnitRecord) : Type 0 where
@@ -197,18 +195,20 @@ module _ {M : Type 1} (𝓤 : kit.URA M) (H : kit.Heap 𝓤) (𝓜 : kit.Model �
         (λ test.
         let less : g .0 < r .most = ltb→lt (g .0) (r .most) test in
         -- whether a unit of the form stands there
-        calls ! fm 0 refl twice stands-at.ended (stands-at.clauses 𝓤 H A (𝓜 .mem) (𝓡 .run))
+        calls ! 𝓣 0 refl twice stands-at.ended (stands-at.clauses 𝓤 H A (𝓜 .mem) (𝓡 .run))
         (cites 𝓤 H 𝓜 𝓖 𝓡 code.env code.calls-read·spans·stands-at (stands-at.Met.met 𝓤 H 𝓜 𝓖 𝓡))
         (((κ, tt), (q, tt), tt, (s, (r, (g .0, tt))), (vs ∷ [], (R′.lowered r ∷ [], (vint w64 (g .0) ∷ [], tt)))), tt) (the-one W κ q)
-        (id⊢ 𝓤 _ & plain W O span r is-r & plain W O number (g .0) (refl, omega (arith, less, most-fits)) & all) (kit.factI 𝓤 _ (kit.emp 𝓤) (fits, less))
+        (id⊢ 𝓤 _ & plain W O span r is-r & plain W O number (g .0) (refl, omega (arith, less, most-fits)) & all)
+        (kit.factI 𝓤 _ (kit.emp 𝓤) (fits, less))
         (stands xs r (g .0)) (λ r e. id⊢ 𝓤 _) flag (arg ! 27 refl (arg ! 25 refl (arg ! 17 refl (kit.no-more !)))) (λ is-b ok. lands-in ! 13 refl ok $
         kit.branches ! (var ! 13 refl)
         (λ yes-b.
         -- the unit
-        calls ! fm 0 refl twice nth.ended (nth.clauses 𝓤 H A (𝓜 .mem) (𝓡 .run))
+        calls ! 𝓣 0 refl twice nth.ended (nth.clauses 𝓤 H A (𝓜 .mem) (𝓡 .run))
         (cites 𝓤 H 𝓜 𝓖 𝓡 code.env code.calls-read·spans·nth (nth.Met.met 𝓤 H 𝓜 𝓖 𝓡))
         (((κ, tt), (q, tt), tt, (s, (r, (g .0, tt))), (vs ∷ [], (R′.lowered r ∷ [], (vint w64 (g .0) ∷ [], tt)))), tt) (the-one W κ q)
-        (id⊢ 𝓤 _ & plain W O span r is-r & plain W O number (g .0) (refl, omega (arith, less, most-fits)) & all) (kit.factI 𝓤 _ (kit.emp 𝓤) (fits, less))
+        (id⊢ 𝓤 _ & plain W O span r is-r & plain W O number (g .0) (refl, omega (arith, less, most-fits)) & all)
+        (kit.factI 𝓤 _ (kit.emp 𝓤) (fits, less))
         (unit g) (λ r e. id⊢ 𝓤 _) record-of (arg ! 27 refl (arg ! 25 refl (arg ! 17 refl (kit.no-more !)))) (λ is-u ok. lands-in ! 11 refl ok $
         -- its place in the list
         sets ! 9 (bin ! (var ! 21 refl) (var ! 17 refl) (record { fits = sum-fits g less })) refl (in64 (sum-fits g less)) $
@@ -261,7 +261,8 @@ pub fill-spec : {M : Type 1} → fill.Statement.statement M
 unfolding code.routine
 fill-spec 𝓤 H 𝓜 𝓖 𝓡 =
     walk-with 𝓤 H 𝓜 𝓖 𝓡 code.env code.function fill.ended params (fill.clauses 𝓤 H (𝓖 .A) (𝓜 .mem) (𝓡 .run)) fill.Key.name
-    (code.unfolded 𝓤 H 𝓜 𝓡) (λ κs a bs fit. fit) (λ κs a. Fits (a .0 .now) (a .1 .0) × (a .1 .1 .1 .0 + a .1 .0 .most ≤ length (a .1 .1 .0 .now)))
-    (λ κs a g. id⊢ 𝓤 _) (λ κs qs bounds a g are pre. walk 𝓤 H 𝓜 𝓖 𝓡 (κs .0) (κs .1 .0) (qs .0) (qs .1 .0)
-    (a .0) (a .1 .0) (a .1 .1 .0 .ptr .0) (a .1 .1 .0 .ptr .1) (a .1 .1 .0 .name) (a .1 .1 .0 .now) (a .1 .1 .1 .0)
-    (are .1 .0) (are .1 .1 .0 .0 .1) (are .1 .1 .1 .0 .1) (pre .0) (pre .1))
+    (code.unfolded 𝓤 H 𝓜 𝓡) (λ z bs fit. fit) (λ z. Fits (z .a .0 .now) (z .a .1 .0) ×
+    (z .a .1 .1 .1 .0 + z .a .1 .0 .most ≤ length (z .a .1 .1 .0 .now)))
+    (λ z. id⊢ 𝓤 _) (λ z pre. walk 𝓤 H 𝓜 𝓖 𝓡 (z .κs .0) (z .κs .1 .0) (z .qs .0) (z .qs .1 .0)
+    (z .a .0) (z .a .1 .0) (z .a .1 .1 .0 .ptr .0) (z .a .1 .1 .0 .ptr .1) (z .a .1 .1 .0 .name) (z .a .1 .1 .0 .now) (z .a .1 .1 .1 .0)
+    (z .are .1 .0) (z .are .1 .1 .0 .0 .1) (z .are .1 .1 .1 .0 .1) (pre .0) (pre .1))

@@ -17,7 +17,7 @@ use Rattle.base.proofs.Answer.Laws as N′
 use Rattle.walks.proofs.Body.{𝓣of, tests}
 use Rattle.walks.proofs.Data.{Data, number, struct, Params, shared, lent}
 use Rattle.walks.proofs.Entry.{Bound, End, Walk, walk-in, cites}
-use Rattle.walks.proofs.Calling.{calls, lends, plain, all, _&_, but, _&′_, none, the-one, beside, ends}
+use Rattle.walks.proofs.Calls.{calls, lends, plain, all, _&_, but, _&′_, none, the-one, beside, ends}
 use Rattle.walks.proofs.Loop.{Turns, rounds, loop-by}
 use Rattle.walks.proofs.Frame.{empty, full, Blocks, envOf, laid, clears, leaves}
 use Rattle.walks.proofs.Steps.{var, arg, part, sets, lands-in, lands-over, recasts, behind, resliced, in64, sliced, past, front}
@@ -68,9 +68,6 @@ module _ {M : Type 1} (𝓤 : kit.URA M) (H : kit.Heap 𝓤) (𝓜 : kit.Model �
   abbrev 𝓣 : kit.Tables 𝓤 H
   𝓣 = 𝓣of 𝓤 H 𝓜 𝓖 𝓡 code.env
 
-  fm : kit.FmC 𝓤 H (W .laws) (𝓣 .C)
-  fm = kit.fmOf 𝓤 H (W .laws) 𝓣
-
   abbrev xs : List ℕ
   xs = s .now
 
@@ -87,7 +84,7 @@ module _ {M : Type 1} (𝓤 : kit.URA M) (H : kit.Heap 𝓤) (𝓜 : kit.Model �
   abbrev clauses : kit.Clauses 𝓤 read.ended
   clauses = read.clauses 𝓤 H A (𝓜 .mem) (𝓡 .run)
 
-  abbrev y : Bound 𝓤 H 𝓜 𝓖 𝓡 code.env code.function read.ended params clauses
+  abbrev y : Bound 𝓤 H A read.ended params clauses
   y = (((κ, (κ′, tt)), (q, (q′, tt)), tt, (s, (x γ ys, tt)), (vs ∷ [], (vo ∷ [], tt))), tt)
 
   -- the answer, and how many units are stored
@@ -101,7 +98,7 @@ module _ {M : Type 1} (𝓤 : kit.URA M) (H : kit.Heap 𝓤) (𝓜 : kit.Model �
   same i = length-fill (unitAt xs) (after xs) i first ys
 
   abbrev Post : Val → SProp 𝓤
-  Post = End 𝓤 H 𝓜 𝓖 𝓡 code.env code.function read.ended params clauses y
+  Post = End 𝓤 H A read.ended params clauses y
 
   -- the string with its token, and the list
   abbrev Own : Fml
@@ -201,15 +198,25 @@ module _ {M : Type 1} (𝓤 : kit.URA M) (H : kit.Heap 𝓤) (𝓜 : kit.Model �
         let less : i .0 < n = ltb→lt (i .0) n test in
         -- the span at the cursor
         sets ! 7 (bin ! (var ! 21 refl) (var ! 17 refl) (i .1 .0)) refl (in64 (omega (arith, n-fits))) $
-        calls ! fm 0 refl twice span-at.ended (span-at.clauses 𝓤 H A (𝓜 .mem) (𝓡 .run))
-        (cites 𝓤 H 𝓜 𝓖 𝓡 code.env code.calls-read·spans·span-at (span-at.Met.met 𝓤 H 𝓜 𝓖 𝓡))
-        (((κ, tt), (q, tt), tt, (s, (cur xs ys (i .0), (n - i .0, tt))), (vs ∷ [], (K′.lowered (cur xs ys (i .0)) ∷ [], (vint w64 (n - i .0) ∷ [], tt)))), tt)
-        (the-one W κ q) (id⊢ 𝓤 _ & plain W O a-cursor (cur xs ys (i .0)) (i .1 .1) & plain W O number (n - i .0) (refl, omega (arith, n-fits)) & all) (id⊢ 𝓤 _)
+        calls ! 𝓣 0 refl twice span-at.ended (span-at.clauses 𝓤 H A (𝓜 .mem) (𝓡 .run))
+        (cites 𝓤 H 𝓜 𝓖 𝓡 code.env code.calls-read·spans·span-at (span-at.Met.met 𝓤 H 𝓜 𝓖 𝓡)) (
+          (
+            (κ, tt),
+            (q, tt),
+            tt,
+            (s, (cur xs ys (i .0), (n - i .0, tt))),
+            (vs ∷ [], (K′.lowered (cur xs ys (i .0)) ∷ [], (vint w64 (n - i .0) ∷ [], tt))),
+          ),
+          tt,
+        )
+        (the-one W κ q) (id⊢ 𝓤 _ & plain W O a-cursor (cur xs ys (i .0)) (i .1 .1) & plain W O number (n - i .0) (refl, omega (arith, n-fits)) & all)
+        (id⊢ 𝓤 _)
         (span (i .0)) (λ r e. id⊢ 𝓤 _) a-span (arg ! 27 refl (arg ! 19 refl (arg ! 7 refl (no-more !)))) (λ is-r ok. lands-in ! 15 refl ok $
         -- the list is borrowed again, and `fill` stores the units
         sets ! 5 (behind ! 25 refl refl) refl (tt, tt) $
         sets ! 3 (resliced ! 5 25 refl refl refl) refl (sliced (room .0)) $
-        lends ! fm U.the-row κ′ q′ γ b o (length ys) (got xs ys (i .0)) twice room (same (i .0)) fill.ended (fill.clauses 𝓤 H A (𝓜 .mem) (𝓡 .run))
+        lends ! 𝓣 U.the-row κ′ q′ γ b o (length ys) (got xs ys (i .0)) twice room (same (i .0)) fill.ended
+        (fill.clauses 𝓤 H A (𝓜 .mem) (𝓡 .run))
         (cites 𝓤 H 𝓜 𝓖 𝓡 code.env code.calls-read·fill (fill.Met.met 𝓤 H 𝓜 𝓖 𝓡)) (vint w64 (count (i .0)))
         (Is kit.usize (count (i .0)) (vint w64 (count (i .0)) ∷ [])) (λ l. l ≡ got xs ys (i .0 + count (i .0)))
         (λ ν δ. (
@@ -224,19 +231,20 @@ module _ {M : Type 1} (𝓤 : kit.URA M) (H : kit.Heap 𝓤) (𝓜 : kit.Model �
         ))
         (record {
           tokens = λ ν δ. beside W κ q (ν ∷ []) fullShare;
-          parts = λ ν δ. id⊢ 𝓤 _ &′ plain W O a-span (span (i .0)) is-r &′ but (id⊢ 𝓤 _) (plain W O number (i .0) (refl, omega (arith, less, n-fits)) & all);
+          parts = λ ν δ. id⊢ 𝓤 _ &′ plain W O a-span (span (i .0)) is-r &′
+              but (id⊢ 𝓤 _) (plain W O number (i .0) (refl, omega (arith, less, n-fits)) & all);
           asked = λ ν δ. kit.factI 𝓤 _ (kit.emp 𝓤) (span-fits xs (cur xs ys (i .0)) (n - i .0), left-got (i .0) less);
           result = λ ν δ. count (i .0);
           data-of = λ ν δ. number;
           tells = λ ν δ. (refl, λ is. is);
           same = λ l e. ap length e ∙ same (i .0 + count (i .0));
-          last = λ ν δ ws. ws .1 .1 .0;
+          left = λ ν δ ws. ws .1 .1 .0;
           says = λ ν δ r ws. kit.fact-mono 𝓤 _ _ (λ e. (e .0, e .1 ∙ stored-next (i .0) less));
           picks = λ ν δ ws. past ! $ past ! $ front ! $ front ! $ done !;
         }) (λ ν δ. arg ! 27 refl (arg ! 15 refl (arg ! 3 refl (arg ! 17 refl (no-more !))))) (λ l is-k e.
         kit.rewrite ! 1 (λ (w : List UnitRecord). ‵ (Units w)) e refl $ lands-in ! 13 refl (number .typed 𝓤 H A W (count (i .0)) is-k) $
         -- the cursor and the number move on
-        calls ! fm 0 refl twice moved.ended (moved.clauses 𝓤 H A (𝓜 .mem) (𝓡 .run))
+        calls ! 𝓣 0 refl twice moved.ended (moved.clauses 𝓤 H A (𝓜 .mem) (𝓡 .run))
         (cites 𝓤 H 𝓜 𝓖 𝓡 code.env code.calls-read·spans·moved (moved.Met.met 𝓤 H 𝓜 𝓖 𝓡))
         ((tt, tt, tt, (span (i .0), (count (i .0), tt)), (R′.lowered (span (i .0)) ∷ [], (vint w64 (count (i .0)) ∷ [], tt))), tt) (none W (A .lft κ q))
         (plain W O a-span (span (i .0)) is-r & plain W O number (count (i .0)) is-k & all) (kit.factI 𝓤 _ (kit.emp 𝓤) (place-fits (i .0)))
@@ -261,16 +269,20 @@ module _ {M : Type 1} (𝓤 : kit.URA M) (H : kit.Heap 𝓤) (𝓜 : kit.Model �
       -- [the tokens of the string and of the list; what they own; the locals]
       move ! (0 ∷ 2 ∷ []) $ join ! $ move ! (0 ∷ 2 ∷ []) $
       sets ! 11 (of-opd ! (part ! 25 1 refl refl refl)) refl (in64 (room .0)) $
-      calls ! fm 0 refl twice answer.ended (answer.clauses 𝓤 H A (𝓜 .mem) (𝓡 .run))
+      calls ! 𝓣 0 refl twice answer.ended (answer.clauses 𝓤 H A (𝓜 .mem) (𝓡 .run))
       (cites 𝓤 H 𝓜 𝓖 𝓡 code.env code.calls-read·answer (answer.Met.met 𝓤 H 𝓜 𝓖 𝓡))
       (((κ, tt), (q, tt), tt, (s, (length ys, tt)), (vs ∷ [], (vint w64 (length ys) ∷ [], tt))), tt) (the-one W κ q)
-      (id⊢ 𝓤 _ & plain W O number (length ys) (refl, room .0) & all) (id⊢ 𝓤 _) ans (λ r e. id⊢ 𝓤 _) an-answer (arg ! 27 refl (arg ! 11 refl (no-more !)))
+      (id⊢ 𝓤 _ & plain W O number (length ys) (refl, room .0) & all) (id⊢ 𝓤 _) ans (λ r e. id⊢ 𝓤 _) an-answer
+      (arg ! 27 refl (arg ! 11 refl (no-more !)))
       (λ is-ans ok. lands-in ! 23 refl ok $
-      calls ! fm 0 refl twice stored.ended (stored.clauses 𝓤 H A (𝓜 .mem) (𝓡 .run))
-      (cites 𝓤 H 𝓜 𝓖 𝓡 code.env code.calls-read·stored (stored.Met.met 𝓤 H 𝓜 𝓖 𝓡)) ((tt, tt, tt, (ans, tt), (N′.lowered ans ∷ [], tt)), tt)
-      (none W (A .lft κ q)) (plain W O an-answer ans is-ans & all) (id⊢ 𝓤 _) n (λ r e. id⊢ 𝓤 _) number (arg ! 23 refl (no-more !)) (λ is-n ok. lands-in ! 21 refl ok $
-      calls ! fm 0 refl twice first-fn.ended (first-fn.clauses 𝓤 H A (𝓜 .mem) (𝓡 .run))
-      (cites 𝓤 H 𝓜 𝓖 𝓡 code.env code.calls-cursor·Cursor·first (first-fn.Met.met 𝓤 H 𝓜 𝓖 𝓡)) ((tt, tt, tt, tt, tt), tt) (none W (A .lft κ q))
+      calls ! 𝓣 0 refl twice stored.ended (stored.clauses 𝓤 H A (𝓜 .mem) (𝓡 .run))
+      (cites 𝓤 H 𝓜 𝓖 𝓡 code.env code.calls-read·stored (stored.Met.met 𝓤 H 𝓜 𝓖 𝓡))
+      ((tt, tt, tt, (ans, tt), (N′.lowered ans ∷ [], tt)), tt)
+      (none W (A .lft κ q)) (plain W O an-answer ans is-ans & all) (id⊢ 𝓤 _) n (λ r e. id⊢ 𝓤 _) number (arg ! 23 refl (no-more !))
+      (λ is-n ok. lands-in ! 21 refl ok $
+      calls ! 𝓣 0 refl twice first-fn.ended (first-fn.clauses 𝓤 H A (𝓜 .mem) (𝓡 .run))
+      (cites 𝓤 H 𝓜 𝓖 𝓡 code.env code.calls-cursor·Cursor·first (first-fn.Met.met 𝓤 H 𝓜 𝓖 𝓡)) ((tt, tt, tt, tt, tt), tt)
+      (none W (A .lft κ q))
       all (id⊢ 𝓤 _) first (λ r e. id⊢ 𝓤 _) a-cursor (no-more !) (λ is-first ok. lands-in ! 19 refl ok $
       sets ! 17 (of-opd ! (lit ! tt)) refl (in64 (lit< tt)) $ kit.forget ! 11 refl $
       loop-by W 𝓣 (envOf (code.function .locals) bs) Post code.Mir.turn-1 code.Mir.t-7 μ (At is-ans bs) (turns is-ans bs)
@@ -279,6 +291,7 @@ module _ {M : Type 1} (𝓤 : kit.URA M) (H : kit.Heap 𝓤) (𝓜 : kit.Model �
 pub read-spec : {M : Type 1} → read.Statement.statement M
 unfolding code.routine
 read-spec 𝓤 H 𝓜 𝓖 𝓡 =
-    walk-in 𝓤 H 𝓜 𝓖 𝓡 code.env code.function read.ended params (read.clauses 𝓤 H (𝓖 .A) (𝓜 .mem) (𝓡 .run)) read.Key.name (code.unfolded 𝓤 H 𝓜 𝓡)
-    (λ κs a bs fit. fit) (λ κs qs bounds a g are. walk 𝓤 H 𝓜 𝓖 𝓡 (κs .0) (κs .1 .0) (qs .0) (qs .1 .0)
-    (a .0) (a .1 .0 .ptr .0) (a .1 .0 .ptr .1) (a .1 .0 .name) (a .1 .0 .now) (are .0 .0 .1 .0) (are .1 .0 .0 .1))
+    walk-in 𝓤 H 𝓜 𝓖 𝓡 code.env code.function read.ended params (read.clauses 𝓤 H (𝓖 .A) (𝓜 .mem) (𝓡 .run)) read.Key.name
+    (code.unfolded 𝓤 H 𝓜 𝓡)
+    (λ z bs fit. fit) (λ z. walk 𝓤 H 𝓜 𝓖 𝓡 (z .κs .0) (z .κs .1 .0) (z .qs .0) (z .qs .1 .0)
+    (z .a .0) (z .a .1 .0 .ptr .0) (z .a .1 .0 .ptr .1) (z .a .1 .0 .name) (z .a .1 .0 .now) (z .are .0 .0 .1 .0) (z .are .1 .0 .0 .1))

@@ -8,4 +8,5 @@ use Rattle.reader.proofs.may_stand.Tie as tie
 pub may-stand-spec : {M : Type 1} → statement M
 unfolding mayStand
 may-stand-spec =
-    tie.close (tie.spec (λ c. search ladder depth 9) (search needs) (search needs) (λ c. search ladder depth 9) (λ c. search ladder depth 9) (λ c. search ladder depth 9))
+    tie.close (tie.spec (λ c. search ladder depth 9) (search needs) (search needs) (λ c. search ladder depth 9) (λ c. search ladder depth 9)
+    (λ c. search ladder depth 9))

@@ -1,7 +1,8 @@
 -- `reader::next` meets its contract: its code is followed by hand, for a struct that holds a reference is lent. The borrow of the reader is
 -- opened, its fields are read, `step` is called on them, the place, the count and the state are stored, and the borrow is closed.
 -- Assumes nothing.
-use Rattle.walks.proofs.Names.{_≡_, refl, [], _∷_, List, fullShare, named, erased, w64, Val, vint, vptr, SProp, Sq, prop, id⊢, flft, ‵, _⊛_, _$_, !, move}
+use Rattle.walks.proofs.Names.{_≡_, refl, [], _∷_, List, fullShare, named, erased, w64, Val, vint, vptr, SProp, Sq, prop, id⊢, flft, ‵, _⊛_, _$_, ! }
+use Rattle.walks.proofs.Names.{move}
 use Rattle.walks.proofs.Names.{use1, split, join, frame, done, look, stop, hop, fld, from, load, of-opd, assigns, whole, sub, look-in, store-in, mem, Is}
 use Rattle.walks.proofs.Names.{shows, u8, usize, owned, nothing}
 use Rattle.walks.proofs.Names as kit
@@ -13,7 +14,7 @@ use Rattle.state.proofs.State.Laws as S′
 use Rattle.walks.proofs.Body.{𝓣of}
 use Rattle.walks.proofs.Data.{Data, number, struct, enum, Params, stays}
 use Rattle.walks.proofs.Entry.{Bound, End, Walk, walk-in, cites}
-use Rattle.walks.proofs.Calling.{calls, plain, all, _&_, the-one}
+use Rattle.walks.proofs.Calls.{calls, plain, all, _&_, the-one}
 use Rattle.walks.proofs.Frame.{leaves}
 use Rattle.walks.proofs.Steps.{arg, part, sets, lands-in, beside, joins, fjoins}
 use Rattle.reader.specs.Reader.{stepOf, moved}
@@ -88,7 +89,7 @@ module _ {M : Type 1} (𝓤 : kit.URA M) (H : kit.Heap 𝓤) (𝓜 : kit.Model �
     abbrev clauses : kit.Clauses 𝓤 next.ended
     clauses = next.clauses 𝓤 H A (𝓜 .mem) (𝓡 .run)
 
-    abbrev y : Bound 𝓤 H 𝓜 𝓖 𝓡 code.env code.function next.ended params clauses
+    abbrev y : Bound 𝓤 H A next.ended params clauses
     y = (((κ, (κ′, tt)), (q, (q′, tt)), bounds, (record { ptr = (b, o); name = γ; now = h }, tt), (vptr b o ∷ [], tt)), tt)
 
     abbrev v : Val
@@ -102,7 +103,7 @@ module _ {M : Type 1} (𝓤 : kit.URA M) (H : kit.Heap 𝓤) (𝓜 : kit.Model �
     Octets = kit.ShrSlice (named 1) κ′ u8 .own (h .octets) (v ∷ [])
 
     abbrev Post : Val → SProp 𝓤
-    Post = End 𝓤 H 𝓜 𝓖 𝓡 code.env code.function next.ended params clauses y
+    Post = End 𝓤 H A next.ended params clauses y
 
     abbrev O : SProp 𝓤
     O = kit.sem 𝓤 H A Octets
@@ -139,8 +140,10 @@ module _ {M : Type 1} (𝓤 : kit.URA M) (H : kit.Heap 𝓤) (𝓜 : kit.Model �
         use1 W (‵ (kit.ownAt (D .parts) L 0 (h .octets)) ⊛ ‵ (kit.rest (D .parts) L 0 fields)) (kit.own-out 𝓤 H A W (D .parts) L 0 fields) $
         split ! $ move ! (1 ∷ []) $ kit.let-go ! $ use1 W (‵ Octets) (id⊢ 𝓤 _) $ move ! (5 ∷ 0 ∷ []) $ join ! $
         let owed = LL.owed D L h _ is-h in
-        calls ! (kit.fmOf 𝓤 H (W .laws) (𝓣of 𝓤 H 𝓜 𝓖 𝓡 code.env)) 0 refl (kit.shr-slice-copy 𝓤 H A W (named 1) κ′ u8 .twice (h .octets) (v ∷ []))
-        step.ended (step.clauses 𝓤 H A (𝓜 .mem) (𝓡 .run)) (cites 𝓤 H 𝓜 𝓖 𝓡 code.env code.calls-reader·step (step.Met.met 𝓤 H 𝓜 𝓖 𝓡)) (
+        calls ! (𝓣of 𝓤 H 𝓜 𝓖 𝓡 code.env) 0 refl
+        (kit.shr-slice-copy 𝓤 H A W (named 1) κ′ u8 .twice (h .octets) (v ∷ []))
+        step.ended (step.clauses 𝓤 H A (𝓜 .mem) (𝓡 .run))
+        (cites 𝓤 H 𝓜 𝓖 𝓡 code.env code.calls-reader·step (step.Met.met 𝓤 H 𝓜 𝓖 𝓡)) (
           (
             (κ′, tt),
             (q′, tt),
@@ -150,8 +153,10 @@ module _ {M : Type 1} (𝓤 : kit.URA M) (H : kit.Heap 𝓤) (𝓜 : kit.Model �
           ),
           tt,
         ) (the-one W κ′ q′)
-        (id⊢ 𝓤 _ & plain W O number (h .place) (owed .1 .0) & plain W O number (h .count) (owed .1 .1 .0) & plain W O a-state (h .state) (owed .1 .1 .1 .0) & all)
-        (id⊢ 𝓤 _) g (λ r e. id⊢ 𝓤 _) a-step (arg ! 11 refl (arg ! 9 refl (arg ! 7 refl (arg ! 5 refl (kit.no-more !))))) (λ is ok. lands-in ! 13 refl ok $
+        (id⊢ 𝓤 _ & plain W O number (h .place) (owed .1 .0) & plain W O number (h .count) (owed .1 .1 .0) &
+        plain W O a-state (h .state) (owed .1 .1 .1 .0) & all)
+        (id⊢ 𝓤 _) g (λ r e. id⊢ 𝓤 _) a-step (arg ! 11 refl (arg ! 9 refl (arg ! 7 refl (arg ! 5 refl (kit.no-more !)))))
+        (λ is ok. lands-in ! 13 refl ok $
         -- [the string; the reader's cell; the open borrow; obs; auth; the locals]: place, count and state are stored
         let given = LL.owed G.the-type G′.the-laws g _ is in
         assigns ! (of-opd ! (part ! 13 0 refl refl refl)) (from ! (hop ! (look ! 15 refl) (fld ! refl (stop !))))
@@ -174,6 +179,7 @@ module _ {M : Type 1} (𝓤 : kit.URA M) (H : kit.Heap 𝓤) (𝓜 : kit.Model �
 pub next-spec : {M : Type 1} → next.Statement.statement M
 unfolding code.routine
 next-spec 𝓤 H 𝓜 𝓖 𝓡 =
-    walk-in 𝓤 H 𝓜 𝓖 𝓡 code.env code.function next.ended params (next.clauses 𝓤 H (𝓖 .A) (𝓜 .mem) (𝓡 .run)) next.Key.name (code.unfolded 𝓤 H 𝓜 𝓡)
-    (λ κs a bs fit. fit) (λ κs qs bounds a g are. walk 𝓤 H 𝓜 𝓖 𝓡 (κs .0) (κs .1 .0) bounds (qs .0) (qs .1 .0)
-    (a .0 .ptr .0) (a .0 .ptr .1) (a .0 .name) (a .0 .now))
+    walk-in 𝓤 H 𝓜 𝓖 𝓡 code.env code.function next.ended params (next.clauses 𝓤 H (𝓖 .A) (𝓜 .mem) (𝓡 .run)) next.Key.name
+    (code.unfolded 𝓤 H 𝓜 𝓡)
+    (λ z bs fit. fit) (λ z. walk 𝓤 H 𝓜 𝓖 𝓡 (z .κs .0) (z .κs .1 .0) (z .bounds) (z .qs .0) (z .qs .1 .0)
+    (z .a .0 .ptr .0) (z .a .0 .ptr .1) (z .a .0 .name) (z .a .0 .now))

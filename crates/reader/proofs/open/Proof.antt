@@ -58,11 +58,11 @@ module _ {M : Type 1} (𝓤 : kit.URA M) (H : kit.Heap 𝓤) (𝓜 : kit.Model �
   abbrev clauses : kit.Clauses 𝓤 opn.ended
   clauses = opn.clauses 𝓤 H A (𝓜 .mem) (𝓡 .run)
 
-  abbrev y : Bound 𝓤 H 𝓜 𝓖 𝓡 code.env code.function opn.ended params clauses
+  abbrev y : Bound 𝓤 H A opn.ended params clauses
   y = (((κ, tt), (q, tt), tt, (s, tt), (v ∷ [], tt)), tt)
 
   exits : Sq W (‵ (kit.flft κ q) ∷ ‵ (kit.ShrSlice (named 0) κ u8 .own s (v ∷ [])) ∷ [])
-      (kit.prop (End 𝓤 H 𝓜 𝓖 𝓡 code.env code.function opn.ended params clauses y (T′.lowered made)))
+      (kit.prop (End 𝓤 H A opn.ended params clauses y (T′.lowered made)))
   exits =
       kit.suffices ! _ (kit.ends-at 𝓤 H A opn.ended (stays (opn.signature .params) (opn.ended .kept) params) clauses W y (T′.lowered made) made
       (tt, tt) (tt, tt)) $ kit.says ! refl $ nothing ! $ joins ! 0 refl $ frame ! $ copies ! (named 0) κ u8 s (v ∷ []) $
@@ -93,5 +93,6 @@ module _ {M : Type 1} (𝓤 : kit.URA M) (H : kit.Heap 𝓤) (𝓜 : kit.Model �
 pub open-spec : {M : Type 1} → opn.Statement.statement M
 unfolding code.routine
 open-spec 𝓤 H 𝓜 𝓖 𝓡 =
-    walk-in 𝓤 H 𝓜 𝓖 𝓡 code.env code.function opn.ended params (opn.clauses 𝓤 H (𝓖 .A) (𝓜 .mem) (𝓡 .run)) opn.Key.name (code.unfolded 𝓤 H 𝓜 𝓡)
-    (λ κs a bs fit. fit) (λ κs qs bounds a g are. walk 𝓤 H 𝓜 𝓖 𝓡 (κs .0) (qs .0) (a .0) (are .0))
+    walk-in 𝓤 H 𝓜 𝓖 𝓡 code.env code.function opn.ended params (opn.clauses 𝓤 H (𝓖 .A) (𝓜 .mem) (𝓡 .run)) opn.Key.name
+    (code.unfolded 𝓤 H 𝓜 𝓡)
+    (λ z bs fit. fit) (λ z. walk 𝓤 H 𝓜 𝓖 𝓡 (z .κs .0) (z .qs .0) (z .a .0) (z .are .0))

@@ -19,7 +19,7 @@ use Rattle.base.proofs.Unit.Laws as U′
 use Rattle.walks.proofs.Body.{𝓣of, tests}
 use Rattle.walks.proofs.Data.{Data, number, struct, enum, Params, shared, lent}
 use Rattle.walks.proofs.Entry.{Bound, End, Walk, walk-in, cites}
-use Rattle.walks.proofs.Calling.{calls, lends, plain, all, _&_, but, _&′_, both-twice, none, beside, both-beside, ends}
+use Rattle.walks.proofs.Calls.{calls, lends, plain, all, _&_, but, _&′_, both-twice, none, beside, both-beside, ends}
 use Rattle.walks.proofs.Loop.{Turns, rounds, loop-by}
 use Rattle.walks.proofs.Frame.{empty, full, Blocks, envOf, laid, clears, leaves}
 use Rattle.walks.proofs.Steps.{var, arg, part, sets, resets, resets-last, lands-in, lands-over, recasts, behind, resliced, in64, sliced, copies, past, front}
@@ -67,9 +67,6 @@ module _ {M : Type 1} (𝓤 : kit.URA M) (H : kit.Heap 𝓤) (𝓜 : kit.Model �
   abbrev 𝓣 : kit.Tables 𝓤 H
   𝓣 = 𝓣of 𝓤 H 𝓜 𝓖 𝓡 code.env
 
-  fm : kit.FmC 𝓤 H (W .laws) (𝓣 .C)
-  fm = kit.fmOf 𝓤 H (W .laws) 𝓣
-
   abbrev us : List UnitRecord
   us = s .now
 
@@ -92,14 +89,14 @@ module _ {M : Type 1} (𝓤 : kit.URA M) (H : kit.Heap 𝓤) (𝓜 : kit.Model �
   abbrev clauses : kit.Clauses 𝓤 stow.ended
   clauses = stow.clauses 𝓤 H A (𝓜 .mem) (𝓡 .run)
 
-  abbrev y : Bound 𝓤 H 𝓜 𝓖 𝓡 code.env code.function stow.ended params clauses
+  abbrev y : Bound 𝓤 H A stow.ended params clauses
   y = (
     ((κ₀, (κ₁, (κ₂, tt))), (q₀, (q₁, (q₂, tt))), tt, (s, (t, (x γ ys, tt))), (vs ∷ [], (vt ∷ [], (vw ∷ [], tt)))),
     tt,
   )
 
   abbrev Post : Val → SProp 𝓤
-  Post = End 𝓤 H 𝓜 𝓖 𝓡 code.env code.function stow.ended params clauses y
+  Post = End 𝓤 H A stow.ended params clauses y
 
   -- the units and the segments, each with its token, and the room
   abbrev Own₀ : Fml
@@ -224,7 +221,7 @@ module _ {M : Type 1} (𝓤 : kit.URA M) (H : kit.Heap 𝓤) (𝓜 : kit.Model �
         -- the room is borrowed again, for `turn`
         sets ! 10 (behind ! 30 refl refl) refl (tt, tt) $
         sets ! 8 (resliced ! 10 30 refl refl refl) refl (sliced (room .0)) $ move ! (1 ∷ 2 ∷ 3 ∷ []) $
-        lends ! fm u8 κ₂ q₂ γ b o (length ys) (g .1 .0) twice₁ room (g .1 .1 .1 .0 .same) turn.ended (turn.clauses 𝓤 H A (𝓜 .mem) (𝓡 .run))
+        lends ! 𝓣 u8 κ₂ q₂ γ b o (length ys) (g .1 .0) twice₁ room (g .1 .1 .1 .0 .same) turn.ended (turn.clauses 𝓤 H A (𝓜 .mem) (𝓡 .run))
         (cites 𝓤 H 𝓜 𝓖 𝓡 code.env code.calls-check-list·turn (turn.Met.met 𝓤 H 𝓜 𝓖 𝓡)) (mach (next (g .0))) (IsP (next (g .0)))
         (λ l. l ≡ turned g) (λ ν δ. (
           (
@@ -244,7 +241,7 @@ module _ {M : Type 1} (𝓤 : kit.URA M) (H : kit.Heap 𝓤) (𝓜 : kit.Model �
           data-of = λ ν δ. a-progress;
           tells = λ ν δ. (refl, λ is. is);
           same = λ l e. ap length e ∙ length-room (next (g .0)) (unit (g .0)) (g .0) (g .1 .0) ∙ g .1 .1 .1 .0 .same;
-          last = λ ν δ ws. ws .1 .1 .1 .1 .0;
+          left = λ ν δ ws. ws .1 .1 .1 .1 .0;
           says = λ ν δ r ws. id⊢ 𝓤 _;
           picks = λ ν δ ws. past ! $ past ! $ past ! $ past ! $ front ! $ front ! $ done !;
         }) (λ ν δ. arg ! 26 refl (arg ! 12 refl (arg ! 24 refl (arg ! 32 refl (arg ! 8 refl (no-more !)))))) (λ l is e.
@@ -255,7 +252,7 @@ module _ {M : Type 1} (𝓤 : kit.URA M) (H : kit.Heap 𝓤) (𝓜 : kit.Model �
         recasts ! 16 (vint w64) (add-one (g .0)) refl $
         sets ! 6 (behind ! 30 refl refl) refl (tt, tt) $
         sets ! 4 (resliced ! 6 30 refl refl refl) refl (sliced (room .0)) $ move ! (3 ∷ 1 ∷ 2 ∷ []) $
-        lends ! fm u8 κ₂ q₂ γ b o (length ys) (turned g) twice₀ room
+        lends ! 𝓣 u8 κ₂ q₂ γ b o (length ys) (turned g) twice₀ room
         (length-room (next (g .0)) (unit (g .0)) (g .0) (g .1 .0) ∙ g .1 .1 .1 .0 .same) quickly.ended (quickly.clauses 𝓤 H A (𝓜 .mem) (𝓡 .run))
         (cites 𝓤 H 𝓜 𝓖 𝓡 code.env code.calls-write·stow-quickly (quickly.Met.met 𝓤 H 𝓜 𝓖 𝓡)) (vint w64 (fin (g .0)))
         (Is kit.usize (fin (g .0)) (vint w64 (fin (g .0)) ∷ [])) (Kept (g .0) (turned g)) (λ ν δ. (
@@ -270,13 +267,14 @@ module _ {M : Type 1} (𝓤 : kit.URA M) (H : kit.Heap 𝓤) (𝓜 : kit.Model �
         )) (record {
           tokens = λ ν δ. beside W κ₀ q₀ (ν ∷ []) fullShare;
           parts = λ ν δ. plain W O₀ a-progress (at (suc (g .0))) (subst IsP (reached-next os us (g .0)) is) &′ id⊢ 𝓤 _ &′
-              plain W O₀ number (suc (g .0)) (refl, omega (arith, next-fits (g .0) less)) &′ plain W O₀ number n (refl, n-fits) &′ but (id⊢ 𝓤 _) all;
+              plain W O₀ number (suc (g .0)) (refl, omega (arith, next-fits (g .0) less)) &′ plain W O₀ number n (refl, n-fits) &′
+              but (id⊢ 𝓤 _) all;
           asked = λ ν δ. kit.factI 𝓤 _ (kit.emp 𝓤) (ltb→lt (g .0) n less, looked-most (length us));
           result = λ ν δ. fin (g .0);
           data-of = λ ν δ. number;
           tells = λ ν δ. (refl, λ is. is);
           same = λ l k. k .same ∙ length-room (next (g .0)) (unit (g .0)) (g .0) (g .1 .0) ∙ g .1 .1 .1 .0 .same;
-          last = λ ν δ ws. ws .1 .1 .1 .1 .0;
+          left = λ ν δ ws. ws .1 .1 .1 .1 .0;
           says = λ ν δ r ws. id⊢ 𝓤 _;
           picks = λ ν δ ws. past ! $ past ! $ past ! $ past ! $ front ! $ front ! $ done !;
         }) (λ ν δ. arg ! 26 refl (arg ! 34 refl (arg ! 16 refl (arg ! 28 refl (arg ! 4 refl (no-more !)))))) (λ l′ is-fin k.
@@ -303,13 +301,14 @@ module _ {M : Type 1} (𝓤 : kit.URA M) (H : kit.Heap 𝓤) (𝓜 : kit.Model �
       -- [the tokens of the units, the segments and the room; what they own; the locals]
       move ! (1 ∷ 4 ∷ []) $ join ! $ move ! (1 ∷ 3 ∷ []) $ join ! $ move ! (0 ∷ 1 ∷ 3 ∷ []) $
       sets ! 20 (of-opd ! (part ! 34 1 refl refl refl)) refl (in64 (s-room .0)) $
-      calls ! fm 0 refl twice₀ looked-at.ended (looked-at.clauses 𝓤 H A (𝓜 .mem) (𝓡 .run))
+      calls ! 𝓣 0 refl twice₀ looked-at.ended (looked-at.clauses 𝓤 H A (𝓜 .mem) (𝓡 .run))
       (cites 𝓤 H 𝓜 𝓖 𝓡 code.env code.calls-check-list·looked-at (looked-at.Met.met 𝓤 H 𝓜 𝓖 𝓡))
       ((tt, tt, tt, (length us, tt), (vint w64 (length us) ∷ [], tt)), tt) (none W (A .lft κ₀ q₀))
       (plain W O₀ number (length us) (refl, s-room .0) & all) (id⊢ 𝓤 _) n (λ r e. id⊢ 𝓤 _) number (arg ! 20 refl (no-more !)) (λ is-n ok.
       lands-in ! 28 refl ok $
-      calls ! fm 0 refl twice₀ begin.ended (begin.clauses 𝓤 H A (𝓜 .mem) (𝓡 .run))
-      (cites 𝓤 H 𝓜 𝓖 𝓡 code.env code.calls-check-list·begin (begin.Met.met 𝓤 H 𝓜 𝓖 𝓡)) ((tt, tt, tt, tt, tt), tt) (none W (A .lft κ₀ q₀)) all
+      calls ! 𝓣 0 refl twice₀ begin.ended (begin.clauses 𝓤 H A (𝓜 .mem) (𝓡 .run))
+      (cites 𝓤 H 𝓜 𝓖 𝓡 code.env code.calls-check-list·begin (begin.Met.met 𝓤 H 𝓜 𝓖 𝓡)) ((tt, tt, tt, tt, tt), tt)
+      (none W (A .lft κ₀ q₀)) all
       (id⊢ 𝓤 _) begun (λ r e. id⊢ 𝓤 _) a-progress (no-more !) (λ is-p ok.
       lands-in ! 26 refl ok $ recasts ! 26 mach (reached-none os us) refl $
       sets ! 24 (of-opd ! (lit ! tt)) refl (in64 (lit< tt)) $ kit.forget ! 20 refl $
@@ -319,6 +318,7 @@ module _ {M : Type 1} (𝓤 : kit.URA M) (H : kit.Heap 𝓤) (𝓜 : kit.Model �
 pub stow-spec : {M : Type 1} → stow.Statement.statement M
 unfolding code.routine
 stow-spec 𝓤 H 𝓜 𝓖 𝓡 =
-    walk-in 𝓤 H 𝓜 𝓖 𝓡 code.env code.function stow.ended params (stow.clauses 𝓤 H (𝓖 .A) (𝓜 .mem) (𝓡 .run)) stow.Key.name (code.unfolded 𝓤 H 𝓜 𝓡)
-    (λ κs a bs fit. fit) (λ κs qs bounds a g are. walk 𝓤 H 𝓜 𝓖 𝓡 (κs .0) (κs .1 .0) (κs .1 .1 .0) (qs .0) (qs .1 .0) (qs .1 .1 .0)
-    (a .0) (a .1 .0) (a .1 .1 .0 .ptr .0) (a .1 .1 .0 .ptr .1) (a .1 .1 .0 .name) (a .1 .1 .0 .now) (are .0 .0 .1) (are .1 .1 .0 .0 .1))
+    walk-in 𝓤 H 𝓜 𝓖 𝓡 code.env code.function stow.ended params (stow.clauses 𝓤 H (𝓖 .A) (𝓜 .mem) (𝓡 .run)) stow.Key.name
+    (code.unfolded 𝓤 H 𝓜 𝓡)
+    (λ z bs fit. fit) (λ z. walk 𝓤 H 𝓜 𝓖 𝓡 (z .κs .0) (z .κs .1 .0) (z .κs .1 .1 .0) (z .qs .0) (z .qs .1 .0) (z .qs .1 .1 .0)
+    (z .a .0) (z .a .1 .0) (z .a .1 .1 .0 .ptr .0) (z .a .1 .1 .0 .ptr .1) (z .a .1 .1 .0 .name) (z .a .1 .1 .0 .now) (z .are .0 .0 .1) (z .are .1 .1 .0 .0 .1))

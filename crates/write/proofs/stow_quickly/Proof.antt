@@ -3,7 +3,8 @@
 -- Where it does, the next record has its turn; where it does not, the end is set to this place, and the loop is left. Of the functions that
 -- it calls the proof knows their contracts alone. Assumes nothing.
 use Rattle.walks.proofs.Names.{_≡_, refl, sym, _∙_, ap, ℕ, suc, _+_, _-_, _*_, _≤_, _<_, _^_, true, false, [], _∷_, List, length, named, w64, Val}
-use Rattle.walks.proofs.Names.{vint, SProp, id⊢, GName, Fml, flft, let-go, ‵, _⊛_, atRet, _$_, !, move, split, join, rewrite, done, look, lit, of-opd, bin}
+use Rattle.walks.proofs.Names.{vint, SProp, id⊢, GName, Fml, flft, let-go, ‵, _⊛_, atRet, _$_, !, move, split, join, rewrite, done, look, lit, of-opd}
+use Rattle.walks.proofs.Names.{bin}
 use Rattle.walks.proofs.Names.{Is, shows, u8, RefT, Room}
 use Rattle.walks.proofs.Names as kit
 use native.Mathlib.Numerals.{add-one}
@@ -19,7 +20,7 @@ use Rattle.base.proofs.Unit.Laws as U′
 use Rattle.walks.proofs.Body.{𝓣of, tests, holds, fails}
 use Rattle.walks.proofs.Data.{Data, number, flag, struct, enum, Params, shared, lent, by-value}
 use Rattle.walks.proofs.Entry.{Bound, End, Walk, walk-with, cites}
-use Rattle.walks.proofs.Calling.{calls, lends, plain, all, _&_, but, _&′_, none, alone, beside, ends as concludes}
+use Rattle.walks.proofs.Calls.{calls, lends, plain, all, _&_, but, _&′_, none, alone, beside, ends as concludes}
 use Rattle.walks.proofs.Loop.{Turns, rounds, loop-by}
 use Rattle.walks.proofs.Frame.{empty, full, Blocks, envOf, laid, clears, leaves}
 use Rattle.walks.proofs.Steps.{var, arg, part, sets, resets-last, lands-in, recasts, behind, resliced, in64, sliced, copies, past, front}
@@ -68,9 +69,6 @@ module _ {M : Type 1} (𝓤 : kit.URA M) (H : kit.Heap 𝓤) (𝓜 : kit.Model �
   abbrev 𝓣 : kit.Tables 𝓤 H
   𝓣 = 𝓣of 𝓤 H 𝓜 𝓖 𝓡 code.env
 
-  fm : kit.FmC 𝓤 H (W .laws) (𝓣 .C)
-  fm = kit.fmOf 𝓤 H (W .laws) 𝓣
-
   abbrev us : List UnitRecord
   us = s .now
 
@@ -87,7 +85,7 @@ module _ {M : Type 1} (𝓤 : kit.URA M) (H : kit.Heap 𝓤) (𝓜 : kit.Model �
   abbrev clauses : kit.Clauses 𝓤 stow-quickly.ended
   clauses = stow-quickly.clauses 𝓤 H A (𝓜 .mem) (𝓡 .run)
 
-  abbrev y : Bound 𝓤 H 𝓜 𝓖 𝓡 code.env code.function stow-quickly.ended params clauses
+  abbrev y : Bound 𝓤 H A stow-quickly.ended params clauses
   y = (
     (
       (κ₀, (κ₁, tt)),
@@ -100,7 +98,7 @@ module _ {M : Type 1} (𝓤 : kit.URA M) (H : kit.Heap 𝓤) (𝓜 : kit.Model �
   )
 
   abbrev Post : Val → SProp 𝓤
-  Post = End 𝓤 H 𝓜 𝓖 𝓡 code.env code.function stow-quickly.ended params clauses y
+  Post = End 𝓤 H A stow-quickly.ended params clauses y
 
   -- the units with their token, and the room
   abbrev Own : Fml
@@ -246,8 +244,10 @@ module _ {M : Type 1} (𝓤 : kit.URA M) (H : kit.Heap 𝓤) (𝓜 : kit.Model �
         -- the room is borrowed again, for `quick_turn`
         sets ! 5 (behind ! 21 refl refl) refl (tt, tt) $
         sets ! 3 (resliced ! 5 21 refl refl refl) refl (sliced (room .0)) $
-        lends ! fm u8 κ₁ q₁ γ b o (length ys) (got g) twice room (known g .passed .same) quick-turn.ended (quick-turn.clauses 𝓤 H A (𝓜 .mem) (𝓡 .run))
-        (cites 𝓤 H 𝓜 𝓖 𝓡 code.env code.calls-check-list·quick-turn (quick-turn.Met.met 𝓤 H 𝓜 𝓖 𝓡)) (flag .val (plainOf (unit (g .0)))) (Unit {0})
+        lends ! 𝓣 u8 κ₁ q₁ γ b o (length ys) (got g) twice room (known g .passed .same) quick-turn.ended
+        (quick-turn.clauses 𝓤 H A (𝓜 .mem) (𝓡 .run))
+        (cites 𝓤 H 𝓜 𝓖 𝓡 code.env code.calls-check-list·quick-turn (quick-turn.Met.met 𝓤 H 𝓜 𝓖 𝓡)) (flag .val (plainOf (unit (g .0))))
+        (Unit {0})
         (λ l. l ≡ left (g .0) (got g)) (λ ν δ. (
           (
             (ν ∷ [], tt),
@@ -265,7 +265,7 @@ module _ {M : Type 1} (𝓤 : kit.URA M) (H : kit.Heap 𝓤) (𝓜 : kit.Model �
           data-of = λ ν δ. flag;
           tells = λ ν δ. (refl, λ is. tt);
           same = λ l e. ap length e ∙ length-quick (plainOf (unit (g .0))) (unit (g .0)) (g .0) (got g) ∙ known g .passed .same;
-          last = λ ν δ ws. ws .1 .1 .0;
+          left = λ ν δ ws. ws .1 .1 .0;
           says = λ ν δ r ws. id⊢ 𝓤 _;
           picks = λ ν δ ws. past ! $ past ! $ front ! $ front ! $ done !;
         }) (λ ν δ. arg ! 7 refl (arg ! 17 refl (arg ! 3 refl (kit.no-more !)))) (λ l is e.
@@ -292,14 +292,15 @@ module _ {M : Type 1} (𝓤 : kit.URA M) (H : kit.Heap 𝓤) (𝓜 : kit.Model �
         kit.returns ! (look ! 31 refl) $ leaves ! 3 refl refl $
         concludes ! stow-quickly.ended params clauses y twice (beside W κ₀ q₀ κ₁ q₁) number fin (refl, fin-fits) (tt, (tt, (tt, (tt, (got g, tt)))))
         (tt, (tt, (tt, (tt, (st .same, tt))))) (kit.factI 𝓤 _ (kit.emp 𝓤) (refl, st))
-        (plain W O a-progress p is-p &′ id⊢ 𝓤 _ &′ plain W O number i₀ (refl, i₀-fits) &′ plain W O number n (refl, n-fits) &′ but (id⊢ 𝓤 _) all))
+        (plain W O a-progress p is-p &′ id⊢ 𝓤 _ &′ plain W O number i₀ (refl, i₀-fits) &′ plain W O number n (refl, n-fits) &′
+        but (id⊢ 𝓤 _) all))
 
   -- ---- the code up to the loop
   walk : Walk 𝓤 H 𝓜 𝓖 𝓡 code.env code.function stow-quickly.ended params clauses y
   walk bs =
       -- [the tokens of the units and of the room; what the progress, the units, the two numbers and the room own; the locals]
       move ! (2 ∷ 4 ∷ 5 ∷ 0 ∷ 3 ∷ []) $ let-go ! $ let-go ! $ let-go ! $ join ! $ move ! (0 ∷ 2 ∷ []) $
-      calls ! fm 0 refl twice quick-until.ended (quick-until.clauses 𝓤 H A (𝓜 .mem) (𝓡 .run))
+      calls ! 𝓣 0 refl twice quick-until.ended (quick-until.clauses 𝓤 H A (𝓜 .mem) (𝓡 .run))
       (cites 𝓤 H 𝓜 𝓖 𝓡 code.env code.calls-check-list·quick-until (quick-until.Met.met 𝓤 H 𝓜 𝓖 𝓡))
       ((tt, tt, tt, (p, (i₀, (n, tt))), (mach p ∷ [], (vint w64 i₀ ∷ [], (vint w64 n ∷ [], tt)))), tt) (none W (A .lft κ₀ q₀))
       (plain W O a-progress p is-p & plain W O number i₀ (refl, i₀-fits) & plain W O number n (refl, n-fits) & all) (id⊢ 𝓤 _) until
@@ -325,8 +326,10 @@ module _ {M : Type 1} (𝓤 : kit.URA M) (H : kit.Heap 𝓤) (𝓜 : kit.Model �
 pub stow-quickly-spec : {M : Type 1} → stow-quickly.Statement.statement M
 unfolding code.routine
 stow-quickly-spec 𝓤 H 𝓜 𝓖 𝓡 =
-    walk-with 𝓤 H 𝓜 𝓖 𝓡 code.env code.function stow-quickly.ended params (stow-quickly.clauses 𝓤 H (𝓖 .A) (𝓜 .mem) (𝓡 .run)) stow-quickly.Key.name
-    (code.unfolded 𝓤 H 𝓜 𝓡) (λ κs a bs fit. fit) (λ κs a. (a .1 .1 .0 ≤ a .1 .1 .1 .0) × (a .1 .1 .1 .0 ≤ length (a .1 .0 .now)))
-    (λ κs a g. id⊢ 𝓤 _) (λ κs qs bounds a g are pre. walk 𝓤 H 𝓜 𝓖 𝓡 (κs .0) (κs .1 .0) (qs .0) (qs .1 .0)
-    (a .0) (a .1 .0) (a .1 .1 .0) (a .1 .1 .1 .0) (a .1 .1 .1 .1 .0 .ptr .0) (a .1 .1 .1 .1 .0 .ptr .1) (a .1 .1 .1 .1 .0 .name) (a .1 .1 .1 .1 .0 .now)
-    (are .0) (are .1 .0 .0 .1) (are .1 .1 .0 .1) (are .1 .1 .1 .0 .1) (are .1 .1 .1 .1 .0 .0 .1) (pre .0) (pre .1))
+    walk-with 𝓤 H 𝓜 𝓖 𝓡 code.env code.function stow-quickly.ended params
+    (stow-quickly.clauses 𝓤 H (𝓖 .A) (𝓜 .mem) (𝓡 .run)) stow-quickly.Key.name
+    (code.unfolded 𝓤 H 𝓜 𝓡) (λ z bs fit. fit) (λ z. (z .a .1 .1 .0 ≤ z .a .1 .1 .1 .0) × (z .a .1 .1 .1 .0 ≤ length (z .a .1 .0 .now)))
+    (λ z. id⊢ 𝓤 _) (λ z pre. walk 𝓤 H 𝓜 𝓖 𝓡 (z .κs .0) (z .κs .1 .0) (z .qs .0) (z .qs .1 .0)
+    (z .a .0) (z .a .1 .0) (z .a .1 .1 .0) (z .a .1 .1 .1 .0) (z .a .1 .1 .1 .1 .0 .ptr .0) (z .a .1 .1 .1 .1 .0 .ptr .1) (z .a .1 .1 .1 .1 .0 .name)
+    (z .a .1 .1 .1 .1 .0 .now)
+    (z .are .0) (z .are .1 .0 .0 .1) (z .are .1 .1 .0 .1) (z .are .1 .1 .1 .0 .1) (z .are .1 .1 .1 .1 .0 .0 .1) (pre .0) (pre .1))

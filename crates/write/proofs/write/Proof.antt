@@ -15,8 +15,7 @@ use Rattle.base.proofs.Unit as U
 use Rattle.walks.proofs.Body.{𝓣of}
 use Rattle.walks.proofs.Data.{Data, enum, struct, Params, shared, given, stays}
 use Rattle.walks.proofs.Entry.{Bound, End, Walk, walk-in, cites}
-use Rattle.walks.proofs.Calls.{calls-ends}
-use Rattle.walks.proofs.Calling.{lends, all, but, _&′_, both-twice, both-beside}
+use Rattle.walks.proofs.Calls.{calls-ends, lends, all, but, _&′_, both-twice, both-beside}
 use Rattle.walks.proofs.Frame.{leaves}
 use Rattle.walks.proofs.Steps.{arg, part, sets, lands-in, behind, resliced, in64, sliced, beside, copies, past, front, number, joins, fjoins}
 use Rattle.shortest.specs.Records.{writerAnswer, writerOutput}
@@ -105,7 +104,7 @@ module _ {M : Type 1} (𝓤 : kit.URA M) (H : kit.Heap 𝓤) (𝓜 : kit.Model �
   abbrev clauses : kit.Clauses 𝓤 write.ended
   clauses = write.clauses 𝓤 H A (𝓜 .mem) (𝓡 .run)
 
-  abbrev y : Bound 𝓤 H 𝓜 𝓖 𝓡 code.env code.function write.ended params clauses
+  abbrev y : Bound 𝓤 H A write.ended params clauses
   y = (
     (
       (κ₀, (κ₁, (κ₂, (κ₃, tt)))),
@@ -118,7 +117,7 @@ module _ {M : Type 1} (𝓤 : kit.URA M) (H : kit.Heap 𝓤) (𝓜 : kit.Model �
   )
 
   abbrev Post : Val → SProp 𝓤
-  Post = End 𝓤 H 𝓜 𝓖 𝓡 code.env code.function write.ended params clauses y
+  Post = End 𝓤 H A write.ended params clauses y
 
   abbrev Units : Fml
   Units = kit.ShrSlice (named 0) κ₀ U.the-row .own s (vs ∷ [])
@@ -214,7 +213,7 @@ module _ {M : Type 1} (𝓤 : kit.URA M) (H : kit.Heap 𝓤) (𝓜 : kit.Model �
       sets ! 17 (behind ! 23 refl refl) refl (tt, tt) $
       sets ! 15 (resliced ! 17 23 refl refl refl) refl (sliced (room .0)) $
       -- [the units and the segments; the room; its token; the output; its token; the locals]
-      lends ! fm u8 κ₂ q₂ γ b o (length ys) ys twice room refl stow.ended (stow.clauses 𝓤 H A (𝓜 .mem) (𝓡 .run))
+      lends ! 𝓣 u8 κ₂ q₂ γ b o (length ys) ys twice room refl stow.ended (stow.clauses 𝓤 H A (𝓜 .mem) (𝓡 .run))
       (cites 𝓤 H 𝓜 𝓖 𝓡 code.env code.calls-write·stow (stow.Met.met 𝓤 H 𝓜 𝓖 𝓡)) (mach p) IsP Kept (λ ν δ. (
         (
           (κ₀, (κ₁, (ν ∷ [], tt))),
@@ -232,7 +231,7 @@ module _ {M : Type 1} (𝓤 : kit.URA M) (H : kit.Heap 𝓤) (𝓜 : kit.Model �
         data-of = λ ν δ. a-progress;
         tells = λ ν δ. (refl, λ is. is);
         same = λ l st. st .same;
-        last = λ ν δ ws. ws .1 .1 .0;
+        left = λ ν δ ws. ws .1 .1 .0;
         says = λ ν δ r ws. id⊢ 𝓤 _;
         picks = λ ν δ ws. past ! $ past ! $ front ! $ front ! $ done !;
       }) (λ ν δ. arg ! 27 refl (arg ! 25 refl (arg ! 15 refl (kit.no-more !)))) (λ w is st.
@@ -259,7 +258,7 @@ pub write-spec : {M : Type 1} → write.Statement.statement M
 unfolding code.routine
 write-spec 𝓤 H 𝓜 𝓖 𝓡 =
     walk-in 𝓤 H 𝓜 𝓖 𝓡 code.env code.function write.ended params (write.clauses 𝓤 H (𝓖 .A) (𝓜 .mem) (𝓡 .run)) write.Key.name
-    (code.unfolded 𝓤 H 𝓜 𝓡) (λ κs a bs fit. fit) (λ κs qs bounds a g are. walk 𝓤 H 𝓜 𝓖 𝓡
-    (κs .0) (κs .1 .0) (κs .1 .1 .0) (κs .1 .1 .1 .0) (qs .0) (qs .1 .0) (qs .1 .1 .0) (qs .1 .1 .1 .0)
-    (a .0) (a .1 .0) (a .1 .1 .0 .ptr .0) (a .1 .1 .0 .ptr .1) (a .1 .1 .0 .name) (a .1 .1 .0 .now) (a .1 .1 .1 .0)
-    (are .0 .0 .1) (are .1 .1 .0 .0 .1) (are .1 .1 .1 .0 .0 .1))
+    (code.unfolded 𝓤 H 𝓜 𝓡) (λ z bs fit. fit) (λ z. walk 𝓤 H 𝓜 𝓖 𝓡
+    (z .κs .0) (z .κs .1 .0) (z .κs .1 .1 .0) (z .κs .1 .1 .1 .0) (z .qs .0) (z .qs .1 .0) (z .qs .1 .1 .0) (z .qs .1 .1 .1 .0)
+    (z .a .0) (z .a .1 .0) (z .a .1 .1 .0 .ptr .0) (z .a .1 .1 .0 .ptr .1) (z .a .1 .1 .0 .name) (z .a .1 .1 .0 .now) (z .a .1 .1 .1 .0)
+    (z .are .0 .0 .1) (z .are .1 .1 .0 .0 .1) (z .are .1 .1 .1 .0 .0 .1))

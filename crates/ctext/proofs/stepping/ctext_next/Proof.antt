@@ -6,7 +6,9 @@ use Rattle.ctext.proofs.stepping.ctext_next.Tie as tie
 
 returns : tie.Need-returns
 unfolding nextOf
-returns c = rw (← (c .before .before .before .before .state-in .ensures), ← (c .before .before .before .step .ensures), ← (c .before .position-of .ensures)) (c .hand .ensures)
+returns c =
+    rw (← (c .before .before .before .before .state-in .ensures), ← (c .before .before .before .step .ensures), ← (c .before .position-of .ensures))
+    (c .hand .ensures)
 
 pub ctext-next-spec : {M : Type 1} → statement M
 ctext-next-spec =

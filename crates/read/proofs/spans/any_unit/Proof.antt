@@ -6,12 +6,9 @@ use Rattle.read.specs.Spans.{anyOf}
 use Rattle.read.proofs.spans.any_unit.Statement.{statement}
 use Rattle.read.proofs.spans.any_unit.Tie as tie
 
-returns : tie.Need-returns
-returns c = rw (c .before .before .advance .ensures)
-
 pub any-unit-spec : {M : Type 1} → statement M
 any-unit-spec =
     tie.close
     (tie.spec
     (search needs)
-    returns)
+    (λ c. rw (c .before .before .advance .ensures)))

@@ -7,31 +7,6 @@ use Rattle.read.specs.Spans.{nthOf}
 use Rattle.read.proofs.spans.nth.Statement.{statement}
 use Rattle.read.proofs.spans.nth.Tie as tie
 
-add-one : tie.Need-add-one
-add-one c =
-    let h = one-within (c .before .before .before .before .pre) (c .before .if1 .taken) in
-    omega (arith, h)
-
-one-requires : tie.Need-one-requires
-one-requires c κs =
-    let h = one-within (c .before .before .before .before .pre) (c .before .if1 .taken) in
-    omega (arith, h)
-
-mul-two : tie.Need-mul-two
-mul-two c =
-    let h = two-within (c .before .before .before .before .before .pre) (omega (arith, c .if2 .taken)) in
-    record { fits = omega (arith, h) }
-
-add-two : tie.Need-add-two
-add-two c =
-    let h = two-within (c .before .before .before .before .before .before .pre) (omega (arith, c .before .if2 .taken)) in
-    omega (arith, h)
-
-two-requires : tie.Need-two-requires
-two-requires c κs =
-    let h = two-within (c .before .before .before .before .before .before .pre) (omega (arith, c .before .if2 .taken)) in
-    omega (arith, h)
-
 mul-two-2 : tie.Need-mul-two-2
 mul-two-2 c =
     let h = two-within (c .before .before .before .before .before .before .before .pre) (omega (arith, c .if3 .taken)) in
@@ -52,12 +27,12 @@ unfolding nthOf
 nth-spec =
     tie.close
     (tie.spec
-    add-one
-    one-requires
+    (λ c. omega (arith, one-within (c .before .before .before .before .pre) (c .before .if1 .taken)))
+    (λ c κs. omega (arith, one-within (c .before .before .before .before .pre) (c .before .if1 .taken)))
     (λ c. search ladder depth 9)
-    mul-two
-    add-two
-    two-requires
+    (λ c. record { fits = omega (arith, two-within (c .before .before .before .before .before .pre) (omega (arith, c .if2 .taken))) })
+    (λ c. omega (arith, two-within (c .before .before .before .before .before .before .pre) (omega (arith, c .before .if2 .taken))))
+    (λ c κs. omega (arith, two-within (c .before .before .before .before .before .before .pre) (omega (arith, c .before .if2 .taken))))
     (λ c. search ladder depth 9)
     mul-two-2
     add-two-2

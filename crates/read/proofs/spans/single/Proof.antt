@@ -7,4 +7,6 @@ use Rattle.read.proofs.spans.single.Tie as tie
 
 pub single-spec : {M : Type 1} → statement M
 unfolding singleOf
-single-spec = tie.close (tie.spec (λ c. search ladder depth 9) (λ c. search ladder depth 9) (λ c. search ladder depth 9) (λ c. search ladder depth 9) (λ c. search ladder depth 9))
+single-spec =
+    tie.close (tie.spec (λ c. search ladder depth 9) (λ c. search ladder depth 9) (λ c. search ladder depth 9) (λ c. search ladder depth 9)
+    (λ c. search ladder depth 9))

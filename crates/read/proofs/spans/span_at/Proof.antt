@@ -11,7 +11,8 @@ returns-3 c =
     let form = c .before .before .before .before in
     on-gt _ _ _ _ _ (form .before .before .if1 .left)
     (rw (← (form .form-at .ensures))
-    (on-ne _ _ _ _ _ (c .before .before .before .if2 .left) (on-eq _ _ _ _ _ (c .before .before .if3 .taken) (rw (← (c .before .lesser .ensures)) (c .of-form .ensures)))))
+    (on-ne _ _ _ _ _ (c .before .before .before .if2 .left) (on-eq _ _ _ _ _ (c .before .before .if3 .taken)
+    (rw (← (c .before .lesser .ensures)) (c .of-form .ensures)))))
 
 returns-4 : tie.Need-returns-4
 unfolding byForm spanOf

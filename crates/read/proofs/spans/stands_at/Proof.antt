@@ -7,31 +7,6 @@ use Rattle.read.specs.Spans.{stands}
 use Rattle.read.proofs.spans.stands_at.Statement.{statement}
 use Rattle.read.proofs.spans.stands_at.Tie as tie
 
-add-single-at : tie.Need-add-single-at
-add-single-at c =
-    let h = one-within (c .before .before .before .before .pre) (c .before .if1 .taken) in
-    omega (arith, h)
-
-single-at-requires : tie.Need-single-at-requires
-single-at-requires c κs =
-    let h = one-within (c .before .before .before .before .pre) (c .before .if1 .taken) in
-    omega (arith, h)
-
-mul-left-at : tie.Need-mul-left-at
-mul-left-at c =
-    let h = two-within (c .before .before .before .before .before .pre) (omega (arith, c .if2 .taken)) in
-    record { fits = omega (arith, h) }
-
-add-left-at : tie.Need-add-left-at
-add-left-at c =
-    let h = two-within (c .before .before .before .before .before .before .pre) (omega (arith, c .before .if2 .taken)) in
-    omega (arith, h)
-
-left-at-requires : tie.Need-left-at-requires
-left-at-requires c κs =
-    let h = two-within (c .before .before .before .before .before .before .pre) (omega (arith, c .before .if2 .taken)) in
-    omega (arith, h)
-
 mul-right-at : tie.Need-mul-right-at
 mul-right-at c =
     let h = two-within (c .before .before .before .before .before .before .before .pre) (omega (arith, c .if3 .taken)) in
@@ -52,12 +27,12 @@ unfolding stands
 stands-at-spec =
     tie.close
     (tie.spec
-    add-single-at
-    single-at-requires
+    (λ c. omega (arith, one-within (c .before .before .before .before .pre) (c .before .if1 .taken)))
+    (λ c κs. omega (arith, one-within (c .before .before .before .before .pre) (c .before .if1 .taken)))
     (λ c. search ladder depth 9)
-    mul-left-at
-    add-left-at
-    left-at-requires
+    (λ c. record { fits = omega (arith, two-within (c .before .before .before .before .before .pre) (omega (arith, c .if2 .taken))) })
+    (λ c. omega (arith, two-within (c .before .before .before .before .before .before .pre) (omega (arith, c .before .if2 .taken))))
+    (λ c κs. omega (arith, two-within (c .before .before .before .before .before .before .pre) (omega (arith, c .before .if2 .taken))))
     (λ c. search ladder depth 9)
     mul-right-at
     add-right-at
