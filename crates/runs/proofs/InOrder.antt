@@ -9,11 +9,13 @@ use mathlib.Core.Bool.{Bool, true, false, false≢true}
 use mathlib.Core.List.{List, [], _∷_}
 use lib.Dec.{eqb, ltb}
 use lib.ListN.{length}
-use borrow.Author.Tests.{eqb-true, ltb-false, le-ltb}
+use borrow.Author.Tests.{eq-eqb, eqb-true, ltb-false, le-ltb}
 use Rattle.base.specs.Answers.{refusedAt}
 use Rattle.base.specs.Choice.{pick, from}
 use Rattle.base.specs.Limit as limit
 use Rattle.base.specs.Refusal as refusal
+use Rattle.base.specs.declared.Answer.{Answer}
+use Rattle.base.proofs.Ladder.{on-ne}
 use Rattle.element.proofs.Sizes.{Fit}
 use Rattle.grammar.specs.Reading.{Elements, checkOf, noneRefused}
 use Rattle.grammar.proofs.Places.{Ahead, ends, passes, reads, ahead-from, from-start}
@@ -29,7 +31,7 @@ use Rattle.pieces.specs.Partition.{stateFrom}
 use Rattle.pieces.proofs.Laws.{StateAfter, state-after, first-state}
 use Rattle.pieces.proofs.Step.{Step, stops, goes, step, elementAt, rest, noRefusal}
 use Rattle.runs.specs.Runs.{runsIn, runsOf, shownOf, noRun, nthOf, runAt}
-use Rattle.runs.specs.Steps.{firstPosition, stays, stepTo, stopAt, lastOf, firstOf, runFrom, knownOf, checkedFrom, nextRunOf, positionAfter}
+use Rattle.runs.specs.Steps.{position, firstPosition, stays, stepTo, stopAt, lastOf, firstOf, runFrom, knownOf, checkedFrom, nextRunOf, positionAfter}
 use Rattle.runs.specs.declared.Bounds.{Bounds}
 use Rattle.runs.specs.declared.stepping.RunPosition.{RunPosition}
 use Rattle.runs.specs.declared.stepping.RunStep.{RunStep}
@@ -302,31 +304,52 @@ runs-past s k j = by (eqb (checkOf s .number) refusal.accepted) refl
         rw e (nth-past (length s) k j (runsOf s) n ∙ sym (rw z at (nth-past (length s) k 0 (runsOf s) n)))
     by false e h = rw e
 
--- the invariant of `run_at`: so many steps are left to the run that is asked for
-pub record Numbered (s : List ℕ) (k : ℕ) (p : RunPosition) (left : ℕ) : Type 0 where
+-- the invariant of `numbered`: so many steps are left to the run that is asked for
+pub record Numbered (s : List ℕ) (k at : ℕ) (st : State) (left : ℕ) : Type 0 where
   pub fits : left ≤ k
-  pub is : p ≡ positionAfter s (k - left)
+  pub accepts : Good s
+  pub stands : Stands s (k - left) (position at st true)
 
-pub number-first : (s : List ℕ) (k : ℕ) (p : RunPosition) → p ≡ firstPosition → Numbered s k p k
-unfolding positionAfter
-number-first s k p e = let z : k - k ≡ 0 = omega arith in record { fits = omega arith; is = rw z e }
+pub number-first : (s : List ℕ) (k : ℕ) (a : Answer) → a ≡ checkOf s → a .number ≡ refusal.accepted → Numbered s k 0 fresh k
+number-first s k a is e =
+    let z : k - k ≡ 0 = omega arith in
+    let g = good s (eq-eqb _ _ (sym (ap (λ (x : Answer). x .number) is) ∙ e)) in
+    let h = stands-first s g in
+    record { fits = omega arith; accepts = g; stands = rw z (record { within = h .within; fit = h .fit; clear = h .clear; runs = h .runs }) }
 
-module _ {s : List ℕ} {k : ℕ} {p : RunPosition} {left : ℕ} (h : Numbered s k p left) (t : RunStep) (e : t ≡ nextRunOf s p) where
-  numbered : t .run ≡ runAt s (k - left)
-  numbered = ap (λ (x : RunStep). x .run) e ∙ (ap (λ (x : RunPosition). nextRunOf s x .run) (h .is) ∙ in-order s (k - left))
+-- a refused string
+pub number-refused : (s : List ℕ) (k : ℕ) (a : Answer) → a ≡ checkOf s → (a .number ≡ refusal.accepted → ⊥) → noRun a ≡ runAt s k
+unfolding runAt
+number-refused s k a is n = on-ne _ _ _ _ _ (λ z. n (ap (λ (x : Answer). x .number) is ∙ z)) (ap noRun is)
 
-  pub at-number : left ≡ 0 → t .run ≡ runAt s k
-  at-number n = let z : k - left ≡ k = omega arith in rw z at numbered
+module _ {s : List ℕ} {k at : ℕ} {st : State} {left : ℕ} (h : Numbered s k at st left) where
+  pub number-may : mayStand (length s) at st ≡ true
+  number-may = may-stand (length s) at st (h .stands .within) (h .stands .fit)
 
-  pub past-number : (t .run .answer .number ≡ refusal.accepted → ⊥) → t .run ≡ runAt s k
-  past-number n =
-      let f = h .fits in
-      let z : k - left + left ≡ k = omega arith in
-      numbered ∙ sym (rw z at (runs-past s (k - left) left (λ y. n (ap (λ (x : Bounds). x .answer .number) numbered ∙ y))))
+  module _ (t : RunStep) (e : t ≡ runFrom s at st) where
+    at-step : Stepped s (k - left) t
+    at-step = rw e (from-step s (h .accepts) (k - left) (position at st true) (h .stands))
 
-  pub next-number : (left ≡ 0 → ⊥) → Numbered s k (t .position) (left - 1)
-  unfolding positionAfter
-  next-number n =
-      let f = h .fits in
-      let z : k - (left - 1) ≡ suc (k - left) = omega arith in
-      record { fits = omega arith; is = rw z (ap (λ (x : RunStep). x .position) e ∙ ap (λ (x : RunPosition). nextRunOf s x .position) (h .is)) }
+    numbered : t .run ≡ runAt s (k - left)
+    unfolding runAt pick
+    numbered = at-step .shown ∙ rw (h .accepts .accepted)
+
+    pub at-number : left ≡ 0 → t .run ≡ runAt s k
+    at-number n = let z : k - left ≡ k = omega arith in rw z at numbered
+
+    pub past-number : (t .run .answer .number ≡ refusal.accepted → ⊥) → t .run ≡ runAt s k
+    past-number n =
+        let f = h .fits in
+        let z : k - left + left ≡ k = omega arith in
+        numbered ∙ sym (rw z at (runs-past s (k - left) left (λ y. n (ap (λ (x : Bounds). x .answer .number) numbered ∙ y))))
+
+    pub next-number : (left ≡ 0 → ⊥) → Numbered s k (t .position .place) (t .position .state) (left - 1)
+    next-number n =
+        let f = h .fits in
+        let z : k - (left - 1) ≡ suc (k - left) = omega arith in
+        let x = at-step .after in
+        record {
+          fits = omega arith;
+          accepts = h .accepts;
+          stands = rw z (record { within = x .within; fit = x .fit; clear = x .clear; runs = x .runs });
+        }

@@ -1,6 +1,6 @@
 // Runs: the stretches of text of one side, asked for by number; `stepping` has them one after the other, and `listed` several at once.
 ghost use mathlib.Core.Path.{_≡_};
-ghost use Prim.Native.Nat.{_+_, _-_, _≤_};
+ghost use Prim.Native.Nat.{_-_, _≤_};
 ghost use lib.ListN.{length, getD, take, drop};
 ghost use Rattle.runs.specs.Runs.{widthOf, shownOf, noRun, runAt, runOctets, startsAt, Shown};
 use base::Answer;
@@ -76,26 +76,11 @@ fn shown(n: usize, run: Piece) -> Bounds
 }
 
 // The k-th run of a string: where it lies, and its numbers. Each call checks the string and steps to the run that is asked for; for all runs of a
-// string there are `stepping::next_run` and `listed::next_runs`. Where a step shows none, all after it answer the same.
+// string there are `stepping::next_run` and `listed::next_runs`.
 pub fn run_at(s: &[u8], k: usize) -> Bounds
     ensures { λ r. ⌜ r ≡ runAt (now (s .entry)) k ⌝ }
 {
-    let mut p = stepping::first_position();
-    let mut left = k;
-    loop {
-        let t = stepping::next_run(s, p);
-        let run = t.run;
-        let answer = run.answer;
-        if left == 0 {
-            return run;
-        }
-        if answer.number != refusal::ACCEPTED {
-            return run;
-        }
-        let next = t.position;
-        p = next;
-        left -= 1;
-    }
+    stepping::numbered(s, k)
 }
 
 // That very part of the string.

@@ -6,6 +6,7 @@ ghost use Rattle.base.specs.Choice.{from};
 ghost use Rattle.element.specs.Element.{elementOf};
 ghost use Rattle.pieces.specs.Pieces.{piece};
 ghost use Rattle.reader.specs.Step.{mayStand};
+ghost use Rattle.runs.specs.Runs.{runAt};
 ghost use Rattle.runs.specs.Steps.{firstPosition, stays, stepTo, stopAt, runFrom, knownOf, checkedFrom, nextRunOf};
 use crate::Bounds;
 use crate::ends::text_end;
@@ -173,4 +174,33 @@ pub fn next_run(s: &[u8], p: RunPosition) -> RunStep
         return checked_from(s, p);
     }
     stays(p, Answer::refused(refusal::BAD_UNIT, 0))
+}
+
+// The run of a number, by as many steps. Where a step shows none, all after it answer the same.
+pub fn numbered(s: &[u8], k: usize) -> Bounds
+    ensures { λ r. ⌜ r ≡ runAt (now (s .entry)) k ⌝ }
+{
+    let checked = check_string::answer(s);
+    if checked.number != refusal::ACCEPTED {
+        return crate::no_run(checked);
+    }
+    let mut at: usize = 0;
+    let mut st = State::FRESH;
+    let mut left = k;
+    loop {
+        let t = run_from(s, at, st);
+        let run = t.run;
+        let answer = run.answer;
+        if left == 0 {
+            return run;
+        }
+        if answer.number != refusal::ACCEPTED {
+            return run;
+        }
+        let p = t.position;
+        let next = p.state;
+        at = p.place;
+        st = next;
+        left -= 1;
+    }
 }

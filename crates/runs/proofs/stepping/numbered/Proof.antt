@@ -1,0 +1,57 @@
+-- `stepping::numbered` meets its contract: the run of the step after k steps is the k-th run.
+use native.Mathlib.Omega.{arith}
+use mathlib.Core.Path.{_∙_}
+use borrow.Author.Needs.{needs}
+use Rattle.runs.proofs.InOrder.{Numbered, number-first, number-refused, number-may, at-number, past-number, next-number}
+use Rattle.runs.proofs.stepping.numbered.Statement.{statement}
+use Rattle.runs.proofs.stepping.numbered.Tie as tie
+
+abbrev Inv-loop : tie.InvT-loop
+Inv-loop s k at₀ st₀ left₀ at st left = Numbered s k at st left
+
+abbrev μ-loop : tie.MeasureT-loop
+μ-loop s k at₀ st₀ left₀ at st left = left
+
+returns : tie.Need-returns Inv-loop μ-loop
+returns c = c .no-run .ensures ∙ number-refused _ _ _ (c .before .before .before .answer .ensures) (c .before .if1 .taken)
+
+loop-holds : tie.Need-loop-holds Inv-loop μ-loop
+loop-holds c = number-first _ _ _ (c .before .before .answer .ensures) (c .if1 .left)
+
+run-from-requires : tie.Need-run-from-requires Inv-loop μ-loop
+run-from-requires c κs = number-may (c .loop .inv)
+
+returns-2 : tie.Need-returns-2 Inv-loop μ-loop
+returns-2 c =
+    let turn = c .before .before .before in
+    at-number (turn .before .loop .inv) _ (turn .run-from .ensures) (c .if2 .taken)
+
+returns-3 : tie.Need-returns-3 Inv-loop μ-loop
+returns-3 c =
+    let turn = c .before .before .before .before .before in
+    past-number (turn .before .loop .inv) _ (turn .run-from .ensures) (c .if3 .taken)
+
+loop-less : tie.Need-loop-less Inv-loop μ-loop
+loop-less c = omega (arith, c .before .before .before .before .if2 .left)
+
+loop-again : tie.Need-loop-again Inv-loop μ-loop
+loop-again c =
+    let turn = c .before .before .before .before .before .before .before in
+    next-number (turn .before .loop .inv) _ (turn .run-from .ensures) (c .before .before .before .before .if2 .left)
+
+pub numbered-spec : {M : Type 1} → statement M
+numbered-spec =
+    tie.close
+    (tie.spec
+    Inv-loop
+    μ-loop
+    (search needs)
+    (search needs)
+    returns
+    loop-holds
+    run-from-requires
+    returns-2
+    returns-3
+    (search needs)
+    loop-less
+    loop-again)
