@@ -199,7 +199,8 @@ module _ (s : List ℕ) (g : Good s) (k : ℕ) (p : RunPosition) (h : Stands s k
   one-by : {r : RunStep} → Done s (lastFrom s (p .place) (p .state)) → Walked s there true (lastFrom s (p .place) (p .state)) left r → Stepped s k r
   unfolding nthOf runsIn
   one-by d (over x y) =
-      let none : (j : ℕ) → nthOf (length s) (k + j) (runsOf s) ≡ noRun (refusedAt refusal.bad-unit 0) = λ j. sym (h .runs j) ∙ ap (nthOf (length s) j) x in
+      let none : (j : ℕ) → nthOf (length s) (k + j) (runsOf s) ≡ noRun (refusedAt refusal.bad-unit 0) = λ j. sym (h .runs j) ∙
+      ap (nthOf (length s) j) x in
       let is = y ∙ d .is in
       let n : k + 0 ≡ k = omega arith in
       rw is (record {
@@ -297,7 +298,8 @@ runs-past : (s : List ℕ) (k j : ℕ) → (runAt s k .answer .number ≡ refusa
 unfolding runAt pick
 runs-past s k j = by (eqb (checkOf s .number) refusal.accepted) refl
   where
-    by : (b : Bool) → eqb (checkOf s .number) refusal.accepted ≡ b → (runAt s k .answer .number ≡ refusal.accepted → ⊥) → runAt s (k + j) ≡ runAt s k
+    by : (b : Bool) → eqb (checkOf s .number) refusal.accepted ≡ b → (runAt s k .answer .number ≡ refusal.accepted → ⊥)
+        → runAt s (k + j) ≡ runAt s k
     by true e h =
         let n = rw e at h in
         let z : k + 0 ≡ k = omega arith in
