@@ -1,17 +1,8 @@
 -- A reader that is opened on a string and stepped until it repeats gives the list of `read` and the answer of `check` (`same-list`).
-use Prim.Native.Nat.{ℕ, _≤_}
-use native.Mathlib.Omega.{arith}
-use mathlib.Core.Path.{_≡_, refl, ap, sym, _∙_}
-use mathlib.Core.Bool.{Bool, true, false}
-use mathlib.Core.List.{List, []}
-use lib.Dec.{ltb}
-use lib.ListN.{length}
-use borrow.Author.Tests.{le-ltb}
-use denote.Ref.{RefT, now}
-use Rattle.base.specs.Choice.{pick}
+use Rattle.element.proofs.Names.{ℕ, _≤_, arith, _≡_, refl, ap, sym, _∙_, Bool, true, false, List, [], ltb, length, le-ltb, now, pick, UnitRecord}
+use denote.Ref.{RefT}
 use Rattle.base.specs.Limit as limit
 use Rattle.base.specs.Refusal as refusal
-use Rattle.base.specs.declared.Unit.{Unit as UnitRecord}
 use Rattle.grammar.specs.Reading.{checkOf}
 use Rattle.units.specs.Records.{recordsOf}
 use Rattle.read.specs.Listing.{readAnswer}

@@ -1,18 +1,8 @@
 -- A record that is not refused fits a row, and the row's unit is the record's.
-use Prim.Native.Nat.{ℕ, _+_, _-_, _/_, _%_, _≤_, _<_}
-use native.Mathlib.Omega.{arith}
-use mathlib.Core.Path.{_≡_, refl, sym, ap, ap₂, _∙_, subst}
-use mathlib.Core.Bool.{true}
-use mathlib.Core.List.{List}
-use mathlib.Core.Option.{some, Option·some-injective}
-use lib.Dec.{eqb, ltb}
-use lib.ListN.{length, set, take, drop}
-use borrow.Author.Tests.{eqb-true, eqb-false, ne-eqb, lt-ltb, ltb-true, ltb-false, leb-true}
-use Rattle.base.specs.Choice.{pick}
+use Rattle.element.proofs.Names.{ℕ, _+_, _-_, _/_, _%_, _≤_, _<_, arith, _≡_, refl, sym, ap, ap₂, _∙_, subst, true, List, some}
+use Rattle.element.proofs.Names.{Option·some-injective, eqb, ltb, length, set, take, drop, eqb-true, eqb-false, ne-eqb, lt-ltb, ltb-true, ltb-false, leb-true}
+use Rattle.element.proofs.Names.{pick, UnitRecord, off, clash, test, from-tests, formOf}
 use Rattle.base.specs.Kind as kind
-use Rattle.base.specs.declared.Unit.{Unit as UnitRecord}
-use Rattle.base.proofs.Bools.{off, clash, test, from-tests}
-use Rattle.charset.specs.Charsets.{formOf}
 use Rattle.charset.proofs.Laws.{narrow-form, wide-form}
 use Rattle.grammar.specs.Units.{TextUnit, char, space, control, ext, controlOf, unitOf, codeUsed, segment, good}
 use Rattle.grammar.proofs.Good.{one-code, two-code, good-segment}

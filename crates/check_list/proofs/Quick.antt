@@ -1,23 +1,12 @@
 -- The quick check is right: a record that it lets through, where the directions are settled, is refused for nothing and changes no
 -- direction. A space by its kind; a character since the bounds of its set's octets are those of the codes that the set uses.
-use Prim.Native.Nat.{ℕ, _+_, _-_, _*_, _/_, _%_, _≤_, _<_}
-use native.Mathlib.Omega.{arith}
-use mathlib.Core.Path.{_≡_, refl, sym, ap, _∙_}
-use mathlib.Core.Bool.{true, false}
-use mathlib.Core.List.{List}
-use lib.Dec.{eqb, leb, ltb}
-use borrow.Author.Tests.{eqb-true, eqb-false, leb-true, leb-false, le-leb, ltb-true, ltb-false, lt-ltb}
-use Rattle.base.specs.Choice.{pick}
+use Rattle.element.proofs.Names.{ℕ, _+_, _-_, _*_, _/_, _%_, _≤_, _<_, arith, _≡_, refl, sym, ap, _∙_, true, false, List, eqb, leb, ltb, eqb-true}
+use Rattle.element.proofs.Names.{eqb-false, leb-true, leb-false, le-leb, ltb-true, ltb-false, lt-ltb, pick, UnitRecord, off, test, pick-last, from-tests}
+use Rattle.element.proofs.Names.{tested, no-set, formOf, writtenOf, stepOf, Directions, Step, Goes}
 use Rattle.base.specs.Kind as kind
-use Rattle.base.specs.declared.Unit.{Unit as UnitRecord}
-use Rattle.base.proofs.Bools.{off, test, pick-last, from-tests, tested}
-use Rattle.charset.specs.Charsets.{no-set, formOf}
 use Rattle.charset.proofs.Laws.{formRule, form-rule}
 use Rattle.element.proofs.Starts.{graphic}
-use Rattle.state.specs.Directions.{writtenOf, stepOf, countsAsText}
-use Rattle.state.specs.declared.directions.Directions.{Directions}
-use Rattle.state.specs.declared.directions.Step.{Step}
-use Rattle.state.specs.declared.directions.Step.the-variants.{Goes}
+use Rattle.state.specs.Directions.{countsAsText}
 use Rattle.grammar.specs.Units.{codeUsed}
 use Rattle.grammar.specs.Records.{unitRead}
 use Rattle.shortest.specs.Records.{fault}

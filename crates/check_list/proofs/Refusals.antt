@@ -1,30 +1,15 @@
 -- The refusals of a record, case by case: by its kind, of a character, of a segment.
-use Prim.Native.Nat.{ℕ, _+_, _-_, _≤_, _<_}
-use native.Mathlib.Omega.{arith}
-use mathlib.Core.Path.{_≡_, refl, ap, _∙_}
-use mathlib.Core.Bool.{Bool, true, false, cond}
-use mathlib.Core.List.{List}
-use mathlib.Core.Option.{some}
-use lib.Dec.{leb}
-use lib.ListN.{length, take, drop, length-take, length-drop}
-use borrow.Author.Tests.{ne-eqb, le-leb, lt-leb, le-ltb, lt-ltb}
-use Rattle.base.proofs.Bools.{clash, test, _&_, each}
-use Rattle.base.proofs.Ladder.{on-le, on-gt}
-use Rattle.base.specs.Choice.{pick}
+use Rattle.element.proofs.Names.{ℕ, _+_, _-_, _≤_, _<_, arith, _≡_, refl, ap, _∙_, Bool, true, false, cond, List, some, leb, length, take, drop}
+use Rattle.element.proofs.Names.{length-take, length-drop, ne-eqb, le-leb, lt-leb, le-ltb, lt-ltb, clash, test, on-gt, pick, UnitRecord, no-set, formOf}
+use Rattle.element.proofs.Names.{stepOf, Directions, Step, Stops, Part, Shape, Gives}
+use Rattle.base.proofs.Bools.{_&_, each}
+use Rattle.base.proofs.Ladder.{on-le}
 use Rattle.base.specs.Kind as kind
 use Rattle.base.specs.Refusal as refusal
-use Rattle.base.specs.declared.Unit.{Unit as UnitRecord}
-use Rattle.charset.specs.Charsets.{no-set, formOf}
 use Rattle.segment.specs.declared.Name.{Name}
 use Rattle.segment.specs.Segment.{segmentPart, nameOf, contentOf}
-use Rattle.state.specs.Directions.{countsAsText, stepOf}
+use Rattle.state.specs.Directions.{countsAsText}
 use Rattle.state.specs.Elements.{refused}
-use Rattle.state.specs.declared.directions.Directions.{Directions}
-use Rattle.state.specs.declared.directions.Step.{Step}
-use Rattle.state.specs.declared.directions.Step.the-variants.{Stops}
-use Rattle.state.specs.declared.elements.Part.{Part}
-use Rattle.state.specs.declared.elements.Shape.{Shape}
-use Rattle.state.specs.declared.elements.Shape.the-variants.{Gives}
 use Rattle.grammar.specs.Units.{char, ext, unitOf, textOctets, codeUsed, segment, good}
 use Rattle.grammar.specs.Reading.{direct}
 use Rattle.grammar.proofs.Segment.{content}

@@ -1,17 +1,6 @@
 -- A turn of the check: by what it was before, and by what the record's refusal is.
-use Prim.Native.Nat.{ℕ, _≤_, _<_}
-use native.Mathlib.Omega.{arith}
-use mathlib.Core.Path.{_≡_, refl}
-use mathlib.Core.Bool.{Bool, true, false, false≢true}
-use mathlib.Core.List.{List}
-use lib.Dec.{eqb, leb, ltb}
-use borrow.Author.Tests.{eq-eqb, ne-eqb, eqb-true, eqb-false, le-leb, leb-true, le-ltb, ltb-false}
-use Rattle.base.specs.declared.Unit.{Unit as UnitRecord}
-use Rattle.state.specs.declared.directions.Directions.{Directions}
-use Rattle.state.specs.declared.directions.Step.{Step}
-use Rattle.state.specs.declared.directions.Step.the-variants.{Goes, Stops}
-use Rattle.base.specs.Choice.{pick}
-use Rattle.base.proofs.Bools.{clash, test, pick-by}
+use Rattle.element.proofs.Names.{ℕ, _≤_, _<_, arith, _≡_, refl, Bool, true, false, false≢true, List, eqb, leb, ltb, eq-eqb, ne-eqb, eqb-true}
+use Rattle.element.proofs.Names.{eqb-false, le-leb, leb-true, le-ltb, ltb-false, UnitRecord, Directions, Step, Goes, Stops, pick, clash, test, pick-by}
 use Rattle.grammar.specs.Records.{unitRead}
 use Rattle.shortest.specs.Records.{fault}
 use Rattle.rows.specs.Rows.{withRecord}

@@ -1,32 +1,15 @@
 -- A turn of the loop of `whole`, on plain values: what is left answers what the whole string does, before the turn and after it.
-use Prim.Native.Nat.{ℕ, _+_, _-_, _≤_, _<_}
+use Rattle.element.proofs.Names.{ℕ, _+_, _-_, _≤_, _<_, arith, _≡_, refl, ap, sym, _∙_, List, length, answer, refusedAt, from, Answer, from-end}
+use Rattle.element.proofs.Names.{no-set, Side, stepOf, fresh, designatedOf, State, Part, Directions, Step, Goes, Stops, Shape, Refuses, Designates, Gives}
+use Rattle.element.proofs.Names.{Element, End, Refused, Silent, Found}
 use native.Mathlib.Numerals.{unary-clauses}
-use native.Mathlib.Omega.{arith}
-use mathlib.Core.Path.{_≡_, refl, ap, sym, _∙_}
-use mathlib.Core.List.{List}
-use lib.ListN.{length}
-use Rattle.base.specs.Answers.{answer, refusedAt}
-use Rattle.base.specs.Choice.{from}
-use Rattle.base.specs.declared.Answer.{Answer}
-use Rattle.base.proofs.Ladder.{from-end}
-use Rattle.charset.specs.Charsets.{no-set}
-use Rattle.charset.specs.declared.Side.{Side}
 use Rattle.element.specs.Element.{shapeOf, steppedOf, directedOf, elementOf}
 use Rattle.element.proofs.Sizes.{silent, found}
 use Rattle.grammar.specs.Reading.{size, elementsOf, answerOf}
 use Rattle.grammar.proofs.Elements.{at-nothing}
 use Rattle.grammar.proofs.Places.{ahead, at-end, at-refused, at-passed, refused-within, step-passed}
-use Rattle.state.specs.Directions.{stepOf}
-use Rattle.state.specs.State.{fresh, designatedOf, directedTo}
-use Rattle.state.specs.declared.State.{State}
-use Rattle.state.specs.declared.elements.Part.{Part}
-use Rattle.state.specs.declared.directions.Directions.{Directions}
-use Rattle.state.specs.declared.directions.Step.{Step}
-use Rattle.state.specs.declared.directions.Step.the-variants.{Goes, Stops}
-use Rattle.state.specs.declared.elements.Shape.{Shape}
-use Rattle.state.specs.declared.elements.Shape.the-variants.{Ends, Refuses, Designates, Gives}
-use Rattle.state.specs.declared.elements.Element.{Element}
-use Rattle.state.specs.declared.elements.Element.the-variants.{End, Refused, Silent, Found}
+use Rattle.state.specs.State.{directedTo}
+use Rattle.state.specs.declared.elements.Shape.the-variants.{Ends}
 use Rattle.stretch.specs.Characters.{stretchAt}
 use Rattle.stretch.specs.Designation.{designationAt}
 use Rattle.stretch.specs.declared.characters.Stretch.{Stretch}

@@ -21,8 +21,8 @@ positionIn p =
     (state (sets (p .gl) (p .gr)) (directions (p .depth) (p .levels) (not (eqb (p .marked) 0)) (not (eqb (p .texted) 0))))
     (not (eqb (p .checked) 0))
 
-unfoldable pub packed : RunPosition → RunReader
-packed p =
+unfoldable pub packedRuns : RunPosition → RunReader
+packedRuns p =
     record {
       levels = p .state .directions .levels;
       place = p .place;
@@ -35,15 +35,15 @@ packed p =
     }
 
 -- a reader of runs at the start of a string
-abbrev pub opened : RunReader
-opened = packed firstPosition
+abbrev pub openedRuns : RunReader
+openedRuns = packedRuns firstPosition
 
 -- the step of a reader of runs
-unfoldable pub nextOf : List ℕ → RunReader → RunHanded
-nextOf s p =
+unfoldable pub nextRunHanded : List ℕ → RunReader → RunHanded
+nextRunHanded s p =
     let t = nextRunOf s (positionIn p) in
-    record { reader = packed (t .position); run = t .run }
+    record { reader = packedRuns (t .position); run = t .run }
 
 -- what a step of several runs gives
 unfoldable pub handedOf : RunsStep → RunsHanded
-handedOf t = record { reader = packed (t .position); answer = t .answer }
+handedOf t = record { reader = packedRuns (t .position); answer = t .answer }

@@ -22,12 +22,12 @@ use Rattle.ctext.specs.declared.stepping.Handed.{Handed}
 unfoldable pub flagOf : Bool → ℕ
 flagOf b = pick b 1 0
 
-unfoldable pub stateIn : Position → State
-stateIn p =
+unfoldable pub stateUnpacked : Position → State
+stateUnpacked p =
     state (sets (p .gl) (p .gr)) (directions (p .depth) (p .levels) (not (eqb (p .marked) 0)) (not (eqb (p .texted) 0)))
 
-unfoldable pub packed : ℕ → ℕ → State → Position
-packed place count st =
+unfoldable pub packedReader : ℕ → ℕ → State → Position
+packedReader place count st =
     record {
       levels = st .directions .levels;
       place = place;
@@ -40,16 +40,16 @@ packed place count st =
     }
 
 -- a reader at the start of a string
-abbrev pub opened : Position
-opened = packed 0 0 fresh
+abbrev pub openedReader : Position
+openedReader = packedReader 0 0 fresh
 
 -- an item, and the position after it
-unfoldable pub stepOf : Position → Item → Handed
-stepOf p (Given u) = record { position = p; answer = answer refusal.accepted 0 0; unit = u; given = 1 }
-stepOf p (Ended a) = record { position = p; answer = a; unit = blank; given = 0 }
+unfoldable pub itemHanded : Position → Item → Handed
+itemHanded p (Given u) = record { position = p; answer = answer refusal.accepted 0 0; unit = u; given = 1 }
+itemHanded p (Ended a) = record { position = p; answer = a; unit = blank; given = 0 }
 
 -- the step of a reader that stands at a position
-unfoldable pub nextOf : List ℕ → Position → Handed
-nextOf s p =
-    let t = stepAt s (p .place) (p .count) (stateIn p) in
-    stepOf (packed (t .place) (t .count) (t .state)) (t .item)
+unfoldable pub nextHanded : List ℕ → Position → Handed
+nextHanded s p =
+    let t = stepAt s (p .place) (p .count) (stateUnpacked p) in
+    itemHanded (packedReader (t .place) (t .count) (t .state)) (t .item)

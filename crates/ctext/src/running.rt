@@ -1,8 +1,8 @@
 // The runs of a string one after the other, for C: the caller keeps the string, and this value beside it.
 ghost use mathlib.Core.Path.{_≡_};
 ghost use lib.ListN.{length};
-ghost use Rattle.runs.specs.Listed.{listAfter, nextRunsOf};
-ghost use Rattle.ctext.specs.Running.{positionIn, packed, opened, nextOf, handedOf};
+ghost use Rattle.runs.specs.Listed.{wordsAfter, nextRunsOf};
+ghost use Rattle.ctext.specs.Running.{positionIn, packedRuns, openedRuns, nextRunHanded, handedOf};
 use crate::stepping::flag;
 use base::Answer;
 use runs::Bounds;
@@ -51,7 +51,7 @@ fn position_in(p: RunReader) -> RunPosition
 }
 
 fn reader_of(p: RunPosition) -> RunReader
-    ensures { λ r. ⌜ r ≡ packed p ⌝ }
+    ensures { λ r. ⌜ r ≡ packedRuns p ⌝ }
 {
     let state = p.state;
     let directions = state.directions;
@@ -71,7 +71,7 @@ fn reader_of(p: RunPosition) -> RunReader
 // A reader of runs at the start of a string, which is not checked yet.
 #[no_mangle]
 pub extern "C" fn ctext_open_runs() -> RunReader
-    ensures { λ r. ⌜ r ≡ opened ⌝ }
+    ensures { λ r. ⌜ r ≡ openedRuns ⌝ }
 {
     reader_of(runs::stepping::first_position())
 }
@@ -79,7 +79,7 @@ pub extern "C" fn ctext_open_runs() -> RunReader
 // The next run or the answer, and where the reader then stands.
 #[no_mangle]
 pub extern "C" fn ctext_next_run(s: &[u8], p: RunReader) -> RunHanded
-    ensures { λ r. ⌜ r ≡ nextOf (now (s .entry)) p ⌝ }
+    ensures { λ r. ⌜ r ≡ nextRunHanded (now (s .entry)) p ⌝ }
 {
     let t = runs::stepping::next_run(s, position_in(p));
     let position = t.position;
@@ -102,7 +102,7 @@ pub struct RunsHanded {
 #[no_mangle]
 pub extern "C" fn ctext_next_runs(s: &[u8], p: RunReader, out: &mut [u64]) -> RunsHanded
     ensures { λ r. ⌜ (r ≡ handedOf (nextRunsOf (now (s .entry)) (positionIn p) (length (now (out .entry))) .step))
-        × (now (out .exit) ≡ listAfter (nextRunsOf (now (s .entry)) (positionIn p) (length (now (out .entry))) .runs) (now (out .entry))) ⌝ }
+        × (now (out .exit) ≡ wordsAfter (nextRunsOf (now (s .entry)) (positionIn p) (length (now (out .entry))) .runs) (now (out .entry))) ⌝ }
 {
     let t = runs::listed::next_runs(s, position_in(p), out);
     let position = t.position;

@@ -1,6 +1,6 @@
 // A reader that steps, for C: the caller keeps the string, and this value beside it.
 ghost use mathlib.Core.Path.{_≡_};
-ghost use Rattle.ctext.specs.Stepping.{flagOf, stateIn, opened, packed, stepOf, nextOf};
+ghost use Rattle.ctext.specs.Stepping.{flagOf, stateUnpacked, openedReader, packedReader, itemHanded, nextHanded};
 use base::Answer;
 use base::Unit;
 use reader::Item;
@@ -42,7 +42,7 @@ pub fn flag(b: bool) -> u8
 }
 
 fn state_in(p: Position) -> State
-    ensures { λ r. ⌜ r ≡ stateIn p ⌝ }
+    ensures { λ r. ⌜ r ≡ stateUnpacked p ⌝ }
 {
     State {
         directions: Directions {
@@ -56,7 +56,7 @@ fn state_in(p: Position) -> State
 }
 
 fn position_of(place: usize, count: usize, st: State) -> Position
-    ensures { λ r. ⌜ r ≡ packed place count st ⌝ }
+    ensures { λ r. ⌜ r ≡ packedReader place count st ⌝ }
 {
     let directions = st.directions;
     let sets = st.sets;
@@ -75,13 +75,13 @@ fn position_of(place: usize, count: usize, st: State) -> Position
 // A reader at the start of a string.
 #[no_mangle]
 pub extern "C" fn ctext_open() -> Position
-    ensures { λ r. ⌜ r ≡ opened ⌝ }
+    ensures { λ r. ⌜ r ≡ openedReader ⌝ }
 {
     position_of(0, 0, State::FRESH)
 }
 
 fn hand(p: Position, item: Item) -> Handed
-    ensures { λ r. ⌜ r ≡ stepOf p item ⌝ }
+    ensures { λ r. ⌜ r ≡ itemHanded p item ⌝ }
 {
     match item {
         Item::Given(unit) => Handed {
@@ -108,7 +108,7 @@ fn hand(p: Position, item: Item) -> Handed
 // The next unit or the answer, and where the reader then stands.
 #[no_mangle]
 pub extern "C" fn ctext_next(s: &[u8], p: Position) -> Handed
-    ensures { λ r. ⌜ r ≡ nextOf (now (s .entry)) p ⌝ }
+    ensures { λ r. ⌜ r ≡ nextHanded (now (s .entry)) p ⌝ }
 {
     let st = state_in(p);
     let t = reader::step(s, p.place, p.count, st);

@@ -1,13 +1,7 @@
 -- A designation that is found at a place stands within the string.
-use Prim.Native.Nat.{ℕ, _+_, _≤_, _<_}
-use mathlib.Core.Path.{_≡_, sym, refl}
-use mathlib.Core.List.{List}
-use lib.ListN.{length}
-use Rattle.base.specs.Choice.{from}
-use Rattle.charset.specs.Charsets.{no-set}
+use Rattle.element.proofs.Names.{ℕ, _+_, _≤_, _<_, _≡_, sym, refl, List, length, from, no-set, fresh}
 use Rattle.element.specs.Element.{elementOf}
 use Rattle.element.proofs.Sizes.{silent}
-use Rattle.state.specs.State.{fresh}
 use Rattle.grammar.proofs.Places.{step-passed}
 use Rattle.stretch.specs.Designation.{designationAt}
 use Rattle.stretch.specs.declared.designation.Designation.{Designation}

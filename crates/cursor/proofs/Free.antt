@@ -1,22 +1,10 @@
 -- An element that is not refused is the same under directions that refuse nothing (`same-element`): its shape does not know the directions, and
 -- such directions let every unit pass. So a cursor keeps the sets alone.
-use Prim.Native.Nat.{ℕ, _+_, _*_, _%_, _^_}
-use mathlib.Core.Path.{_≡_, refl}
-use mathlib.Core.Bool.{Bool, true, false}
-use mathlib.Core.List.{List}
-use lib.Dec.{eqb, ltb}
-use Rattle.base.specs.Choice.{pick}
-use Rattle.state.specs.Directions.{directions, writtenOf, deeperOf, begunOf, revertedOf, stepOf}
+use Rattle.element.proofs.Names.{ℕ, _+_, _*_, _%_, _^_, _≡_, refl, Bool, true, false, List, eqb, ltb, pick, directions, writtenOf, deeperOf, begunOf}
+use Rattle.element.proofs.Names.{revertedOf, stepOf, State, Directions, Step, Goes, Stops, Part, Shape, Refuses, Designates, Gives, Element, End, Refused}
+use Rattle.element.proofs.Names.{Silent, Found}
 use Rattle.state.specs.State.{state, directedTo}
-use Rattle.state.specs.declared.State.{State}
-use Rattle.state.specs.declared.directions.Directions.{Directions}
-use Rattle.state.specs.declared.directions.Step.{Step}
-use Rattle.state.specs.declared.directions.Step.the-variants.{Goes, Stops}
-use Rattle.state.specs.declared.elements.Part.{Part}
-use Rattle.state.specs.declared.elements.Shape.{Shape}
-use Rattle.state.specs.declared.elements.Shape.the-variants.{Ends, Refuses, Designates, Gives}
-use Rattle.state.specs.declared.elements.Element.{Element}
-use Rattle.state.specs.declared.elements.Element.the-variants.{End, Refused, Silent, Found}
+use Rattle.state.specs.declared.elements.Shape.the-variants.{Ends}
 use Rattle.element.specs.Element.{shapeOf, steppedOf, directedOf, elementOf}
 use Rattle.cursor.specs.Cursor.{free, freed}
 

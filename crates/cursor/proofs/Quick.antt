@@ -1,32 +1,10 @@
 -- Where the octets at a cursor are taken for text, the element there is refused or is that text, whatever the directions are (`quick-turn`): by
 -- the class of the first octet, which starts no control.
-use Prim.Native.Nat.{ℕ, _+_, _*_, _%_, _^_, _≤_, _<_}
-use native.Mathlib.Omega.{arith}
-use mathlib.Core.Path.{_≡_, refl, ap, sym, _∙_}
-use mathlib.Core.Bool.{Bool, true, false, false≢true}
-use mathlib.Core.List.{List, [], _∷_}
-use mathlib.Core.Logic.{_⊎_, inl, inr, ⊎-elim}
-use lib.Dec.{ltb}
-use borrow.Author.Tests.{eqb-false, ltb-true, ltb-false, lt-ltb, lt-leb}
-use Rattle.base.specs.Choice.{pick}
+use Rattle.element.proofs.Names.{ℕ, _+_, _*_, _%_, _^_, _≤_, _<_, arith, _≡_, refl, ap, sym, _∙_, Bool, true, false, false≢true, List, [], _∷_}
+use Rattle.element.proofs.Names.{_⊎_, inl, inr, ⊎-elim, ltb, eqb-false, ltb-true, ltb-false, lt-ltb, lt-leb, pick, off, pick-last, on-ge, on-lt, no-set}
+use Rattle.element.proofs.Names.{Side, GL, GR, part, next, writtenOf, stepOf, get, State, Sets, Step, Part, Element, Refused, Found, Shape, Refuses, Gives}
 use Rattle.base.specs.Kind as kind
-use Rattle.base.proofs.Bools.{off, pick-last}
-use Rattle.base.proofs.Ladder.{on-ge, on-lt}
-use Rattle.charset.specs.Charsets.{no-set}
-use Rattle.charset.specs.declared.Side.{Side}
-use Rattle.charset.specs.declared.Side.the-variants.{GL, GR}
 use Rattle.charset.proofs.Laws.{narrow-form, wide-form}
-use Rattle.state.specs.Elements.{part, next}
-use Rattle.state.specs.Directions.{writtenOf, stepOf}
-use Rattle.state.specs.State.{get}
-use Rattle.state.specs.declared.State.{State}
-use Rattle.state.specs.declared.Sets.{Sets}
-use Rattle.state.specs.declared.directions.Step.{Step}
-use Rattle.state.specs.declared.elements.Part.{Part}
-use Rattle.state.specs.declared.elements.Element.{Element}
-use Rattle.state.specs.declared.elements.Element.the-variants.{Refused, Found}
-use Rattle.state.specs.declared.elements.Shape.{Shape}
-use Rattle.state.specs.declared.elements.Shape.the-variants.{Refuses, Gives}
 use Rattle.text.specs.Text.{secondOctetOf}
 use Rattle.element.specs.Element.{shapeOf, steppedOf, directedOf, elementOf}
 use Rattle.element.specs.Start.{Start, begunBy}

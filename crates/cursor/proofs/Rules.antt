@@ -1,12 +1,6 @@
 -- The ladder's rules for the octets at a cursor: there is one, or the string ends there.
-use Prim.Native.Nat.{ℕ, _+_, _<_, _≤_}
-use mathlib.Core.Path.{_≡_}
-use mathlib.Core.Bool.{true}
-use mathlib.Core.List.{List, [], _∷_}
-use lib.ListN.{length, getD}
-use Rattle.base.specs.Choice.{from}
-use Rattle.base.proofs.Ladder.{octet, ended, ladder, on-true}
-use Rattle.state.specs.declared.State.{State}
+use Rattle.element.proofs.Names.{ℕ, _+_, _<_, _≤_, _≡_, true, List, [], _∷_, length, getD, from, ladder, on-true, State}
+use Rattle.base.proofs.Ladder.{octet, ended}
 use Rattle.cursor.specs.Cursor.{textOctet, setAt, doubleOf, octetOf, quickOf, advanceAt}
 use Rattle.cursor.specs.declared.Cursor.{Cursor}
 use Rattle.cursor.specs.declared.Turn.{Turn}

@@ -1,25 +1,12 @@
 -- The unit at a cursor of a string, if one is ahead, is that of the elements from there on (`advance-ahead`), where the cursor's sets are
 -- theirs. An element that is not refused is the same under such a state (`by-element`); what is taken for text is the element or is left to
 -- it (`text-turns`); and a designation that is passed is the element (`passed-on`).
-use Prim.Native.Nat.{ℕ, _+_, _%_, _^_, _≤_, _<_}
-use native.Mathlib.Omega.{arith}
+use Rattle.element.proofs.Names.{ℕ, _+_, _%_, _^_, _≤_, _<_, arith, _≡_, refl, ap, sym, _∙_, subst, Bool, true, false, List, [], _∷_, eqb, ltb}
+use Rattle.element.proofs.Names.{length, le-ltb, ltb-true, pick, from, UnitRecord, no-set, designatedOf, State, Directions, Part, Element, End, Refused}
+use Rattle.element.proofs.Names.{Silent, Found}
 use native.Mathlib.Nat.{mod-eq-of-lt}
-use mathlib.Core.Path.{_≡_, refl, ap, sym, _∙_, subst}
-use mathlib.Core.Bool.{Bool, true, false}
-use mathlib.Core.List.{List, [], _∷_}
-use lib.Dec.{eqb, ltb}
-use lib.ListN.{length}
-use borrow.Author.Tests.{le-ltb, ltb-true}
-use Rattle.base.specs.Choice.{pick, from}
 use Rattle.base.specs.Limit as limit
-use Rattle.base.specs.declared.Unit.{Unit as UnitRecord}
-use Rattle.charset.specs.Charsets.{no-set}
-use Rattle.state.specs.State.{state, designatedOf}
-use Rattle.state.specs.declared.State.{State}
-use Rattle.state.specs.declared.directions.Directions.{Directions}
-use Rattle.state.specs.declared.elements.Part.{Part}
-use Rattle.state.specs.declared.elements.Element.{Element}
-use Rattle.state.specs.declared.elements.Element.the-variants.{End, Refused, Silent, Found}
+use Rattle.state.specs.State.{state}
 use Rattle.element.specs.Element.{elementOf}
 use Rattle.element.proofs.Sizes.{silent as is-silent, found as is-found}
 use Rattle.grammar.specs.Reading.{Elements, size}
@@ -31,7 +18,7 @@ use Rattle.units.specs.Records.{recordOf, recordsFrom}
 use Rattle.units.specs.Next.{outcomeOf, nextOf}
 use Rattle.units.specs.declared.Outcome.{Outcome}
 use Rattle.units.specs.declared.Outcome.the-variants.{Gives}
-use Rattle.cursor.specs.Cursor.{freed, cursor, turn, turnOf, elementTurn, placedOf, passedOf, textTurn, advanceAt, advanceOf}
+use Rattle.cursor.specs.Cursor.{freed, cursor, turn, outcomeTurn, elementTurn, placedOf, passedOf, textTurn, advanceAt, advanceOf}
 use Rattle.cursor.specs.declared.Cursor.{Cursor}
 use Rattle.cursor.specs.declared.Turn.{Turn}
 use Rattle.cursor.proofs.Free.{Like, like, texted, like-texted, same-sets, Same, silent as same-silent, found as same-found, same-element}
@@ -51,8 +38,8 @@ found-is (same-found {d = d}) = (d, refl)
 
 module _ (s : List ℕ) where
   alike : {at : ℕ} {st to : State} {es : Elements} → Ahead s at st es → Like st to → 1 ≤ length (recordsFrom es) → (c : Cursor)
-      → Turns (turnOf c (outcomeOf (ahead s at to))) (outcomeOf es)
-  unfolding recordsFrom outcomeOf turnOf
+      → Turns (outcomeTurn c (outcomeOf (ahead s at to))) (outcomeOf es)
+  unfolding recordsFrom outcomeOf outcomeTurn
   alike (ends e) l h c = absurd (omega arith)
   alike (stops f e) l h c = absurd (omega arith)
   alike {at} {st} (passes t e a) like h c =

@@ -46,12 +46,12 @@ turn u c = record { unit = u; cursor = c }
 -- ---- any element
 
 -- the next unit and the cursor after it; where there is none, nothing and the same cursor
-unfoldable pub turnOf : Cursor → Outcome → Turn
-turnOf c (Gives u place st) = turn u (cursor place st)
-turnOf c (Stops n place) = turn blank c
+unfoldable pub outcomeTurn : Cursor → Outcome → Turn
+outcomeTurn c (Gives u place st) = turn u (cursor place st)
+outcomeTurn c (Stops n place) = turn blank c
 
 unfoldable pub elementTurn : List ℕ → Cursor → Turn
-elementTurn s c = turnOf c (nextOf s (c .place) (stateIn c))
+elementTurn s c = outcomeTurn c (nextOf s (c .place) (stateIn c))
 
 -- ---- designations
 

@@ -1,3 +1,4 @@
 pub mod Starts
 pub mod Steps
 pub mod Sizes
+pub mod Names

@@ -1,13 +1,8 @@
 -- The choice by tests on the two numbers and on what a row keeps.
-use mathlib.Core.Path.{_≡_, refl, _∙_}
-use mathlib.Core.Bool.{Bool, true, false, cond, _||_, Bool·beq, or-true}
-use mathlib.Core.List.{List, []}
-use Prim.Native.Nat.{ℕ, _+_, _/_, _%_, _≤_, _<_}
-use lib.ListN.{getD}
-use lib.Dec.{eqb, leb}
-use borrow.Author.Tests.{eq-eqb, ne-eqb, le-leb, lt-leb}
+use Rattle.element.proofs.Names.{_≡_, refl, _∙_, Bool, true, false, cond, _||_, or-true, List, [], ℕ, _+_, _/_, _%_, _≤_, _<_, getD, eqb, leb, eq-eqb}
+use Rattle.element.proofs.Names.{ne-eqb, le-leb, lt-leb, on}
+use mathlib.Core.Bool.{Bool·beq}
 use Rattle.base.proofs.Bools.{implies, implies-elim, upTo, up-to-both}
-use Rattle.state.specs.State.{on}
 use Rattle.grammar.specs.Units.{designation}
 use Rattle.shortest.specs.Writing.{designated}
 use Rattle.numbers.specs.Numbers.{setsInGL, setsInGR, servedInGL, servedInGR, afterFirst, afterSecond, chosenBy, change}

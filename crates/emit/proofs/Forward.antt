@@ -1,18 +1,8 @@
 -- One turn of the writing by number: what is designated, the unit's octets on a side, and the writing of the rest.
-use mathlib.Core.Path.{_≡_, refl, sym, ap, ap₂, _∙_, subst}
-use mathlib.Core.Bool.{Bool, true}
-use mathlib.Core.List.{List, [], _∷_, _++_, append-assoc, append-nil}
-use mathlib.Core.Option.{Option}
-use Prim.Native.Nat.{ℕ, suc, _+_, _-_, _*_, _/_, _%_, _≤_, _<_}
-use native.Mathlib.Omega.{arith}
-use lib.Dec.{ltb, eqb}
-use borrow.Author.Tests.{ltb-true, ltb-false, lt-ltb}
-use lib.ListN.{length, getD, length-append}
-use Rattle.base.proofs.Bools.{test}
-use Rattle.base.specs.Choice.{pick}
-use Rattle.charset.specs.declared.Side.{Side}
-use Rattle.state.specs.State.{Standing, fresh}
-use Rattle.state.specs.declared.Sets.{Sets}
+use Rattle.element.proofs.Names.{_≡_, refl, sym, ap, ap₂, _∙_, subst, Bool, true, List, [], _∷_, _++_, Option, ℕ, suc, _+_, _-_, _*_, _/_, _%_}
+use Rattle.element.proofs.Names.{_≤_, _<_, arith, ltb, eqb, ltb-true, ltb-false, lt-ltb, length, getD, length-append, test, pick, Side, Standing, fresh}
+use Rattle.element.proofs.Names.{Sets}
+use mathlib.Core.List.{append-assoc, append-nil}
 use Rattle.grammar.specs.Units.{TextUnit, octets}
 use Rattle.shortest.specs.Writing.{Need, choose, after, met, need, cost, used, designated, writing}
 use Rattle.shortest.proofs.Needs.{chosen-met}

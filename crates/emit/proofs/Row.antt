@@ -1,15 +1,6 @@
 -- The octets of the unit of a row, by its tag: those of text, of a segment, of a mark. Only the octets of text depend on the side.
-use Prim.Native.Nat.{ℕ, _+_, _≤_, _<_}
-use native.Mathlib.Omega.{arith}
-use mathlib.Core.Path.{_≡_, refl, sym, ap, ap₂, _∙_}
-use mathlib.Core.Bool.{Bool, true, false, cond, _&&_}
-use mathlib.Core.List.{List}
-use lib.Dec.{ltb, leb, eqb}
-use lib.ListN.{getD, take, drop}
-use borrow.Author.Tests.{le-ltb}
-use Rattle.base.specs.Choice.{pick}
-use Rattle.charset.specs.declared.Side.{Side}
-use Rattle.charset.specs.declared.Side.the-variants.{GL}
+use Rattle.element.proofs.Names.{ℕ, _+_, _≤_, _<_, arith, _≡_, refl, sym, ap, ap₂, _∙_, Bool, true, false, cond, _&&_, List, ltb, leb, eqb, getD}
+use Rattle.element.proofs.Names.{take, drop, le-ltb, pick, Side, GL}
 use Rattle.grammar.specs.Units.{TextUnit, space, control, tab, newline, ltr, rtl, revert, ext, octets}
 use Rattle.rows.specs.Rows.{highOctet, lowOctet, startFrom, countOf, textTagged, markTagged, unitTagged, unitFrom}
 use Rattle.rows.specs.Tag as tag

@@ -1,20 +1,10 @@
 -- Octets stored one after the other, and that they are those of designations and units.
-use mathlib.Core.Path.{_≡_, refl, sym, ap, ap₂, _∙_, subst}
-use mathlib.Core.Bool.{Bool, true, false, cond, _&&_, not, false≢true}
-use mathlib.Core.List.{List, [], _∷_, _++_}
-use Prim.Native.Nat.{ℕ, suc, _+_, _-_, _*_, _/_, _%_, _≤_, _<_}
-use native.Mathlib.Omega.{arith}
-use native.Mathlib.Numerals.{add-one}
-use lib.Dec.{ltb, leb, eqb}
-use borrow.Author.Tests.{ltb-true, ltb-false, lt-ltb, le-ltb, le-leb, lt-leb, eqb-true, ne-eqb, not-true}
-use lib.ListN.{length, getD, set, take, drop, length-append, length-take, length-drop}
-use lib.Seq.{sets, length-sets, take-suc, take-all, take-take, getD-drop}
-use Rattle.base.proofs.Bools.{test, pick-last, and-left, and-right, up-to}
-use Rattle.base.specs.Choice.{pick}
-use Rattle.charset.specs.declared.Side.{Side}
-use Rattle.charset.specs.declared.Side.the-variants.{GL, GR}
-use Rattle.charset.specs.Charsets.{rowOf, formOf}
-use Rattle.state.specs.State.{on}
+use Rattle.element.proofs.Names.{_≡_, refl, sym, ap, ap₂, _∙_, subst, Bool, true, false, cond, _&&_, not, false≢true, List, [], _∷_, _++_, ℕ, suc}
+use Rattle.element.proofs.Names.{_+_, _-_, _*_, _/_, _%_, _≤_, _<_, arith, add-one, ltb, leb, eqb, ltb-true, ltb-false, lt-ltb, le-ltb, le-leb, lt-leb}
+use Rattle.element.proofs.Names.{eqb-true, ne-eqb, length, getD, set, take, drop, length-append, length-take, length-drop, sets, test, pick-last, and-left}
+use Rattle.element.proofs.Names.{and-right, up-to, pick, Side, GL, GR, rowOf, formOf, on}
+use borrow.Author.Tests.{not-true}
+use lib.Seq.{length-sets, take-suc, take-all, take-take, getD-drop}
 use Rattle.grammar.specs.Units.{Control, control, ext, wide, top, octets, designation}
 use Rattle.rows.specs.Rows.{partOf, textTagged, markTagged}
 use Rattle.rows.specs.Tag as tag

@@ -1,18 +1,8 @@
 -- From the plan to the writing, and the answer for the rows.
-use mathlib.Core.Path.{_≡_, refl, sym, ap, ap₂, _∙_, subst}
-use mathlib.Core.Bool.{Bool, false}
-use mathlib.Core.List.{List, _∷_, _++_}
-use Prim.Native.Nat.{ℕ, zero, suc, _+_, _-_, _*_, _≤_, _<_}
-use native.Mathlib.Omega.{arith}
-use lib.ListN.{length, getD, drop}
-use lib.Seq.{sets, sets-eq}
-use lib.Dec.{ltb}
-use borrow.Author.Tests.{lt-ltb, le-ltb, le-leb}
-use Rattle.base.specs.Answers.{answer, refusedAt}
-use Rattle.base.specs.Choice.{pick}
+use Rattle.element.proofs.Names.{_≡_, refl, sym, ap, ap₂, _∙_, subst, Bool, false, List, _∷_, _++_, ℕ, zero, suc, _+_, _-_, _*_, _≤_, _<_, arith}
+use Rattle.element.proofs.Names.{length, getD, drop, sets, ltb, lt-ltb, le-ltb, le-leb, answer, refusedAt, pick, Answer, fresh}
+use lib.Seq.{sets-eq}
 use Rattle.base.specs.Refusal as refusal
-use Rattle.base.specs.declared.Answer.{Answer}
-use Rattle.state.specs.State.{fresh}
 use Rattle.grammar.specs.Units.{TextUnit}
 use Rattle.shortest.specs.Writing.{cost, writing}
 use Rattle.shortest.specs.Demand.{writeAnswer, outputAfter}

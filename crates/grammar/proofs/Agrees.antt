@@ -1,44 +1,22 @@
 -- The grammar and the reader's definition agree. What the reader accepts is of the grammar (`told`): each of its elements starts with
 -- the octets of a designation or a unit, and its step by the direction rule goes on. What is of the grammar is accepted (`answered`):
 -- by induction on how it reads. The theorems stand at the end.
-use Prim.Native.Nat.{ℕ, _+_, _≤_}
-use native.Mathlib.Omega.{arith}
-use mathlib.Core.Path.{_≡_, refl, sym, ap, ap₂, _∙_, subst}
-use mathlib.Core.Bool.{true}
-use mathlib.Core.List.{List, [], _∷_, _++_}
-use mathlib.Core.Logic.{_↔_, _⊎_, inl, inr, ⊎-elim}
-use lib.Dec.{ltb}
-use lib.ListN.{length, drop, length-append}
+use Rattle.element.proofs.Names.{ℕ, _+_, _≤_, arith, _≡_, refl, sym, ap, ap₂, _∙_, subst, true, List, [], _∷_, _++_, _↔_, _⊎_, inl, inr}
+use Rattle.element.proofs.Names.{⊎-elim, ltb, length, drop, length-append, ltb-false, le-ltb, pick, from, off, clash, test, Side, GL, GR, allowed, mayUse}
+use Rattle.element.proofs.Names.{Standing, on, put, designatedOf, fresh, stepOf, Sets, Directions, State, Step, Goes, Stops, Part, Shape, Element, End}
+use Rattle.element.proofs.Names.{Refused, Silent, Found, Answer, answer}
 use lib.Seq.{drop-append-seam, drop-at, getD-drop}
-use borrow.Author.Tests.{ltb-false, le-ltb}
-use Rattle.base.specs.Choice.{pick, from}
-use Rattle.base.proofs.Bools.{off, clash, test}
 use Rattle.base.proofs.Ladder.{from-from}
-use Rattle.charset.specs.declared.Side.{Side}
-use Rattle.charset.specs.declared.Side.the-variants.{GL, GR}
-use Rattle.charset.specs.Charsets.{allowed, mayUse}
-use Rattle.state.specs.State.{Standing, on, state, put, put′, designatedOf, fresh}
-use Rattle.state.specs.Directions.{stepOf}
+use Rattle.state.specs.State.{state, put′}
 use Rattle.element.specs.Element.{shapeOf, steppedOf, directedOf, elementOf}
 use Rattle.element.proofs.Sizes.{Fair, stops as stops-fairly, fair, Passed, silent, found, element-size, of-end}
-use Rattle.state.specs.declared.Sets.{Sets}
-use Rattle.state.specs.declared.directions.Directions.{Directions}
-use Rattle.state.specs.declared.State.{State}
-use Rattle.state.specs.declared.directions.Step.{Step}
-use Rattle.state.specs.declared.directions.Step.the-variants.{Goes, Stops}
-use Rattle.state.specs.declared.elements.Part.{Part}
-use Rattle.state.specs.declared.elements.Shape.{Shape}
-use Rattle.state.specs.declared.elements.Element.{Element}
-use Rattle.state.specs.declared.elements.Element.the-variants.{End, Refused, Silent, Found}
 use Rattle.grammar.specs.Units.{TextUnit, octets, designation}
 use Rattle.grammar.specs.Grammar.{Reads, done, designate, show, Accepted, Legal}
 use Rattle.base.specs.Limit as limit
 use Rattle.base.specs.Refusal as refusal
 use Rattle.grammar.proofs.Rule.{directed, passes as goes-on, direction-rule}
-use Rattle.base.specs.declared.Answer.{Answer}
 use Rattle.grammar.specs.Reading.{Elements, end-at, refused-at, silent-at, found-at, direct, size, onward, elements, elementsOf, answerOf, checkOf}
 use Rattle.grammar.specs.Reading.{noneRefused, unitAt, unitsOf, readingOf, Octets, ReadAs}
-use Rattle.base.specs.Answers.{answer}
 use Rattle.grammar.proofs.Elements.{next-at, at-nothing, none-passed, elements-passed}
 use Rattle.grammar.proofs.Places.{Ahead, ends, stops, passes, reads, from-start}
 use Rattle.grammar.proofs.Sound.{Shown, Changed, Sound, refuses, designates, finds, sound}

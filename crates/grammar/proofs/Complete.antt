@@ -1,22 +1,12 @@
 -- Each element of the grammar is one that the reader's definition takes.
-use Prim.Native.Nat.{ℕ, _+_, _*_, _-_, _/_, _%_, _≤_, _<_}
-use native.Mathlib.Omega.{arith}
-use native.Mathlib.Nat.{not-suc-le-zero, le-of-suc-le-suc}
-use mathlib.Core.Path.{_≡_, refl, sym, ap, _∙_}
-use mathlib.Core.Bool.{Bool, true, false, cond, _&&_, true≢false}
-use mathlib.Core.List.{List, _∷_, _++_}
-use lib.Dec.{eqb, leb, ltb}
-use lib.ListN.{length, length-append}
-use lib.Seq.{take-append-seam}
-use borrow.Author.Tests.{eqb-true, leb-true, lt-ltb, le-ltb, le-leb, eq-eqb}
-use Rattle.base.specs.Choice.{pick}
-use Rattle.base.proofs.Bools.{Each, each, and-left, and-right, off, test, cond-by, from-tests, tested}
-use Rattle.charset.specs.declared.Side.{Side}
-use Rattle.charset.specs.declared.Side.the-variants.{GL, GR}
-use Rattle.charset.specs.Charsets.{mayUse, allowed, formOf, fitsOf, find, setOf}
+use Rattle.element.proofs.Names.{ℕ, _+_, _*_, _-_, _/_, _%_, _≤_, _<_, arith, not-suc-le-zero, _≡_, refl, sym, ap, _∙_, Bool, true, false, cond, _&&_}
+use Rattle.element.proofs.Names.{true≢false, List, _∷_, _++_, eqb, leb, ltb, length, length-append, take-append-seam, eqb-true, leb-true, lt-ltb, le-ltb}
+use Rattle.element.proofs.Names.{le-leb, eq-eqb, pick, and-left, and-right, off, test, cond-by, from-tests, tested, Side, GL, GR, mayUse, allowed, formOf}
+use Rattle.element.proofs.Names.{setOf, on, get, part, next, Sets, Part, Designates, Gives}
+use native.Mathlib.Nat.{le-of-suc-le-suc}
+use Rattle.base.proofs.Bools.{Each, each}
+use Rattle.charset.specs.Charsets.{fitsOf, find}
 use Rattle.charset.proofs.Laws.{allowed-below, left-form}
-use Rattle.state.specs.State.{on, get}
-use Rattle.state.specs.Elements.{part, next}
 use Rattle.text.specs.Text.{graphicOf, secondOctetOf}
 use Rattle.control.specs.Escape.{designatesOf, designationOf, multiOctetOf, escapeOf}
 use Rattle.segment.specs.Segment.{segmentPart, bodyOf, lengthsOf, extendedOf}
@@ -24,9 +14,6 @@ use Rattle.control.specs.Mark.{beginOf, csiOf}
 use Rattle.element.specs.Element.{shapeOf}
 use Rattle.element.specs.Start.{usedIn, leftStart, startOf, begunBy}
 use Rattle.element.proofs.Starts.{On, graphic-low, all-used, graphic-used, starts-one, starts-two}
-use Rattle.state.specs.declared.Sets.{Sets}
-use Rattle.state.specs.declared.elements.Part.{Part}
-use Rattle.state.specs.declared.elements.Shape.the-variants.{Designates, Gives}
 use Rattle.grammar.specs.Units.{TextUnit, char, space, control, tab, newline, ltr, rtl, revert, ext, kindOf, controlOctets, textOctets, counts, unitOf}
 use Rattle.grammar.specs.Units.{wide, top, shown, octets, designation, codeUsed, good}
 use Rattle.grammar.specs.Grammar.{Shows, Legal}

@@ -1,16 +1,8 @@
 -- The elements of a string, one at a time.
-use Prim.Native.Nat.{ℕ, zero, suc, _+_, _-_, _≤_}
-use native.Mathlib.Omega.{arith}
-use native.Mathlib.Nat.{not-suc-le-zero}
-use mathlib.Core.Path.{_≡_, refl, ap, sym, _∙_}
-use mathlib.Core.List.{List, [], _∷_}
-use lib.ListN.{length, drop}
-use Rattle.base.proofs.Bools.{clash}
+use Rattle.element.proofs.Names.{ℕ, zero, suc, _+_, _-_, _≤_, arith, not-suc-le-zero, _≡_, refl, ap, sym, _∙_, List, [], _∷_, length, drop, clash}
+use Rattle.element.proofs.Names.{State, Element, End, Refused, Silent, Found}
 use Rattle.element.specs.Element.{elementOf, shapeOf, directedOf}
 use Rattle.element.proofs.Sizes.{Passed, silent, found, element-size, of-passed}
-use Rattle.state.specs.declared.State.{State}
-use Rattle.state.specs.declared.elements.Element.{Element}
-use Rattle.state.specs.declared.elements.Element.the-variants.{End, Refused, Silent, Found}
 use Rattle.grammar.specs.Reading.{Elements, end-at, refused-at, silent-at, found-at, onward, elements}
 
 -- the element at a place before those after it

@@ -1,13 +1,5 @@
 -- What the tests of a good unit say: the bounds of a character's code, by the form of its set, and those of a segment.
-use Prim.Native.Nat.{ℕ, _/_, _%_, _≤_}
-use native.Mathlib.Omega.{arith}
-use mathlib.Core.Path.{_≡_}
-use mathlib.Core.Bool.{Bool, true, false, cond, _&&_}
-use mathlib.Core.List.{List}
-use lib.Dec.{eqb, leb}
-use lib.ListN.{length}
-use Rattle.base.proofs.Bools.{from-tests}
-use Rattle.charset.specs.Charsets.{form-96, form-94x94}
+use Rattle.element.proofs.Names.{ℕ, _/_, _%_, _≤_, arith, _≡_, Bool, true, false, cond, _&&_, List, eqb, leb, length, from-tests, form-96, form-94x94}
 use Rattle.text.specs.Text.{graphicOf}
 use Rattle.grammar.specs.Units.{ext, codeUsed, segment, mostOfSegment, good}
 use Rattle.element.proofs.Starts.{graphic-low}

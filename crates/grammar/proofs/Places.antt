@@ -1,24 +1,12 @@
 -- The elements of a string from a place on, one at a time: each has an octet at least and no more than are left, its unit's fields that
 -- mean nothing are 0, a refusal has a number above 0, a state that is fit stays fit, and the elements after it are those of the place
 -- after it (`ahead-from`). What is shown of all elements of a string goes by induction on `Ahead`.
-use Prim.Native.Nat.{ℕ, zero, suc, _+_, _-_, _≤_}
-use native.Mathlib.Omega.{arith}
-use mathlib.Core.Path.{_≡_, refl, ap, sym, _∙_}
-use mathlib.Core.List.{List}
-use lib.Dec.{ltb}
-use lib.ListN.{length}
-use borrow.Author.Tests.{ltb-false}
-use Rattle.base.specs.Choice.{from}
-use Rattle.base.proofs.Bools.{clash, test, tested}
-use Rattle.base.proofs.Ladder.{from-end, from-from, from-length}
+use Rattle.element.proofs.Names.{ℕ, zero, suc, _+_, _-_, _≤_, arith, _≡_, refl, ap, sym, _∙_, List, ltb, length, ltb-false, from, clash, test, tested}
+use Rattle.element.proofs.Names.{from-end, from-length, fresh, State, Part, Element, End, Refused, Silent, Found}
+use Rattle.base.proofs.Ladder.{from-from}
 use Rattle.element.specs.Element.{elementOf}
 use Rattle.element.specs.Meant.{MeantPart}
 use Rattle.element.proofs.Sizes.{Sized, Fit, Passed, silent, found, element-size, of-refused, of-passed, of-meant}
-use Rattle.state.specs.State.{fresh}
-use Rattle.state.specs.declared.State.{State}
-use Rattle.state.specs.declared.elements.Part.{Part}
-use Rattle.state.specs.declared.elements.Element.{Element}
-use Rattle.state.specs.declared.elements.Element.the-variants.{End, Refused, Silent, Found}
 use Rattle.grammar.specs.Reading.{Elements, end-at, refused-at, silent-at, found-at, size, elements, elementsOf}
 use Rattle.grammar.proofs.Elements.{next-at, at-nothing, elements-end, elements-refused, elements-passed}
 

@@ -1,19 +1,9 @@
 -- The direction rule by steps is that over counts of marks and text (`Lawful`): the directions after a list of units keep what the counts of marks and
 -- of text say (`Like`), and a unit may follow exactly where its step goes on (`After`).
-use Prim.Native.Nat.{ℕ, _+_, _≤_, _<_}
-use native.Mathlib.Omega.{arith}
-use mathlib.Core.Path.{_≡_, refl}
-use mathlib.Core.Bool.{Bool, true, false, true≢false}
-use mathlib.Core.List.{List, [], _∷_}
-use mathlib.Core.Logic.{_↔_, inl, inr, ⊎-elim}
-use lib.Dec.{eqb, ltb}
-use Rattle.base.specs.Choice.{pick}
-use Rattle.state.specs.Directions.{directions, undirected, writtenOf, deeperOf, begunOf, revertedOf, stepOf}
+use Rattle.element.proofs.Names.{ℕ, _+_, _≤_, _<_, arith, _≡_, refl, Bool, true, false, true≢false, List, [], _∷_, _↔_, inl, inr, ⊎-elim, eqb}
+use Rattle.element.proofs.Names.{ltb, pick, directions, undirected, writtenOf, deeperOf, begunOf, revertedOf, stepOf, off, pick-by, tested, Directions, Step}
+use Rattle.element.proofs.Names.{Goes, Stops}
 use Rattle.base.specs.Limit as limit
-use Rattle.base.proofs.Bools.{off, pick-by, tested}
-use Rattle.state.specs.declared.directions.Directions.{Directions}
-use Rattle.state.specs.declared.directions.Step.{Step}
-use Rattle.state.specs.declared.directions.Step.the-variants.{Goes, Stops}
 use Rattle.grammar.specs.Units.{TextUnit, char, space, control, tab, newline, ltr, rtl, revert, ext, counts}
 use Rattle.grammar.specs.Grammar.{TextMay, BeginMay, May, begins, reverts, addIf, Lawful}
 use Rattle.grammar.specs.Reading.{direct}

@@ -1,18 +1,9 @@
 -- The n octets of a segment: what the reader says of a name and the text after it, octet by octet, is what the grammar says of them.
-use Prim.Native.Nat.{ℕ, suc, _+_, _-_}
-use native.Mathlib.Omega.{arith}
-use native.Mathlib.Numerals.{add-one}
-use mathlib.Core.Path.{_≡_, refl}
-use mathlib.Core.List.{List, [], _∷_}
-use lib.Dec.{eqb}
-use lib.ListN.{length}
-use borrow.Author.Tests.{eqb-true, le-leb, lt-ltb}
-use Rattle.base.specs.Choice.{pick}
-use Rattle.base.proofs.Bools.{test, tested}
+use Rattle.element.proofs.Names.{ℕ, suc, _+_, _-_, arith, add-one, _≡_, refl, List, [], _∷_, eqb, length, eqb-true, le-leb, lt-ltb, pick, test, tested}
+use Rattle.element.proofs.Names.{Gives}
 use Rattle.base.specs.Refusal as refusal
 use Rattle.state.specs.Elements.{refused}
 use Rattle.segment.specs.Segment.{segmentPart, nameOctetOf, nameOf, contentOf}
-use Rattle.state.specs.declared.elements.Shape.the-variants.{Gives}
 use Rattle.grammar.specs.Units.{textOctets, segment}
 
 module _ (d n : ℕ) where

@@ -1,22 +1,13 @@
 -- What the reader's definition takes for an element is one of the grammar's: each definition of an element, from the leaves up, is a
 -- refusal with a number above 0, or starts with the octets of a designation or of a unit that may be shown.
-use Prim.Native.Nat.{ℕ, suc, _+_, _*_, _-_, _/_, _%_, _≤_, _<_}
-use native.Mathlib.Omega.{arith}
-use mathlib.Core.Path.{_≡_, refl, sym, ap, ap₂, _∙_, subst}
-use mathlib.Core.Bool.{Bool, true, false, cond}
-use mathlib.Core.List.{List, [], _∷_, _++_}
-use lib.Dec.{eqb, leb, ltb}
-use lib.ListN.{length, take, take-append-drop}
-use lib.Seq.{length-take-le}
-use borrow.Author.Tests.{eqb-true, ltb-true, ltb-false, leb-true, lt-ltb, le-leb}
-use Rattle.base.specs.Choice.{pick}
-use Rattle.base.proofs.Bools.{test, pick-by, pick-last, tested}
-use Rattle.charset.specs.declared.Side.{Side}
-use Rattle.charset.specs.declared.Side.the-variants.{GL, GR}
-use Rattle.charset.specs.Charsets.{Named, rowOf, formOf, allowed, setOf}
+use Rattle.element.proofs.Names.{ℕ, suc, _+_, _*_, _-_, _/_, _%_, _≤_, _<_, arith, _≡_, refl, sym, ap, ap₂, _∙_, subst, Bool, true, false, cond}
+use Rattle.element.proofs.Names.{List, [], _∷_, _++_, eqb, leb, ltb, length, take, length-take-le, eqb-true, ltb-true, ltb-false, leb-true, lt-ltb, le-leb}
+use Rattle.element.proofs.Names.{pick, test, pick-by, pick-last, tested, Side, GL, GR, rowOf, formOf, allowed, setOf, Standing, on, get, part, next, Sets}
+use Rattle.element.proofs.Names.{Part, Shape, Refuses, Designates, Gives}
+use lib.ListN.{take-append-drop}
+use Rattle.charset.specs.Charsets.{Named}
 use Rattle.charset.proofs.Laws.{set-named, allowed-below}
-use Rattle.state.specs.State.{Standing, on, get}
-use Rattle.state.specs.Elements.{part, unit, next}
+use Rattle.state.specs.Elements.{unit}
 use Rattle.text.specs.Text.{graphicOf, oneOctetOf, twoOctetsOf, secondOctetOf}
 use Rattle.control.specs.Escape.{intermediatesOf, designatesOf, designationOf, multiOctetOf, escapeOf}
 use Rattle.segment.specs.Segment.{segmentPart, bodyOf, lengthsOf, extendedOf}
@@ -25,10 +16,6 @@ use Rattle.element.specs.Element.{shapeOf}
 use Rattle.element.specs.Start.{Start, usedIn, begunBy}
 use Rattle.element.proofs.Starts.{On, Starts, starts}
 use Rattle.element.proofs.Starts as start
-use Rattle.state.specs.declared.Sets.{Sets}
-use Rattle.state.specs.declared.elements.Part.{Part}
-use Rattle.state.specs.declared.elements.Shape.{Shape}
-use Rattle.state.specs.declared.elements.Shape.the-variants.{Refuses, Designates, Gives}
 use Rattle.grammar.specs.Units.{TextUnit, char, space, control, tab, newline, ltr, rtl, revert, ext, kindOf, textOctets, counts, unitOf, wide, top}
 use Rattle.grammar.specs.Units.{octets, lead, designation, codeUsed, segment, good}
 use Rattle.grammar.specs.Grammar.{Shows, Legal}

@@ -1,19 +1,11 @@
 -- The choice by number is the writer's choice: shown by one computed test of all 17 classes and 80 numbers, from which the laws follow.
-use mathlib.Core.Path.{_≡_, refl, sym, ap, ap₂, _∙_}
-use mathlib.Core.Bool.{Bool, true, false, cond, _||_, _&&_, not, Bool·beq}
-use mathlib.Core.List.{List}
-use mathlib.Core.Option.{Option, none, some}
-use Prim.Native.Nat.{ℕ, _+_, _-_, _≤_, _<_}
-use native.Mathlib.Omega.{arith}
-use lib.ListN.{length, getD, List·getD-eq-default}
-use lib.Dec.{eqb, leb, ltb}
-use borrow.Author.Tests.{eqb-true, eq-eqb, ne-eqb, ltb-true, ltb-false, lt-ltb, le-ltb, leb-true, leb-false, le-leb, lt-leb}
-use Rattle.base.proofs.Bools.{off, test, implies, implies-elim, or-none, up-to, upTo, up-to-both, up-to-where, from-tests}
-use Rattle.charset.specs.declared.Side.{Side}
-use Rattle.charset.specs.declared.Side.the-variants.{GL, GR}
-use Rattle.charset.specs.Charsets.{allowed, mayUse, formOf}
-use Rattle.state.specs.State.{Standing, on, sets, put}
-use Rattle.state.specs.declared.Sets.{Sets}
+use Rattle.element.proofs.Names.{_≡_, refl, sym, ap, ap₂, _∙_, Bool, true, false, cond, _||_, _&&_, not, List, Option, none, some, ℕ, _+_, _-_, _≤_}
+use Rattle.element.proofs.Names.{_<_, arith, length, getD, List·getD-eq-default, eqb, leb, ltb, eqb-true, eq-eqb, ne-eqb, ltb-true, ltb-false, lt-ltb, le-ltb}
+use Rattle.element.proofs.Names.{leb-true, leb-false, le-leb, lt-leb, off, test, up-to, from-tests, Side, GL, GR, allowed, mayUse, formOf, Standing, on, put}
+use Rattle.element.proofs.Names.{Sets}
+use mathlib.Core.Bool.{Bool·beq}
+use Rattle.base.proofs.Bools.{implies, implies-elim, or-none, upTo, up-to-both, up-to-where}
+use Rattle.state.specs.State.{sets}
 use Rattle.grammar.specs.Units.{designation}
 use Rattle.shortest.specs.Writing.{Need, free, either, stands, met, price, least, choose, after, used}
 use Rattle.shortest.proofs.Needs.{Steady, least-chosen}

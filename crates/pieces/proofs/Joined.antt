@@ -1,13 +1,7 @@
 -- Neighbouring pieces, by the three ways in which a piece can be followed: by more of the same run, by what ends the run, or, where it
 -- is no run, by anything.
-use Prim.Native.Nat.{ℕ}
-use mathlib.Core.Path.{_≡_, ap}
-use mathlib.Core.Bool.{true, false}
-use mathlib.Core.List.{List, [], _∷_}
-use lib.Dec.{eqb}
-use borrow.Author.Tests.{eqb-true}
-use Rattle.base.specs.Choice.{pick}
-use Rattle.base.proofs.Bools.{test, pick-both}
+use Rattle.element.proofs.Names.{ℕ, _≡_, ap, true, false, List, [], _∷_, eqb, eqb-true, pick, test}
+use Rattle.base.proofs.Bools.{pick-both}
 use Rattle.pieces.specs.Pieces.{isRun, sameRunOf, longer, extendedTo, joined, endingOf}
 use Rattle.pieces.specs.declared.Piece.{Piece}
 

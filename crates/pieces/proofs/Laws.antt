@@ -1,20 +1,11 @@
 -- What holds of all the pieces of a string: no two neighbours are of one run, so runs are longest; the octets of a run are all GL
 -- octets, or all GR octets; and the sets and the direction that its piece has are in force at each of its octets. All three are kept
 -- when a piece is joined to pieces that have them.
-use Prim.Native.Nat.{ℕ, zero, suc, _+_, _-_, _≤_, _<_, zero-le}
-use native.Mathlib.Omega.{arith}
-use native.Mathlib.Nat.{not-suc-le-zero}
-use mathlib.Core.Path.{_≡_, refl, ap, sym, _∙_}
-use mathlib.Core.Bool.{true}
-use mathlib.Core.List.{List, [], _∷_, _++_}
-use lib.Dec.{eqb, ltb}
-use lib.ListN.{length, getD}
+use Rattle.element.proofs.Names.{ℕ, zero, suc, _+_, _-_, _≤_, _<_, zero-le, arith, not-suc-le-zero, _≡_, refl, ap, sym, _∙_, true, List, [], _∷_}
+use Rattle.element.proofs.Names.{_++_, eqb, ltb, length, getD, ltb-true, lt-ltb, le-ltb, pick, from, off, test, pick-by, tested, Side, on, fresh, State, Part}
+use Rattle.element.proofs.Names.{Element, End, Refused, Silent, Found}
 use lib.Seq.{getD-drop}
-use borrow.Author.Tests.{ltb-true, lt-ltb, le-ltb}
-use Rattle.base.specs.Choice.{pick, from}
 use Rattle.base.specs.Kind as kind
-use Rattle.base.proofs.Bools.{off, test, pick-by, tested}
-use Rattle.charset.specs.declared.Side.{Side}
 use Rattle.element.specs.Element.{elementOf, shapeOf, directedOf}
 use Rattle.element.proofs.Sizes.{silent, found}
 use Rattle.grammar.specs.Grammar.{Legal}
@@ -23,11 +14,6 @@ use Rattle.grammar.specs.Units.{TextUnit, kindOf, octets}
 use Rattle.grammar.proofs.Places.{at-end, at-refused, at-passed}
 use Rattle.grammar.proofs.Sound.{Shown, sound}
 use Rattle.grammar.proofs.Agrees.{Right, refused, passed, read, right, fresh-legal, put-legal, octets-from}
-use Rattle.state.specs.State.{on, fresh}
-use Rattle.state.specs.declared.State.{State}
-use Rattle.state.specs.declared.elements.Part.{Part}
-use Rattle.state.specs.declared.elements.Element.{Element}
-use Rattle.state.specs.declared.elements.Element.the-variants.{End, Refused, Silent, Found}
 use Rattle.pieces.specs.Pieces.{noPiece, sideKindOf, pieceKindOf, pieceOf, isRun, longer, joined, piecesOf, stateAt, sameRunOf}
 use Rattle.pieces.specs.declared.Piece.{Piece}
 use Rattle.pieces.proofs.Joined.{same-kind}

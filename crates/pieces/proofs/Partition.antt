@@ -1,21 +1,10 @@
 -- The pieces of a string lie end to end, from its first octet to its end or to the offending element: a piece joined to pieces that
 -- do so does too. In an accepted string each octet then lies in exactly one of them.
-use Prim.Native.Nat.{ℕ, zero, suc, _+_, _-_, _≤_, _<_, zero-le}
-use native.Mathlib.Omega.{arith}
-use native.Mathlib.Nat.{not-suc-le-zero}
-use mathlib.Core.Path.{_≡_, refl, ap, sym, _∙_}
-use mathlib.Core.Bool.{true}
-use mathlib.Core.List.{List, [], _∷_}
-use lib.Dec.{ltb}
-use lib.ListN.{length}
-use borrow.Author.Tests.{le-leb, lt-leb, ltb-true, ltb-false}
-use Rattle.base.specs.Choice.{pick, from}
+use Rattle.element.proofs.Names.{ℕ, zero, suc, _+_, _-_, _≤_, _<_, zero-le, arith, not-suc-le-zero, _≡_, refl, ap, sym, _∙_, true, List, [], _∷_}
+use Rattle.element.proofs.Names.{ltb, length, le-leb, lt-leb, ltb-true, ltb-false, pick, from, test, pick-by, fresh, State}
 use Rattle.base.specs.Refusal as refusal
-use Rattle.base.proofs.Bools.{test, pick-by}
 use Rattle.grammar.specs.Reading.{checkOf, Octets}
 use Rattle.grammar.proofs.Agrees.{accepted-where}
-use Rattle.state.specs.State.{fresh}
-use Rattle.state.specs.declared.State.{State}
 use Rattle.pieces.specs.Pieces.{sameRunOf, longer, joined, piecesOf, contains, holding}
 use Rattle.pieces.specs.declared.Piece.{Piece}
 use Rattle.pieces.specs.Partition.{EndToEnd, none, more}

@@ -1,22 +1,13 @@
 -- The pieces of a string, one at a time: the element at a place is no piece, and none follow, or it is the first piece and those from
 -- its end on follow, joined to it where they are of one run.
-use Prim.Native.Nat.{ℕ, _+_, _≤_, _<_}
-use native.Mathlib.Omega.{arith}
-use mathlib.Core.Path.{_≡_, refl, ap, sym, _∙_}
-use mathlib.Core.Bool.{Bool, true}
-use mathlib.Core.List.{List, []}
-use lib.ListN.{length, getD}
-use Rattle.base.specs.Choice.{from}
-use Rattle.base.proofs.Bools.{off}
-use Rattle.base.proofs.Ladder.{ended, from-length}
+use Rattle.element.proofs.Names.{ℕ, _+_, _≤_, _<_, arith, _≡_, refl, ap, sym, _∙_, Bool, true, List, [], length, getD, from, off, from-length, State}
+use Rattle.element.proofs.Names.{Element, End, Refused, Silent, Found}
+use Rattle.base.proofs.Ladder.{ended}
 use Rattle.element.specs.Element.{shapeOf, directedOf, elementOf}
 use Rattle.element.proofs.Sizes.{Passed, silent, found, element-size, of-end}
 use Rattle.grammar.specs.Reading.{noneRefused}
 use Rattle.grammar.proofs.Elements.{next-at}
 use Rattle.grammar.proofs.Places.{ahead, at-end, at-refused, at-passed, step-passed}
-use Rattle.state.specs.declared.State.{State}
-use Rattle.state.specs.declared.elements.Element.{Element}
-use Rattle.state.specs.declared.elements.Element.the-variants.{End, Refused, Silent, Found}
 use Rattle.pieces.specs.PieceKind as pieceKind
 use Rattle.pieces.specs.Pieces.{piece, noPiece, pieceKindOf, pieceOf, joined, piecesFrom}
 use Rattle.pieces.specs.declared.Piece.{Piece}

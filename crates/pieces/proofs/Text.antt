@@ -1,27 +1,15 @@
 -- Characters and spaces: their octets are all of one side, and they change neither the sets nor the direction in force. By the unit
 -- that an element is.
-use Prim.Native.Nat.{ℕ, zero, suc, _+_, _/_, _%_, _<_}
-use native.Mathlib.Omega.{arith}
-use mathlib.Core.Path.{_≡_, refl, sym, _∙_}
-use mathlib.Core.Bool.{Bool, true, false}
-use mathlib.Core.List.{List, [], _∷_, _++_}
-use lib.Dec.{eqb, ltb}
-use lib.ListN.{length, getD}
-use Rattle.base.specs.Choice.{pick}
+use Rattle.element.proofs.Names.{ℕ, zero, suc, _+_, _/_, _%_, _<_, arith, _≡_, refl, sym, _∙_, Bool, true, false, List, [], _∷_, _++_, eqb, ltb}
+use Rattle.element.proofs.Names.{length, getD, pick, on-lt, on-ge, and-right, clash, test, form-94x94, no-set, formOf, Side, GL, GR, directions, writtenOf}
+use Rattle.element.proofs.Names.{stepOf, Directions, Goes, Stops}
 use Rattle.base.specs.Kind as kind
 use Rattle.base.specs.Refusal as refusal
-use Rattle.base.proofs.Ladder.{on-lt, on-ge}
-use Rattle.base.proofs.Bools.{and-right, clash, test}
-use Rattle.charset.specs.Charsets.{form-94x94, no-set, formOf}
-use Rattle.charset.specs.declared.Side.{Side}
-use Rattle.charset.specs.declared.Side.the-variants.{GL, GR}
 use Rattle.grammar.specs.Units.{Control, tab, newline, ltr, rtl, revert, controlKind}
 use Rattle.grammar.specs.Units.{TextUnit, char, space, control, ext, kindOf, wide, top, shown, octets, codeUsed, good}
 use Rattle.grammar.specs.Reading.{direct}
 use Rattle.grammar.proofs.Good.{two-code}
-use Rattle.state.specs.Directions.{directions, writtenOf, stepOf, inForceOf}
-use Rattle.state.specs.declared.directions.Directions.{Directions}
-use Rattle.state.specs.declared.directions.Step.the-variants.{Goes, Stops}
+use Rattle.state.specs.Directions.{inForceOf}
 use Rattle.pieces.specs.PieceKind as pieceKind
 use Rattle.pieces.specs.Pieces.{sideKindOf}
 

@@ -1,14 +1,7 @@
 -- Where a need changes no cost: a unit whose need is that of the unit after it, a unit that needs no set, and a space before a character of
 -- set 0 add only their own octets.
-use mathlib.Core.Path.{_≡_, refl, ap, _∙_}
-use mathlib.Core.Bool.{Bool, true, false, cond, _||_, or-true}
-use Prim.Native.Nat.{ℕ, _+_, min}
-use native.Mathlib.Omega.{arith}
-use lib.Dec.{eqb}
-use Rattle.charset.specs.declared.Side.the-variants.{GL}
-use Rattle.charset.specs.Charsets.{formOf}
-use Rattle.state.specs.State.{Standing, on, put}
-use Rattle.state.specs.declared.Sets.{Sets}
+use Rattle.element.proofs.Names.{_≡_, refl, ap, _∙_, Bool, true, false, cond, _||_, or-true, ℕ, _+_, min, arith, eqb, GL, formOf, Standing, on, put}
+use Rattle.element.proofs.Names.{Sets}
 use Rattle.grammar.specs.Units.{designation}
 use Rattle.shortest.specs.Writing.{Need, free, either, stands, met, price, least}
 use Rattle.shortest.proofs.Needs.{put-stands}

@@ -1,28 +1,20 @@
 -- Stores into a list, place by place, and into a table, column by column.
-use mathlib.Core.Path.{_≡_, refl, sym, ap, ap₂, _∙_, subst}
-use mathlib.Core.Bool.{cond}
-use mathlib.Core.List.{List, [], _∷_}
-use mathlib.Core.Logic.{_⊎_, inl, inr, ⊎-elim}
-use Prim.Native.Nat.{ℕ, _+_, _*_, _/_, _%_, _≤_, _<_, min}
-use native.Mathlib.Omega.{arith}
-use lib.ListN.{length, getD, set, length-set}
+use Rattle.element.proofs.Names.{_≡_, refl, sym, ap, ap₂, _∙_, subst, cond, List, [], _∷_, _⊎_, inl, inr, ⊎-elim, ℕ, _+_, _*_, _/_, _%_, _≤_}
+use Rattle.element.proofs.Names.{_<_, min, arith, length, getD, set, length-set, ltb, eqb, ltb-true, ltb-false, eqb-true, eqb-false, test}
 use lib.Seq.{getD-set-same, getD-set-other}
-use lib.Dec.{ltb, eqb}
-use borrow.Author.Tests.{ltb-true, ltb-false, eqb-true, eqb-false}
-use Rattle.base.proofs.Bools.{test}
-use Rattle.plan.specs.Table.{Filled, ColumnFilled, Columns, Swept, Charges, ColumnRead, RowRead, fromGL}
+use Rattle.plan.specs.Table.{FilledTo, ColumnFilled, Columns, Swept, Charges, ColumnRead, RowRead, fromGL}
 
 below-cases : (j k : ℕ) → j < k + 1 → (j < k) ⊎ (j ≡ k)
 below-cases j k h = test (ltb j k) (λ e. inl (ltb-true j k e)) (λ e. inr (let l = ltb-false j k e in omega arith))
 
 -- ---- one place more
 
-pub filled-none : (place f : ℕ → ℕ) (before : List ℕ) → Filled place f 0 before before
+pub filled-none : (place f : ℕ → ℕ) (before : List ℕ) → FilledTo place f 0 before before
 filled-none place f before = record { there = λ r h. absurd (omega arith); kept = λ p h. refl; long = refl }
 
 pub filled-more : (place f : ℕ → ℕ) (m : ℕ) (before after : List ℕ) (v : ℕ) → ((r : ℕ) → r < m → place r ≡ place m → ⊥)
-    → Filled place f m before after → place m < length after → v ≡ f m
-    → Filled place f (m + 1) before (set after (place m) v)
+    → FilledTo place f m before after → place m < length after → v ≡ f m
+    → FilledTo place f (m + 1) before (set after (place m) v)
 filled-more place f m before after v apart s h e =
     record {
       there = λ r l.
@@ -34,13 +26,13 @@ filled-more place f m before after v apart s h e =
       long = length-set after (place m) v ∙ s .long;
     }
 
-pub filled-end : {place f : ℕ → ℕ} {k : ℕ} {before after : List ℕ} (m : ℕ) → Filled place f k before after → k ≤ m → m ≤ k
-    → Filled place f m before after
-filled-end {place} {f} {k} {before} {after} m s l h = subst (λ (i : ℕ). Filled place f i before after) (omega arith) s
+pub filled-end : {place f : ℕ → ℕ} {k : ℕ} {before after : List ℕ} (m : ℕ) → FilledTo place f k before after → k ≤ m → m ≤ k
+    → FilledTo place f m before after
+filled-end {place} {f} {k} {before} {after} m s l h = subst (λ (i : ℕ). FilledTo place f i before after) (omega arith) s
 
 -- what is read first is what is then stored
-pub filled-same : {place f g : ℕ → ℕ} {m : ℕ} {before after : List ℕ} → ((r : ℕ) → r < m → f r ≡ g r) → Filled place f m before after
-    → Filled place g m before after
+pub filled-same : {place f g : ℕ → ℕ} {m : ℕ} {before after : List ℕ} → ((r : ℕ) → r < m → f r ≡ g r) → FilledTo place f m before after
+    → FilledTo place g m before after
 filled-same e s = record { there = λ r h. s .there r h ∙ e r h; kept = s .kept; long = s .long }
 
 -- ---- columns that are computed from what they hold

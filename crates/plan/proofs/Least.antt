@@ -1,15 +1,9 @@
 -- The least costs from all numbers by one rule: the lesser of two stretches of costs with surcharges, since no cost rises by more than a
 -- designation's price.
-use mathlib.Core.Path.{_≡_, refl, sym, ap, ap₂, _∙_, subst}
-use mathlib.Core.Bool.{Bool, true, false, cond, _||_, _&&_}
-use mathlib.Core.List.{List}
-use mathlib.Core.Logic.{⊎-elim}
-use Prim.Native.Nat.{ℕ, _+_, _-_, _*_, _≤_, _<_, min}
-use native.Mathlib.Omega.{arith}
-use lib.ListN.{length, getD}
-use lib.Dec.{leb, ltb, eqb}
-use borrow.Author.Tests.{eqb-true, eqb-false, eq-eqb, ne-eqb, leb-true, leb-false, le-leb, ltb-true, lt-ltb}
-use Rattle.base.proofs.Bools.{test, cond-by, and-left, and-right, or-cases, implies, implies-elim, up-to, upTo}
+use Rattle.element.proofs.Names.{_≡_, refl, sym, ap, ap₂, _∙_, subst, Bool, true, false, cond, _||_, _&&_, List, ⊎-elim, ℕ, _+_, _-_, _*_, _≤_}
+use Rattle.element.proofs.Names.{_<_, min, arith, length, getD, leb, ltb, eqb, eqb-true, eqb-false, eq-eqb, ne-eqb, leb-true, leb-false, le-leb, ltb-true}
+use Rattle.element.proofs.Names.{lt-ltb, test, cond-by, and-left, and-right, up-to}
+use Rattle.base.proofs.Bools.{or-cases, implies, implies-elim, upTo}
 use Rattle.numbers.specs.Numbers.{withGL, withGR, priceOfClass, placesInGL, placesInGR, servedInGL, servedInGR, afterFirst, afterSecond, chosenBy, surcharge}
 use Rattle.plan.specs.Table.{SumsFit, Charges, ColumnRead, fromGL}
 use Rattle.plan.specs.Costs.{leastBy, surcharges, OfGL, Smooth, InGR, OnBoth}

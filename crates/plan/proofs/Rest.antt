@@ -1,23 +1,11 @@
 -- The costs of what follows, unit by unit from the last to the first. They are kept less a base, since no two differ by more than two
 -- designations; and beside them the class that changed them last, since its need changes them no more.
-use mathlib.Core.Path.{_≡_, refl, sym, ap, ap₂, _∙_, subst, fun-ext}
-use mathlib.Core.Bool.{Bool, true, false, not, true≢false}
-use mathlib.Core.List.{List}
-use mathlib.Core.Logic.{_⊎_, inl, inr, ⊎-elim}
-use mathlib.Core.Option.{Option, none, some}
-use Prim.Native.Nat.{ℕ, zero, suc, _+_, _-_, _*_, _%_, _≤_, _<_}
-use native.Mathlib.Omega.{arith}
-use lib.Dec.{ltb, eqb}
+use Rattle.element.proofs.Names.{_≡_, refl, sym, ap, ap₂, _∙_, subst, Bool, true, false, not, true≢false, List, _⊎_, inl, inr, ⊎-elim, Option}
+use Rattle.element.proofs.Names.{none, some, ℕ, zero, suc, _+_, _-_, _*_, _%_, _≤_, _<_, arith, ltb, eqb, ltb-true, ltb-false, eqb-true, length, getD}
+use Rattle.element.proofs.Names.{List·getD-eq-default, test, pick-by, pick, GL, GR, rowOf, allowed, mayUse, formOf, Standing, on, put, fresh, Sets}
+use mathlib.Core.Path.{fun-ext}
 use mir.Syntax.{w64}
 use mir.Val.{Fits}
-use borrow.Author.Tests.{ltb-true, ltb-false, eqb-true}
-use lib.ListN.{length, getD, List·getD-eq-default}
-use Rattle.base.proofs.Bools.{test, pick-by}
-use Rattle.base.specs.Choice.{pick}
-use Rattle.charset.specs.declared.Side.the-variants.{GL, GR}
-use Rattle.charset.specs.Charsets.{rowOf, allowed, mayUse, formOf}
-use Rattle.state.specs.State.{Standing, on, put, fresh}
-use Rattle.state.specs.declared.Sets.{Sets}
 use Rattle.grammar.specs.Units.{TextUnit, designation}
 use Rattle.grammar.proofs.Sound.{lead-size}
 use Rattle.shortest.specs.Writing.{Need, least, choose, after, price, cost}

@@ -1,16 +1,8 @@
 -- What a unit does to the costs, and what its row keeps of them.
-use mathlib.Core.Path.{_≡_, refl, sym, ap, _∙_}
-use mathlib.Core.Bool.{Bool, true, false, cond, not, _&&_, true≢false, false≢true}
-use mathlib.Core.List.{List}
-use mathlib.Core.Logic.{⊎-elim}
-use Prim.Native.Nat.{ℕ, _+_, _-_, _*_, _/_, _%_, _≤_, _<_}
-use native.Mathlib.Omega.{arith}
-use lib.ListN.{length, getD}
-use lib.Dec.{ltb, leb, eqb}
-use borrow.Author.Tests.{lt-ltb, le-ltb, eqb-false}
-use Rattle.base.specs.Choice.{pick}
+use Rattle.element.proofs.Names.{_≡_, refl, sym, ap, _∙_, Bool, true, false, cond, not, _&&_, true≢false, false≢true, List, ⊎-elim, ℕ, _+_, _-_}
+use Rattle.element.proofs.Names.{_*_, _/_, _%_, _≤_, _<_, arith, length, getD, ltb, leb, eqb, lt-ltb, le-ltb, eqb-false, pick}
 use Rattle.numbers.specs.Numbers.{priceOfClass, afterFirst, afterSecond, afterChoice}
-use Rattle.plan.specs.Table.{Filled, PlacesFilled, Columns}
+use Rattle.plan.specs.Table.{FilledTo, PlacesFilled, Columns}
 use Rattle.plan.specs.Costs.{leastBy, changes, Turned, secondSlot, RowKept}
 use Rattle.numbers.proofs.Numbers.{first-gl, second-gr, first-space, second-space, gl-two, gr-most}
 use Rattle.plan.proofs.Filled.{columns-at}
@@ -102,7 +94,7 @@ module _ (last x : ℕ) (before after : List ℕ) (l : length before ≡ 80) whe
       turned-near k hk = omega (arith, n 1 k (omega arith) hk, now k hk, now 1 (omega arith))
 
       pub turned-lowered : (last-costs : List ℕ) → changes last x ≡ true → ((j : ℕ) → getD before j 0 ≤ 208)
-          → Filled (λ k. k) (λ k. getD after k 0 - 128) 80 after last-costs
+          → FilledTo (λ k. k) (λ k. getD after k 0 - 128) 80 after last-costs
           → Turned last x before 128 x last-costs
       turned-lowered last-costs e u d =
           record {

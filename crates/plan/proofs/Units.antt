@@ -1,18 +1,9 @@
 -- What the unit in a row needs, and how many octets it has: by the row's tag, shown by one computed test of the tags below 26.
-use Prim.Native.Nat.{ℕ, suc, _+_, _-_, _*_, _≤_, _<_}
-use native.Mathlib.Omega.{arith}
-use mathlib.Core.Path.{_≡_, refl, ap, ap₂, _∙_}
-use mathlib.Core.Bool.{Bool, true, false, _&&_, false≢true}
-use mathlib.Core.List.{List}
-use lib.ListN.{length, getD}
-use lib.Dec.{eqb, ltb}
-use borrow.Author.Tests.{ltb-true, ltb-false, le-ltb, eqb-true}
-use Rattle.base.proofs.Bools.{test, and-left, and-right, up-to}
-use Rattle.base.specs.Choice.{pick}
-use Rattle.charset.specs.Charsets.{allowed, mayUse, formOf}
-use Rattle.state.specs.declared.Sets.{Sets}
+use Rattle.element.proofs.Names.{ℕ, suc, _+_, _-_, _*_, _≤_, _<_, arith, _≡_, refl, ap, ap₂, _∙_, Bool, true, false, _&&_, false≢true, List}
+use Rattle.element.proofs.Names.{length, getD, eqb, ltb, ltb-true, ltb-false, le-ltb, eqb-true, test, and-left, and-right, up-to, pick, allowed, mayUse}
+use Rattle.element.proofs.Names.{formOf, Sets}
 use Rattle.grammar.specs.Units.{TextUnit, control, revert, wide, octets}
-use Rattle.shortest.specs.Writing.{Need, free, either, need, least, size, cost}
+use Rattle.shortest.specs.Writing.{Need, free, either, need, least, unitSize, cost}
 use Rattle.rows.proofs.Units.{part-length, unit-segment, unit-mark, mark-revert}
 use Rattle.rows.specs.Rows.{tagAt, highOctet, lowOctet, startFrom, countOf, partOf, textTagged, markTagged, unitTagged, unitsIn}
 use Rattle.rows.specs.Tag as tag
@@ -53,11 +44,11 @@ module _ (o : List ℕ) (t a b s : ℕ) where
   abbrev part : ℕ
   part = partOf (countOf a b) s (length o)
 
-  size-low : t < tag.segment → size unit ≡ sizeOf t part
-  unfolding size octets unitTagged textTagged markTagged sizeOf pick wide formOf
-  size-low h = eqb-true (size unit) (sizeOf t part) (up-to 21 (λ m. eqb (size (unitTagged o m a b s)) (sizeOf m part)) refl t h)
+  size-low : t < tag.segment → unitSize unit ≡ sizeOf t part
+  unfolding unitSize octets unitTagged textTagged markTagged sizeOf pick wide formOf
+  size-low h = eqb-true (unitSize unit) (sizeOf t part) (up-to 21 (λ m. eqb (unitSize (unitTagged o m a b s)) (sizeOf m part)) refl t h)
 
-  -- the size of a tag from that of a segment on
+  -- the unitSize of a tag from that of a segment on
   size-high : tag.segment ≤ t → sizeOf t part ≡ pick (ltb t tag.spare) (6 + part) 2
   unfolding sizeOf pick
   size-high h =
@@ -69,14 +60,14 @@ module _ (o : List ℕ) (t a b s : ℕ) where
         le-ltb t tag.segment h,
       )
 
-  pub size-tagged : size unit ≡ sizeOf t part
-  unfolding size octets pick
+  pub size-tagged : unitSize unit ≡ sizeOf t part
+  unfolding unitSize octets pick
   size-tagged =
       test (ltb t tag.segment) (λ e. size-low (ltb-true t tag.segment e))
       (λ e. let h = ltb-false t tag.segment e in
       test (ltb t tag.spare)
-      (λ q. ap size (unit-segment o t a b s h (ltb-true t tag.spare q)) ∙ rw (size-high h, q) (omega (arith, part-length o (countOf a b) s)))
-      (λ q. ap size (spare (ltb-false t tag.spare q)) ∙ rw (size-high h, q)))
+      (λ q. ap unitSize (unit-segment o t a b s h (ltb-true t tag.spare q)) ∙ rw (size-high h, q) (omega (arith, part-length o (countOf a b) s)))
+      (λ q. ap unitSize (spare (ltb-false t tag.spare q)) ∙ rw (size-high h, q)))
 
 -- the cost of the rows from i on
 pub rest-end : (o w : List ℕ) (n : ℕ) (s : Sets) → restFrom o w n n s ≡ 0

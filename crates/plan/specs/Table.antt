@@ -8,18 +8,18 @@ use lib.ListN.{length, getD}
 use Rattle.numbers.specs.Size as size
 
 -- the first m of the places that `place` gives hold the numbers that f gives, and all other places what they held
-pub record Filled (place f : ℕ → ℕ) (m : ℕ) (before after : List ℕ) : Type 0 where
+pub record FilledTo (place f : ℕ → ℕ) (m : ℕ) (before after : List ℕ) : Type 0 where
   pub there : (r : ℕ) → r < m → getD after (place r) 0 ≡ f r
   pub kept : (p : ℕ) → ((r : ℕ) → r < m → p ≡ place r → ⊥) → getD after p 0 ≡ getD before p 0
   pub long : length after ≡ length before
 
 -- the places from a place on
 abbrev pub PlacesFilled : (ℕ → ℕ) → ℕ → ℕ → List ℕ → List ℕ → Type 0
-PlacesFilled f at = Filled (λ r. at + r) f
+PlacesFilled f at = FilledTo (λ r. at + r) f
 
 -- those of column r, by row, in a table of five rows by 16
 abbrev pub ColumnFilled : (ℕ → ℕ) → ℕ → ℕ → List ℕ → List ℕ → Type 0
-ColumnFilled f r = Filled (λ g. size.columns * g + r) f
+ColumnFilled f r = FilledTo (λ g. size.columns * g + r) f
 
 -- the first m columns of such a table hold the numbers that f gives by row and column
 pub record Columns (f : ℕ → ℕ → ℕ) (m : ℕ) (table : List ℕ) : Type 0 where

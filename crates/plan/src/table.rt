@@ -4,7 +4,7 @@ ghost use mathlib.Core.Bool.{cond};
 ghost use Prim.Native.Nat.{ℕ, _+_, _-_, _*_, _≤_, _<_, min};
 ghost use lib.Dec.{eqb};
 ghost use lib.ListN.{length, getD};
-ghost use Rattle.plan.specs.Table.{Filled, PlacesFilled, ColumnFilled, Columns, SumsFit, Charges, ColumnRead, RowRead, fromGL};
+ghost use Rattle.plan.specs.Table.{FilledTo, PlacesFilled, ColumnFilled, Columns, SumsFit, Charges, ColumnRead, RowRead, fromGL};
 ghost use Rattle.numbers.specs.Size as sizes;
 use numbers::size;
 
@@ -150,7 +150,7 @@ pub fn keep_column(cur: &[u8; size::NUMBERS], r: usize, work: &mut [u8], at: usi
 // Takes 128 from each cost.
 pub fn lower(cur: &mut [u8; size::NUMBERS])
     requires { ⌜ ((k : ℕ) → k < sizes.numbers → 128 ≤ getD (now cur) k 0) × (length (now cur) ≡ sizes.numbers) ⌝ }
-    ensures { λ _. ⌜ Filled (λ k. k) (λ k. getD (now (cur .entry)) k 0 - 128) sizes.numbers (now (cur .entry)) (now (cur .exit)) ⌝ }
+    ensures { λ _. ⌜ FilledTo (λ k. k) (λ k. getD (now (cur .entry)) k 0 - 128) sizes.numbers (now (cur .entry)) (now (cur .exit)) ⌝ }
 {
     let mut k: usize = 0;
     while k < size::NUMBERS {

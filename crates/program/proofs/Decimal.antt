@@ -1,12 +1,7 @@
 -- A number's decimal digits, read as a decimal number again, are the number (`decimal-value`), for every number of the machine: by
 -- induction on how many digits it may have, since the last digit is the rest of a division by ten.
-use Prim.Native.Nat.{ℕ, zero, suc, _+_, _-_, _*_, _/_, _%_, _^_, _<_}
-use native.Mathlib.Omega.{arith}
-use mathlib.Core.Bool.{Bool, true, false}
-use mathlib.Core.Path.{_≡_, refl, _∙_}
-use mathlib.Core.List.{List, [], _∷_, _++_}
-use lib.Dec.{ltb}
-use Rattle.base.specs.Choice.{pick}
+use Rattle.element.proofs.Names.{ℕ, zero, suc, _+_, _-_, _*_, _/_, _%_, _^_, _<_, arith, Bool, true, false, _≡_, refl, _∙_, List, [], _∷_, _++_, ltb}
+use Rattle.element.proofs.Names.{pick}
 use Rattle.program.specs.Printed.{digit, digits, decimal}
 use Rattle.program.proofs.Texts.{most}
 

@@ -1,19 +1,10 @@
 -- What is printed (rules P2, P3): of an accepted string of up to 909 units an accepted string of the same reading, and none is
 -- shorter (`printed-shortest`); of one of more units 12 at 0 (`printed-more`); of a refused string its refusal (`printed-refused`), which
 -- for more than 65,535 octets is 1 at 0 (`printed-too-long`).
-use Prim.Native.Nat.{ℕ, _≤_, _<_}
-use native.Mathlib.Omega.{arith}
-use mathlib.Core.Path.{_≡_, ap, ap₂, sym, _∙_, subst}
-use mathlib.Core.List.{List, []}
-use mathlib.Core.Option.{Option, some}
-use lib.ListN.{length}
-use borrow.Author.Tests.{lt-ltb}
-use Rattle.base.specs.Answers.{refusedAt}
-use Rattle.base.specs.Choice.{pick}
+use Rattle.element.proofs.Names.{ℕ, _≤_, _<_, arith, _≡_, ap, ap₂, sym, _∙_, subst, List, [], Option, some, length, lt-ltb, refusedAt, pick, Answer}
+use Rattle.element.proofs.Names.{UnitRecord, fresh}
 use Rattle.base.specs.Limit as limit
 use Rattle.base.specs.Refusal as refusal
-use Rattle.base.specs.declared.Answer.{Answer}
-use Rattle.base.specs.declared.Unit.{Unit as UnitRecord}
 use Rattle.grammar.specs.Reading.{ReadAs, checkOf}
 use Rattle.grammar.specs.Records.{listReading}
 use Rattle.grammar.specs.Units.{TextUnit}
@@ -22,7 +13,6 @@ use Rattle.shortest.specs.Outcome.{Served, short-work}
 use Rattle.shortest.specs.Writing.{cost, writing}
 use Rattle.shortest.proofs.Records.{ReadList, read-list, reading-length}
 use Rattle.shortest.proofs.Shortest.{shortest}
-use Rattle.state.specs.State.{fresh}
 use Rattle.units.specs.Records.{recordsOf}
 use Rattle.units.proofs.Records.{records-read}
 use Rattle.program.specs.Printed.{room, refusalLine, printedOf}

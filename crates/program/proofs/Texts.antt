@@ -1,14 +1,9 @@
 -- A text is put before a place from its last octet to its first: each store puts one octet before those from the place on (`before`). For a
 -- text that is there the octets come from its end (`Put`); for a number each is the last digit of what is left of it (`Counted`).
-use Prim.Native.Nat.{ℕ, zero, suc, _+_, _-_, _*_, _/_, _%_, _^_, _≤_, _<_}
-use native.Mathlib.Omega.{arith}
-use mathlib.Core.Path.{_≡_, refl, ap, ap₂, sym, _∙_, subst}
-use mathlib.Core.List.{List, [], _∷_, _++_}
-use lib.ListN.{length, getD, set, take, drop, length-set, length-drop}
+use Rattle.element.proofs.Names.{ℕ, zero, suc, _+_, _-_, _*_, _/_, _%_, _^_, _≤_, _<_, arith, _≡_, refl, ap, ap₂, sym, _∙_, subst, List, [], _∷_}
+use Rattle.element.proofs.Names.{_++_, length, getD, set, take, drop, length-set, length-drop, le-ltb, lt-ltb, pick, on-gt}
 use lib.Seq.{drop-cons, drop-length, take-all, drop-set-lt, getD-set-same, append-snoc}
-use borrow.Author.Tests.{le-ltb, lt-ltb}
-use Rattle.base.specs.Choice.{pick}
-use Rattle.base.proofs.Ladder.{on-le, on-gt}
+use Rattle.base.proofs.Ladder.{on-le}
 use Rattle.program.specs.Printed.{digit, digits, decimal, refusalLine, storedIn}
 
 before : (l : List ℕ) (i b : ℕ) → i < length l → drop i (set l i b) ≡ b ∷ drop (suc i) l

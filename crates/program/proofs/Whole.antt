@@ -1,21 +1,10 @@
 -- What is printed, by the answer of `rewrite::shortest`: where it is accepted the octets stored are what is printed (`Form`), and where it
 -- has a count beside a refusal they are as many as are printed and the output stays; else the line of the refusal is printed (`Line`).
 -- The answer depends on the output's length only where that is too short for the shortest form, and then the count is not 0.
-use Prim.Native.Nat.{ℕ, _≤_, _<_}
-use native.Mathlib.Omega.{arith}
-use mathlib.Core.Path.{_≡_, refl, ap, sym, _∙_, subst}
-use mathlib.Core.Bool.{Bool, true, false}
-use mathlib.Core.List.{List, _++_}
-use mathlib.Core.Option.{some, Option·some-injective}
-use lib.ListN.{length, drop}
-use lib.Dec.{eqb}
-use borrow.Author.Tests.{eqb-true, eqb-false, eq-eqb, ne-eqb}
-use Rattle.base.specs.Answers.{answer}
-use Rattle.base.specs.Choice.{pick}
+use Rattle.element.proofs.Names.{ℕ, _≤_, _<_, arith, _≡_, refl, ap, sym, _∙_, subst, Bool, true, false, List, _++_, some, Option·some-injective}
+use Rattle.element.proofs.Names.{length, drop, eqb, eqb-true, eqb-false, eq-eqb, ne-eqb, answer, pick, Answer, UnitRecord, fresh}
 use Rattle.base.specs.Limit as limit
 use Rattle.base.specs.Refusal as refusal
-use Rattle.base.specs.declared.Answer.{Answer}
-use Rattle.base.specs.declared.Unit.{Unit as UnitRecord}
 use Rattle.grammar.specs.Reading.{checkOf, readingOf}
 use Rattle.grammar.specs.Records.{listReading}
 use Rattle.grammar.specs.Units.{TextUnit}
@@ -27,7 +16,6 @@ use Rattle.shortest.specs.Writing.{cost, writing}
 use Rattle.shortest.proofs.Costs.{writing-length}
 use Rattle.shortest.proofs.Outcome.{accepted-where, outcome, outcome-is}
 use Rattle.shortest.proofs.Output.{refused-output, accepted-output}
-use Rattle.state.specs.State.{fresh}
 use Rattle.units.specs.Records.{recordsOf}
 use Rattle.units.proofs.Records.{records-read}
 use Rattle.program.specs.Printed.{room, refusalLine, printedOf, storedIn}

@@ -1,16 +1,7 @@
 -- The three cases of `read`, by its answer and the list after it (`read-cases`).
-use Prim.Native.Nat.{ℕ, _≤_, _<_}
-use mathlib.Core.Path.{_≡_, refl, sym, _∙_}
-use mathlib.Core.Bool.{Bool, true, false, false≢true}
-use mathlib.Core.List.{List, _++_}
-use lib.Dec.{eqb, ltb}
-use lib.ListN.{length, drop}
-use borrow.Author.Tests.{eqb-true, eq-eqb, ltb-true, ltb-false}
-use Rattle.base.specs.Answers.{answer}
-use Rattle.base.specs.Choice.{pick}
+use Rattle.element.proofs.Names.{ℕ, _≤_, _<_, _≡_, refl, sym, _∙_, Bool, true, false, false≢true, List, _++_, eqb, ltb, length, drop, eqb-true}
+use Rattle.element.proofs.Names.{eq-eqb, ltb-true, ltb-false, answer, pick, Answer, UnitRecord}
 use Rattle.base.specs.Refusal as refusal
-use Rattle.base.specs.declared.Answer.{Answer}
-use Rattle.base.specs.declared.Unit.{Unit as UnitRecord}
 use Rattle.grammar.specs.Reading.{checkOf}
 use Rattle.units.specs.Records.{recordsOf}
 use Rattle.units.proofs.Records.{records-count}

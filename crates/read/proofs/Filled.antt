@@ -1,22 +1,10 @@
 -- The list that `read` fills, record by record at a cursor, is the list of its contract (`filled`): by induction on the elements of the
 -- string, the cursor stands where the next unit is that of the elements that are left.
-use Prim.Native.Nat.{ℕ, zero, suc, _+_, _≤_, _<_, zero-le}
-use native.Mathlib.Nat.{not-suc-le-zero, le-of-suc-le-suc}
-use native.Mathlib.Omega.{arith}
-use mathlib.Core.Path.{_≡_, refl, ap, sym, _∙_, subst}
-use mathlib.Core.Bool.{Bool, true, false}
-use mathlib.Core.List.{List, [], _∷_, _++_}
-use lib.Dec.{ltb}
-use lib.ListN.{length, drop}
-use borrow.Author.Tests.{eq-eqb, ne-eqb, ltb-false}
-use Rattle.base.specs.Answers.{refusedAt}
-use Rattle.base.specs.Choice.{pick}
+use Rattle.element.proofs.Names.{ℕ, zero, suc, _+_, _≤_, _<_, zero-le, not-suc-le-zero, arith, _≡_, refl, ap, sym, _∙_, subst, Bool, true, false, List}
+use Rattle.element.proofs.Names.{[], _∷_, _++_, ltb, length, drop, eq-eqb, ne-eqb, ltb-false, refusedAt, pick, Answer, UnitRecord, fresh, State}
+use native.Mathlib.Nat.{le-of-suc-le-suc}
 use Rattle.base.specs.Limit as limit
 use Rattle.base.specs.Refusal as refusal
-use Rattle.base.specs.declared.Answer.{Answer}
-use Rattle.base.specs.declared.Unit.{Unit as UnitRecord}
-use Rattle.state.specs.State.{fresh}
-use Rattle.state.specs.declared.State.{State}
 use Rattle.grammar.specs.Reading.{Elements, size, elementsOf, answerOf, checkOf}
 use Rattle.grammar.proofs.Places.{Ahead, ends, stops, passes, reads, from-start}
 use Rattle.units.specs.Records.{recordOf, recordsFrom, recordsOf}

@@ -1,15 +1,8 @@
 -- What `read` promises where it accepts, of the list after it: the records that it stores are read as the string is (`list-reads`), their fields
 -- that mean nothing are 0 (`list-meant`), and the rest stays (`list-rest`). Where it refuses, the whole list stays (`list-stays`).
-use Prim.Native.Nat.{ℕ}
-use native.Mathlib.Omega.{arith}
-use mathlib.Core.Path.{_≡_, refl, ap, sym, _∙_}
-use mathlib.Core.List.{List, _++_}
-use mathlib.Core.Option.{some}
-use lib.ListN.{length, take, drop}
-use lib.Seq.{take-append-seam, drop-append-seam}
+use Rattle.element.proofs.Names.{ℕ, arith, _≡_, refl, ap, sym, _∙_, List, _++_, some, length, take, drop, take-append-seam, Answer, UnitRecord}
+use lib.Seq.{drop-append-seam}
 use Rattle.base.specs.Refusal as refusal
-use Rattle.base.specs.declared.Answer.{Answer}
-use Rattle.base.specs.declared.Unit.{Unit as UnitRecord}
 use Rattle.grammar.specs.Reading.{checkOf, readingOf}
 use Rattle.grammar.specs.Records.{listReading}
 use Rattle.units.specs.Records.{recordsOf, AllMeant}

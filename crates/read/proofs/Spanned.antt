@@ -1,17 +1,11 @@
 -- A turn of `read`: the units of the span at its cursor are stored one after another, and the list and the cursor are those after so many
 -- single steps (`list-next`, `cursor-next`). By induction on how many may follow, since each unit of a span is the one that `advance` gives.
-use Prim.Native.Nat.{ℕ, zero, suc, _+_, _-_, _≤_, _<_}
-use native.Mathlib.Omega.{arith}
-use mathlib.Core.Path.{_≡_, refl, ap, sym, _∙_}
-use mathlib.Core.Bool.{Bool, true, false}
-use mathlib.Core.List.{List}
-use lib.ListN.{length, set}
-use Rattle.base.specs.Choice.{pick}
+use Rattle.element.proofs.Names.{ℕ, zero, suc, _+_, _-_, _≤_, _<_, arith, _≡_, refl, ap, sym, _∙_, Bool, true, false, List, length, set, pick}
+use Rattle.element.proofs.Names.{UnitRecord}
 use Rattle.base.specs.Limit as limit
-use Rattle.base.specs.declared.Unit.{Unit as UnitRecord}
 use Rattle.walks.proofs.Filling.{iter, iter-suc, fill-suc}
 use Rattle.cursor.specs.Cursor.{first, advanceOf}
-use Rattle.read.specs.Spans.{spanOf, movedOf, stands, nthOf, countFrom, storedFrom}
+use Rattle.read.specs.Spans.{spanOf, movedOf, standsAfter, unitAfter, countFrom, storedFrom}
 use Rattle.cursor.specs.declared.Cursor.{Cursor}
 use Rattle.cursor.specs.declared.Turn.{Turn}
 use Rattle.read.specs.declared.spans.Span.{Span}
@@ -34,17 +28,17 @@ module _ (s : List ℕ) (ys : List UnitRecord) where
     abbrev at : ℕ → Cursor
     at j = stood s (cur i) n r j
 
-    next-cursor : (j : ℕ) → j < r .most → stands s r j ≡ true → at j ≡ cur (i + j) → at (suc j) ≡ cur (i + suc j)
+    next-cursor : (j : ℕ) → j < r .most → standsAfter s r j ≡ true → at j ≡ cur (i + j) → at (suc j) ≡ cur (i + suc j)
     next-cursor j h e k =
         let m : suc (i + j) ≡ i + suc j = omega arith in
         ap (λ (t : Turn). t .cursor) (span-turns s (cur i) n short j h e) ∙ ap (after s) k ∙ sym (iter-suc (unitAt s) (after s) (i + j) first) ∙ ap cur m
 
-    next-list : (j : ℕ) (l : List UnitRecord) → j < r .most → i + j < length ys → stands s r j ≡ true → at j ≡ cur (i + j) → l ≡ got (i + j)
-        → set l (i + j) (nthOf s r j) ≡ got (i + suc j)
+    next-list : (j : ℕ) (l : List UnitRecord) → j < r .most → i + j < length ys → standsAfter s r j ≡ true → at j ≡ cur (i + j) → l ≡ got (i + j)
+        → set l (i + j) (unitAfter s r j) ≡ got (i + suc j)
     next-list j l h in-list e k g =
         let m : suc (i + j) ≡ i + suc j = omega arith in
-        let u : nthOf s r j ≡ unitAt s (cur (i + j)) = ap (λ (t : Turn). t .unit) (span-turns s (cur i) n short j h e) ∙ ap (unitAt s) k in
-        ap (λ (z : List UnitRecord). set z (i + j) (nthOf s r j)) g ∙ ap (set (got (i + j)) (i + j)) u ∙ fill-suc (unitAt s) (after s)
+        let u : unitAfter s r j ≡ unitAt s (cur (i + j)) = ap (λ (t : Turn). t .unit) (span-turns s (cur i) n short j h e) ∙ ap (unitAt s) k in
+        ap (λ (z : List UnitRecord). set z (i + j) (unitAfter s r j)) g ∙ ap (set (got (i + j)) (i + j)) u ∙ fill-suc (unitAt s) (after s)
         (i + j) first ys in-list ∙ ap got m
 
     abbrev Reached : ℕ → List UnitRecord → Type 0
@@ -54,11 +48,11 @@ module _ (s : List ℕ) (ys : List UnitRecord) where
         → Reached (countFrom s r m j) (storedFrom s r i m j l)
     unfolding countFrom storedFrom pick
     goes-on zero j l h k e = e
-    goes-on (suc m) j l h k e = by (stands s r j) refl (λ u. goes-on m (suc j) (set l (i + j) (nthOf s r j)) (omega (arith, h)) k u)
+    goes-on (suc m) j l h k e = by (standsAfter s r j) refl (λ u. goes-on m (suc j) (set l (i + j) (unitAfter s r j)) (omega (arith, h)) k u)
       where
-        by : (b : Bool) → stands s r j ≡ b → (Reached (suc j) (set l (i + j) (nthOf s r j))
-            → Reached (countFrom s r m (suc j)) (storedFrom s r i m (suc j) (set l (i + j) (nthOf s r j))))
-            → Reached (pick b (countFrom s r m (suc j)) j) (pick b (storedFrom s r i m (suc j) (set l (i + j) (nthOf s r j))) l)
+        by : (b : Bool) → standsAfter s r j ≡ b → (Reached (suc j) (set l (i + j) (unitAfter s r j))
+            → Reached (countFrom s r m (suc j)) (storedFrom s r i m (suc j) (set l (i + j) (unitAfter s r j))))
+            → Reached (pick b (countFrom s r m (suc j)) j) (pick b (storedFrom s r i m (suc j) (set l (i + j) (unitAfter s r j))) l)
         by true t onward = onward (next-list j l (omega (arith, h)) (omega (arith, h, k)) t (e .1) (e .0), next-cursor j (omega (arith, h)) t (e .1))
         by false t onward = e
 

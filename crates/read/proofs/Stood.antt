@@ -1,34 +1,21 @@
 -- The units of a span are those that `advance` gives, one after another from the cursor on (`span-turns`). For what the octets are taken for is
--- what `advance` takes them for, and a tab or a newline is the element that stands there. A span has one unit or more (`span-first`) and
+-- what `advance` takes them for, and a tab or a newline is the element that standsAfter there. A span has one unit or more (`span-first`) and
 -- no more than are asked for (`span-most`), and they are in the string (`span-fits`).
-use Prim.Native.Nat.{ℕ, zero, suc, _+_, _-_, _*_, _/_, _%_, _^_, _≤_, _<_}
-use native.Mathlib.Omega.{arith}
+use Rattle.element.proofs.Names.{ℕ, zero, suc, _+_, _-_, _*_, _/_, _%_, _^_, _≤_, _<_, arith, _≡_, refl, ap, sym, _∙_, Bool, true, false, false≢true}
+use Rattle.element.proofs.Names.{List, _∷_, eqb, leb, ltb, length, getD, eqb-true, eqb-false, ltb-true, ltb-false, leb-true, leb-false, le-ltb, le-leb, pick}
+use Rattle.element.proofs.Names.{from, on-false, on-ne, on-lt, on-ge, from-octet, UnitRecord, no-set, stepOf, part, Sets, Found}
 use native.Mathlib.Nat.{mod-eq-of-lt}
-use mathlib.Core.Path.{_≡_, refl, ap, sym, _∙_}
-use mathlib.Core.Bool.{Bool, true, false, false≢true}
-use mathlib.Core.List.{List, _∷_}
-use lib.Dec.{eqb, leb, ltb}
-use lib.ListN.{length, getD}
-use borrow.Author.Tests.{eqb-true, eqb-false, ltb-true, ltb-false, leb-true, leb-false, le-ltb, le-leb}
-use Rattle.base.specs.Choice.{pick, from}
 use Rattle.base.specs.Kind as kind
 use Rattle.base.specs.Limit as limit
-use Rattle.base.proofs.Ladder.{on-false, on-ne, on-lt, on-ge, from-octet}
-use Rattle.base.specs.declared.Unit.{Unit as UnitRecord}
-use Rattle.charset.specs.Charsets.{no-set}
-use Rattle.state.specs.Directions.{stepOf}
-use Rattle.state.specs.Elements.{part}
-use Rattle.state.specs.declared.Sets.{Sets}
-use Rattle.state.specs.declared.elements.Element.the-variants.{Found}
 use Rattle.element.specs.Element.{shapeOf, steppedOf, directedOf, elementOf}
 use Rattle.element.specs.Start.{startOf, begunBy}
 use Rattle.element.proofs.Sizes.{found}
 use Rattle.grammar.proofs.Places.{at-passed}
 use Rattle.units.specs.Next.{outcomeOf, nextOf}
-use Rattle.cursor.specs.Cursor.{freed, cursor, stateIn, turn, turnOf, elementTurn, first-double, textOctet, setAt, kindAt, ifGraphic, oneOf, doubleOf, octetOf}
+use Rattle.cursor.specs.Cursor.{freed, cursor, stateIn, turn, outcomeTurn, elementTurn, first-double, textOctet, setAt, kindAt, ifGraphic, oneOf, doubleOf, octetOf}
 use Rattle.cursor.specs.Cursor.{quickOf, textTurn, advanceAt, advanceOf}
-use Rattle.read.specs.Spans.{any, ones, left-twos, right-twos, singleOf, leftFirst, hasTwo, formAt, lesserOf, anyOf, ofForm, byForm, spanOf, Fits}
-use Rattle.read.specs.Spans.{movedOf, stands, oneAt, twoAt, nthOf}
+use Rattle.read.specs.Spans.{any, ones, left-twos, right-twos, singleUnder, leftFirst, hasTwo, formAt, lesserOf, anyOf, ofForm, byForm, spanOf, Fits}
+use Rattle.read.specs.Spans.{movedOf, standsAfter, oneUnitAt, twoOctetUnitAt, unitAfter}
 use Rattle.cursor.specs.declared.Cursor.{Cursor}
 use Rattle.cursor.specs.declared.Turn.{Turn}
 use Rattle.read.specs.declared.spans.Span.{Span}
@@ -64,8 +51,8 @@ right-set : (b : ℕ) (sets : Sets) → 0xA0 ≤ b → sets .gr ≡ setAt b sets
 unfolding setAt
 right-set b sets h = on-ge b 0x80 _ _ _ (omega (arith, h)) refl
 
-singled : (b : ℕ) (sets : Sets) → singleOf b sets ≡ true → Single b sets
-unfolding singleOf pick
+singled : (b : ℕ) (sets : Sets) → singleUnder b sets ≡ true → Single b sets
+unfolding singleUnder pick
 singled b sets e = go (ltb b 0x20) (ltb b 0x09) (ltb b 0x7F) (ltb b 0xA0) refl refl refl refl e
   where
     go : (p q x y : Bool) → ltb b 0x20 ≡ p → ltb b 0x09 ≡ q → ltb b 0x7F ≡ x → ltb b 0xA0 ≡ y
@@ -105,7 +92,7 @@ module _ (s : List ℕ) where
 
   -- ---- a character or space of one octet
   one-text : (at : ℕ) (to : Sets) → at < length s → 0x20 ≤ getD s at 0 → textOctet (getD s at 0) ≡ true → setAt (getD s at 0) to < first-double
-      → turn (oneAt s at to) (cursor (at + 1) (freed to)) ≡ advanceOf s (cursor at (freed to))
+      → turn (oneUnitAt s at to) (cursor (at + 1) (freed to)) ≡ advanceOf s (cursor at (freed to))
   unfolding textTurn octetOf
   one-text at to h k t l =
       plain-turn at to _ h (λ q. omega (arith, q, k))
@@ -115,7 +102,7 @@ module _ (s : List ℕ) where
   -- ---- a character of two
   two-text : (at set : ℕ) (to : Sets) → at + 1 < length s → 0x20 < getD s at 0 → textOctet (getD s at 0) ≡ true
       → set ≡ setAt (getD s at 0) to → first-double ≤ set → set < no-set
-      → turn (twoAt s at set) (cursor (at + 2) (freed to)) ≡ advanceOf s (cursor at (freed to))
+      → turn (twoOctetUnitAt s at set) (cursor (at + 2) (freed to)) ≡ advanceOf s (cursor at (freed to))
   unfolding textTurn octetOf doubleOf
   two-text at set to h k t e l m =
       plain-turn at to _ (omega (arith, h)) (λ q. omega (arith, q, k))
@@ -132,7 +119,7 @@ module _ (s : List ℕ) where
 
     lone-turn : (at k : ℕ) (to : Sets) → at < length s → elementOf (from at s) (freed to) ≡ Found (part k 0 0 0 1 false) (freed to)
         → turn (lone at k) (cursor (at + 1) (freed to)) ≡ elementTurn s (cursor at (freed to))
-    unfolding elementTurn nextOf outcomeOf turnOf pick
+    unfolding elementTurn nextOf outcomeOf outcomeTurn pick
     lone-turn at k to h e =
         let m : at % 2 ^ 32 ≡ at + 0 = mod-eq-of-lt (omega (arith, h, short)) ∙ (let z : at ≡ at + 0 = omega arith in z) in
         let n : at + 1 ≡ at + (0 + 1) = omega arith in
@@ -150,27 +137,27 @@ module _ (s : List ℕ) where
     blank-advance : (at b k : ℕ) (to : Sets) → at < length s → getD s at 0 ≡ b → (b ≡ 0x1B → ⊥) → textOctet b ≡ false
         → oneOf at b (setAt b to) ≡ lone at k
         → ((t : List ℕ) → elementOf (b ∷ t) (freed to) ≡ Found (part k 0 0 0 1 false) (freed to))
-        → turn (oneAt s at to) (cursor (at + 1) (freed to)) ≡ advanceOf s (cursor at (freed to))
+        → turn (oneUnitAt s at to) (cursor (at + 1) (freed to)) ≡ advanceOf s (cursor at (freed to))
     blank-advance at b k to h e n t g f =
         let i : elementOf (from at s) (freed to) ≡ Found (part k 0 0 0 1 false) (freed to) = rw (from-octet s at h, e) (f _) in
-        let j : turn (oneAt s at to) (cursor (at + 1) (freed to)) ≡ turn (lone at k) (cursor (at + 1) (freed to)) = rw (e, g) in
+        let j : turn (oneUnitAt s at to) (cursor (at + 1) (freed to)) ≡ turn (lone at k) (cursor (at + 1) (freed to)) = rw (e, g) in
         j ∙ lone-advance at k to h (rw e n) (rw e t) i
 
     tab-advance : (at : ℕ) (to : Sets) → at < length s → getD s at 0 ≡ 0x09
-        → turn (oneAt s at to) (cursor (at + 1) (freed to)) ≡ advanceOf s (cursor at (freed to))
+        → turn (oneUnitAt s at to) (cursor (at + 1) (freed to)) ≡ advanceOf s (cursor at (freed to))
     unfolding shapeOf startOf begunBy directedOf steppedOf stepOf textOctet kindAt ifGraphic pick
     tab-advance at to h e = blank-advance at 0x09 kind.tab to h e (λ q. omega arith) refl refl (λ _. refl)
 
     newline-advance : (at : ℕ) (to : Sets) → at < length s → getD s at 0 ≡ 0x0A
-        → turn (oneAt s at to) (cursor (at + 1) (freed to)) ≡ advanceOf s (cursor at (freed to))
+        → turn (oneUnitAt s at to) (cursor (at + 1) (freed to)) ≡ advanceOf s (cursor at (freed to))
     unfolding shapeOf startOf begunBy directedOf steppedOf stepOf textOctet kindAt ifGraphic pick
     newline-advance at to h e = blank-advance at 0x0A kind.newline to h e (λ q. omega arith) refl refl (λ _. refl)
 
-    one-advance : (at : ℕ) (to : Sets) → at < length s → singleOf (getD s at 0) to ≡ true
-        → turn (oneAt s at to) (cursor (at + 1) (freed to)) ≡ advanceOf s (cursor at (freed to))
+    one-advance : (at : ℕ) (to : Sets) → at < length s → singleUnder (getD s at 0) to ≡ true
+        → turn (oneUnitAt s at to) (cursor (at + 1) (freed to)) ≡ advanceOf s (cursor at (freed to))
     one-advance at to h e = by (singled (getD s at 0) to e)
       where
-        by : Single (getD s at 0) to → turn (oneAt s at to) (cursor (at + 1) (freed to)) ≡ advanceOf s (cursor at (freed to))
+        by : Single (getD s at 0) to → turn (oneUnitAt s at to) (cursor (at + 1) (freed to)) ≡ advanceOf s (cursor at (freed to))
         by (tab i) = tab-advance at to h i
         by (newline i) = newline-advance at to h i
         by (text k t l) = one-text at to h k t l
@@ -180,7 +167,7 @@ module _ (s : List ℕ) where
 -- the form that an octet begins
 data FormIs (b : ℕ) (sets : Sets) : ℕ → Type 0 where
   is-any : FormIs b sets any
-  is-ones : singleOf b sets ≡ true → FormIs b sets ones
+  is-ones : singleUnder b sets ≡ true → FormIs b sets ones
   is-left : leftFirst b ≡ true → hasTwo (sets .gl) ≡ true → FormIs b sets left-twos
   is-right : 0xA0 ≤ b → hasTwo (sets .gr) ≡ true → FormIs b sets right-twos
 
@@ -193,7 +180,7 @@ form-pick false x y h k = k refl
 formed : (b : ℕ) (sets : Sets) → FormIs b sets (formAt b sets)
 unfolding formAt
 formed b sets =
-    form-pick (singleOf b sets) _ _ is-ones
+    form-pick (singleUnder b sets) _ _ is-ones
     (λ _. form-pick (leftFirst b) _ _ (λ l. form-pick (hasTwo (sets .gl)) _ _ (λ t. is-left l t) (λ _. is-any))
     (λ _. form-pick (ltb b 0xA0) _ _ (λ _. is-any)
     (λ h. form-pick (hasTwo (sets .gr)) _ _ (λ t. is-right (ltb-false b 0xA0 h) t) (λ _. is-any))))
@@ -219,7 +206,7 @@ module _ (s : List ℕ) (c : Cursor) (n : ℕ) where
   -- the span at a cursor, by the octet there
   data Spans : Span → Type 0 where
     as-any : Spans (anyOf s c)
-    as-ones : c .place < length s → singleOf b (setsIn c) ≡ true → Spans (ofForm c ones (lesserOf octets n))
+    as-ones : c .place < length s → singleUnder b (setsIn c) ≡ true → Spans (ofForm c ones (lesserOf octets n))
     as-left : 2 ≤ octets → leftFirst b ≡ true → hasTwo (c .gl) ≡ true → Spans (ofForm c left-twos (lesserOf (octets / 2) n))
     as-right : 2 ≤ octets → 0xA0 ≤ b → hasTwo (c .gr) ≡ true → Spans (ofForm c right-twos (lesserOf (octets / 2) n))
 
@@ -282,8 +269,8 @@ module _ (s : List ℕ) (c : Cursor) (n : ℕ) where
   at-nothing : c .place ≡ c .place + 2 * 0
   at-nothing = omega arith
 
-  first-by : {r : Span} → Spans r → stands s r 0 ≡ true
-  unfolding stands pick
+  first-by : {r : Span} → Spans r → standsAfter s r 0 ≡ true
+  unfolding standsAfter pick
   first-by as-any = refl
   first-by (as-ones h e) = rw (← at-none) e
   first-by (as-left h l t) = rw (← at-nothing) l
@@ -298,10 +285,10 @@ module _ (s : List ℕ) (c : Cursor) (n : ℕ) where
   pub span-some : 1 ≤ n → 1 ≤ spanOf s c n .most
   span-some i = most-by i spanned .1
 
-  pub span-first : stands s (spanOf s c n) 0 ≡ true
+  pub span-first : standsAfter s (spanOf s c n) 0 ≡ true
   span-first = first-by spanned
 
-  -- ---- the cursor at which the unit after j units stands, and that unit
+  -- ---- the cursor at which the unit after j units standsAfter, and that unit
   abbrev pub stood : Span → ℕ → Cursor
   stood r zero = c
   stood r (suc j) = movedOf r (suc j)
@@ -328,14 +315,14 @@ module _ (s : List ℕ) (c : Cursor) (n : ℕ) where
     two-on : (j : ℕ) → c .place + 2 * j + 2 ≡ c .place + 2 * suc j
     two-on j = omega arith
 
-    any-by : (j : ℕ) → j < 1 → turn (nthOf s (anyOf s c) j) (stood (anyOf s c) (suc j)) ≡ advanceOf s (stood (anyOf s c) j)
-    unfolding nthOf movedOf pick
+    any-by : (j : ℕ) → j < 1 → turn (unitAfter s (anyOf s c) j) (stood (anyOf s c) (suc j)) ≡ advanceOf s (stood (anyOf s c) j)
+    unfolding unitAfter movedOf pick
     any-by zero h = refl
     any-by (suc j) h = absurd (omega (arith, h))
 
-    turns-by : {r : Span} → Spans r → (j : ℕ) → j < r .most → stands s r j ≡ true
-        → turn (nthOf s r j) (stood r (suc j)) ≡ advanceOf s (stood r j)
-    unfolding stands nthOf pick
+    turns-by : {r : Span} → Spans r → (j : ℕ) → j < r .most → standsAfter s r j ≡ true
+        → turn (unitAfter s r j) (stood r (suc j)) ≡ advanceOf s (stood r j)
+    unfolding standsAfter unitAfter pick
     turns-by as-any j h e = any-by j h
     turns-by (as-ones k i) j h e =
         rw (ones-at (lesserOf octets n) j, ones-at (lesserOf octets n) (suc j), ← (one-on j))
@@ -355,6 +342,6 @@ module _ (s : List ℕ) (c : Cursor) (n : ℕ) where
         (right-text (getD s (c .place + 2 * j) 0) i)
         (right-set (getD s (c .place + 2 * j) 0) (setsIn c) i) (u .0) (u .1))
 
-    pub span-turns : (j : ℕ) → j < spanOf s c n .most → stands s (spanOf s c n) j ≡ true
-        → turn (nthOf s (spanOf s c n) j) (stood (spanOf s c n) (suc j)) ≡ advanceOf s (stood (spanOf s c n) j)
+    pub span-turns : (j : ℕ) → j < spanOf s c n .most → standsAfter s (spanOf s c n) j ≡ true
+        → turn (unitAfter s (spanOf s c n) j) (stood (spanOf s c n) (suc j)) ≡ advanceOf s (stood (spanOf s c n) j)
     span-turns j h e = turns-by spanned j h e

@@ -1,9 +1,5 @@
 -- The octets of the unit after j units of a span that fits are in the string.
-use Prim.Native.Nat.{ℕ, _+_, _*_, _<_}
-use native.Mathlib.Omega.{arith}
-use mathlib.Core.Path.{_≡_}
-use mathlib.Core.List.{List}
-use lib.ListN.{length}
+use Rattle.element.proofs.Names.{ℕ, _+_, _*_, _<_, arith, _≡_, List, length}
 use Rattle.read.specs.Spans.{ones, Fits}
 use Rattle.read.specs.declared.spans.Span.{Span}
 

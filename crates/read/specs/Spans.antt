@@ -33,8 +33,8 @@ right-twos = 3
 -- ---- what an octet begins
 
 -- a tab, a newline, a space, or a character of one octet
-unfoldable pub singleOf : ℕ → Sets → Bool
-singleOf b s =
+unfoldable pub singleUnder : ℕ → Sets → Bool
+singleUnder b s =
     pick (ltb b 0x20) (pick (ltb b 0x09) false (leb b 0x0A))
     (pick (ltb b 0x7F) (ltb (s .gl) first-double) (pick (ltb b 0xA0) false (ltb (s .gr) first-double)))
 
@@ -48,7 +48,7 @@ hasTwo set = pick (ltb set first-double) false (ltb set no-set)
 
 unfoldable pub formAt : ℕ → Sets → ℕ
 formAt b s =
-    pick (singleOf b s) ones
+    pick (singleUnder b s) ones
     (pick (leftFirst b) (pick (hasTwo (s .gl)) left-twos any)
     (pick (ltb b 0xA0) any (pick (hasTwo (s .gr)) right-twos any)))
 
@@ -100,33 +100,33 @@ movedOf r j =
 -- ---- the units of a span
 
 -- whether the unit after j units is of its form
-unfoldable pub stands : List ℕ → Span → ℕ → Bool
-stands s r j =
-    pick (eqb (r .form) ones) (singleOf (getD s (r .place + j) 0) (setsOf r))
+unfoldable pub standsAfter : List ℕ → Span → ℕ → Bool
+standsAfter s r j =
+    pick (eqb (r .form) ones) (singleUnder (getD s (r .place + j) 0) (setsOf r))
     (pick (eqb (r .form) left-twos) (leftFirst (getD s (r .place + 2 * j) 0))
     (pick (eqb (r .form) right-twos) (leb 0xA0 (getD s (r .place + 2 * j) 0)) true))
 
 -- the octet at a place, as a unit by itself
-abbrev pub oneAt : List ℕ → ℕ → Sets → UnitRecord
-oneAt s at to = oneOf at (getD s at 0) (setAt (getD s at 0) to)
+abbrev pub oneUnitAt : List ℕ → ℕ → Sets → UnitRecord
+oneUnitAt s at to = oneOf at (getD s at 0) (setAt (getD s at 0) to)
 
 -- the two octets at a place, as a character of a set
-abbrev pub twoAt : List ℕ → ℕ → ℕ → UnitRecord
-twoAt s at set = twoOf at (getD s at 0) (getD s (at + 1) 0) set
+abbrev pub twoOctetUnitAt : List ℕ → ℕ → ℕ → UnitRecord
+twoOctetUnitAt s at set = twoOf at (getD s at 0) (getD s (at + 1) 0) set
 
 -- the unit after j units
-unfoldable pub nthOf : List ℕ → Span → ℕ → UnitRecord
-nthOf s r j =
-    pick (eqb (r .form) ones) (oneAt s (r .place + j) (setsOf r))
-    (pick (eqb (r .form) left-twos) (twoAt s (r .place + 2 * j) (r .gl))
-    (pick (eqb (r .form) right-twos) (twoAt s (r .place + 2 * j) (r .gr)) (r .unit)))
+unfoldable pub unitAfter : List ℕ → Span → ℕ → UnitRecord
+unitAfter s r j =
+    pick (eqb (r .form) ones) (oneUnitAt s (r .place + j) (setsOf r))
+    (pick (eqb (r .form) left-twos) (twoOctetUnitAt s (r .place + 2 * j) (r .gl))
+    (pick (eqb (r .form) right-twos) (twoOctetUnitAt s (r .place + 2 * j) (r .gr)) (r .unit)))
 
 -- of a span, of which j units are passed and m more may follow: how many there are
 unfoldable pub countFrom : List ℕ → Span → ℕ → ℕ → ℕ
 countFrom s r zero j = j
-countFrom s r (suc m) j = pick (stands s r j) (countFrom s r m (suc j)) j
+countFrom s r (suc m) j = pick (standsAfter s r j) (countFrom s r m (suc j)) j
 
 -- and the list, with those that follow stored to it
 unfoldable pub storedFrom : List ℕ → Span → ℕ → ℕ → ℕ → List UnitRecord → List UnitRecord
 storedFrom s r start zero j l = l
-storedFrom s r start (suc m) j l = pick (stands s r j) (storedFrom s r start m (suc j) (set l (start + j) (nthOf s r j))) l
+storedFrom s r start (suc m) j l = pick (standsAfter s r j) (storedFrom s r start m (suc j) (set l (start + j) (unitAfter s r j))) l

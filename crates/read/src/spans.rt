@@ -4,8 +4,8 @@ ghost use Prim.Native.Nat.{_+_, _*_, _<_, _≤_, _^_};
 ghost use lib.Dec.{leb};
 ghost use lib.ListN.{length, getD};
 ghost use Rattle.state.specs.State.{sets};
-ghost use Rattle.read.specs.Spans.{ones, singleOf, leftFirst, hasTwo, formAt, lesserOf, anyOf, ofForm, spanOf, Fits, movedOf, stands, oneAt, twoAt};
-ghost use Rattle.read.specs.Spans.{nthOf};
+ghost use Rattle.read.specs.Spans.{ones, singleUnder, leftFirst, hasTwo, formAt, lesserOf, anyOf, ofForm, spanOf, Fits, movedOf, standsAfter, oneUnitAt, twoOctetUnitAt};
+ghost use Rattle.read.specs.Spans.{unitAfter};
 use base::Unit;
 use charset::NO_SET;
 use cursor::Cursor;
@@ -37,7 +37,7 @@ pub struct Span {
 
 // An octet that is a unit: a tab, a newline, a space or a character.
 fn single(b: u8, gl: u8, gr: u8) -> bool
-    ensures { λ r. ⌜ r ≡ singleOf b (sets gl gr) ⌝ }
+    ensures { λ r. ⌜ r ≡ singleUnder b (sets gl gr) ⌝ }
 {
     if b < 0x20 {
         if b < 0x09 {
@@ -188,7 +188,7 @@ pub fn moved(r: Span, j: usize) -> Cursor
 // makes a loop of each form.
 fn single_at(s: &[u8], at: usize, gl: u8, gr: u8) -> bool
     requires { ⌜ at < length (now s) ⌝ }
-    ensures { λ r. ⌜ r ≡ singleOf (getD (now (s .entry)) at 0) (sets gl gr) ⌝ }
+    ensures { λ r. ⌜ r ≡ singleUnder (getD (now (s .entry)) at 0) (sets gl gr) ⌝ }
 {
     single(s[at], gl, gr)
 }
@@ -210,7 +210,7 @@ fn right_at(s: &[u8], at: usize) -> bool
 // Whether the unit after j units of a span is of its form.
 pub fn stands_at(s: &[u8], r: Span, j: usize) -> bool
     requires { ⌜ Fits (now s) r × (j < r .most) ⌝ }
-    ensures { λ b. ⌜ b ≡ stands (now (s .entry)) r j ⌝ }
+    ensures { λ b. ⌜ b ≡ standsAfter (now (s .entry)) r j ⌝ }
 {
     if r.form == ONES {
         return single_at(s, r.place + j, r.gl, r.gr);
@@ -226,7 +226,7 @@ pub fn stands_at(s: &[u8], r: Span, j: usize) -> bool
 
 fn one(s: &[u8], at: usize, gl: u8, gr: u8) -> Unit
     requires { ⌜ at < length (now s) ⌝ }
-    ensures { λ r. ⌜ r ≡ oneAt (now (s .entry)) at (sets gl gr) ⌝ }
+    ensures { λ r. ⌜ r ≡ oneUnitAt (now (s .entry)) at (sets gl gr) ⌝ }
 {
     let b = s[at];
     one_octet(at, b, set_at(b, gl, gr))
@@ -234,7 +234,7 @@ fn one(s: &[u8], at: usize, gl: u8, gr: u8) -> Unit
 
 fn two(s: &[u8], at: usize, set: u8) -> Unit
     requires { ⌜ at + 1 < length (now s) ⌝ }
-    ensures { λ r. ⌜ r ≡ twoAt (now (s .entry)) at set ⌝ }
+    ensures { λ r. ⌜ r ≡ twoOctetUnitAt (now (s .entry)) at set ⌝ }
 {
     two_octets(at, s[at], s[at + 1], set)
 }
@@ -242,7 +242,7 @@ fn two(s: &[u8], at: usize, set: u8) -> Unit
 // The unit after j units of a span.
 pub fn nth(s: &[u8], r: Span, j: usize) -> Unit
     requires { ⌜ Fits (now s) r × (j < r .most) ⌝ }
-    ensures { λ u. ⌜ u ≡ nthOf (now (s .entry)) r j ⌝ }
+    ensures { λ u. ⌜ u ≡ unitAfter (now (s .entry)) r j ⌝ }
 {
     if r.form == ONES {
         return one(s, r.place + j, r.gl, r.gr);

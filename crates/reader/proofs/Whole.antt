@@ -1,32 +1,20 @@
 -- A reader opened on a string hands out the records of its units one after the other, and from then on the answer of `check` (`opened-items`);
 -- of a string that is too long it hands out no unit. By induction on the elements of the string: a reader from which the next unit is
 -- that of the elements that are left hands out their records.
-use Prim.Native.Nat.{ℕ, zero, suc, _+_, _≤_, _<_}
-use native.Mathlib.Omega.{arith}
-use mathlib.Core.Path.{_≡_, refl, ap, sym, _∙_, subst}
-use mathlib.Core.Bool.{Bool, true, false}
-use mathlib.Core.List.{List, [], _∷_}
-use lib.Dec.{eqb, leb, ltb}
-use lib.ListN.{length}
-use borrow.Author.Tests.{ltb-false, le-ltb, lt-ltb, le-leb, ne-eqb}
-use denote.Ref.{RefT, now}
-use Rattle.base.specs.Answers.{answer, refusedAt}
-use Rattle.base.specs.Choice.{pick, from}
+use Rattle.element.proofs.Names.{ℕ, zero, suc, _+_, _≤_, _<_, arith, _≡_, refl, ap, sym, _∙_, subst, Bool, true, false, List, [], _∷_, eqb, leb, ltb}
+use Rattle.element.proofs.Names.{length, ltb-false, le-ltb, lt-ltb, le-leb, ne-eqb, now, answer, refusedAt, pick, from, Answer, UnitRecord, allowed, mayUse}
+use Rattle.element.proofs.Names.{fresh, State}
+use denote.Ref.{RefT}
 use Rattle.base.specs.Limit as limit
 use Rattle.base.specs.Refusal as refusal
-use Rattle.base.specs.declared.Answer.{Answer}
-use Rattle.base.specs.declared.Unit.{Unit as UnitRecord}
-use Rattle.charset.specs.Charsets.{allowed, mayUse}
 use Rattle.element.proofs.Sizes.{Fit}
-use Rattle.state.specs.State.{fresh}
-use Rattle.state.specs.declared.State.{State}
 use Rattle.grammar.specs.Reading.{Elements, size, elementsOf, answerOf, checkOf}
 use Rattle.grammar.proofs.Places.{Ahead, ends, stops, passes, reads, from-start}
 use Rattle.units.specs.Records.{recordOf, recordsFrom, recordsOf}
 use Rattle.units.specs.Next.{outcomeOf, nextOf}
 use Rattle.units.proofs.Records.{next-ahead, few-records}
 use Rattle.reader.specs.Step.{stepped, mayStand, largest, countedOf, endedOf, afterOf, stepAt}
-use Rattle.reader.specs.Reader.{opened, stepOf, itemAt, moved, readerAfter, unitsBefore, itemOf}
+use Rattle.reader.specs.Reader.{opened, readerStep, itemAt, moved, readerAfter, unitsBefore, itemOf}
 use Rattle.reader.specs.declared.Item.{Item}
 use Rattle.reader.specs.declared.Item.the-variants.{Given, Ended}
 use Rattle.reader.specs.declared.Reader.{Reader}
@@ -46,7 +34,7 @@ unfolding readerAfter
 stays zero r e = refl
 stays (suc k) r e = ap moved (stays k r e) ∙ e
 
-repeats : (k : ℕ) (r : Reader) (i : Item) → stepOf r ≡ stepped i (r .place) (r .count) (r .state) → itemAt (readerAfter k r) ≡ i
+repeats : (k : ℕ) (r : Reader) (i : Item) → readerStep r ≡ stepped i (r .place) (r .count) (r .state) → itemAt (readerAfter k r) ≡ i
 repeats k r i e =
     let m : moved r ≡ r = ap (λ (t : Stepped). record { octets = r .octets; place = t .place; count = t .count; state = t .state }) e in
     ap itemAt (stays k r m) ∙ ap (λ (t : Stepped). t .item) e
@@ -66,7 +54,7 @@ module _ (s : RefT (List ℕ)) (short : length (now s) ≤ limit.octets) where
   reader place count st = record { octets = s; place = place; count = count; state = st }
 
   step-is : (place count : ℕ) (st : State) → mayStand (length (now s)) place st ≡ true
-      → stepOf (reader place count st) ≡ afterOf place count st (nextOf (now s) place st)
+      → readerStep (reader place count st) ≡ afterOf place count st (nextOf (now s) place st)
   unfolding stepAt pick
   step-is place count st h = rw (le-ltb limit.octets (length (now s)) short, h)
 
@@ -86,7 +74,7 @@ module _ (s : RefT (List ℕ)) (short : length (now s) ≤ limit.octets) where
 
   -- the first item, and those of the reader after it
   further : (place count : ℕ) (to : State) (u : UnitRecord) (place′ : ℕ) (to′ : State) (us : List UnitRecord) (a : Answer) → count + 1 ≤ largest
-      → stepOf (reader place count to) ≡ stepped (Given u) place′ (countedOf count) to′
+      → readerStep (reader place count to) ≡ stepped (Given u) place′ (countedOf count) to′
       → ((k : ℕ) → itemAt (readerAfter k (reader place′ (count + 1) to′)) ≡ itemOf k us a)
       → (k : ℕ) → itemAt (readerAfter k (reader place count to)) ≡ itemOf k (u ∷ us) a
   unfolding readerAfter itemOf

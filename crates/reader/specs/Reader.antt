@@ -21,15 +21,15 @@ abbrev pub opened : RefT (List ℕ) → Reader
 opened s = record { octets = s; place = 0; count = 0; state = fresh }
 
 -- the step of a reader
-abbrev pub stepOf : Reader → Stepped
-stepOf r = stepAt (now (r .octets)) (r .place) (r .count) (r .state)
+abbrev pub readerStep : Reader → Stepped
+readerStep r = stepAt (now (r .octets)) (r .place) (r .count) (r .state)
 
 abbrev pub itemAt : Reader → Item
-itemAt r = stepOf r .item
+itemAt r = readerStep r .item
 
 -- the reader after it, which holds the same string
 abbrev pub moved : Reader → Reader
-moved r = record { octets = r .octets; place = stepOf r .place; count = stepOf r .count; state = stepOf r .state }
+moved r = record { octets = r .octets; place = readerStep r .place; count = readerStep r .count; state = readerStep r .state }
 
 -- the reader after k steps
 unfoldable pub readerAfter : ℕ → Reader → Reader

@@ -1,16 +1,9 @@
 -- The units of an accepted string, one after the other from a place and a state on: where the units to come are those of a list, the next
 -- unit is its first, and after it those to come are the rest (`next`).
-use Prim.Native.Nat.{ℕ, suc, _+_, _≤_}
-use native.Mathlib.Omega.{arith}
-use mathlib.Core.Path.{_≡_, refl, sym, _∙_}
-use mathlib.Core.List.{List, [], _∷_}
-use lib.ListN.{length}
+use Rattle.element.proofs.Names.{ℕ, suc, _+_, _≤_, arith, _≡_, refl, sym, _∙_, List, [], _∷_, length, UnitRecord, fresh, State}
 use Rattle.base.specs.Limit as limit
-use Rattle.base.specs.declared.Unit.{Unit as UnitRecord}
 use Rattle.grammar.specs.Reading.{Elements, size, elementsOf}
 use Rattle.grammar.proofs.Places.{Ahead, ends, stops, passes, reads, from-start}
-use Rattle.state.specs.State.{fresh}
-use Rattle.state.specs.declared.State.{State}
 use Rattle.units.specs.Next.{outcomeOf, nextOf}
 use Rattle.units.specs.Records.{recordOf, recordsFrom, recordsOf}
 use Rattle.units.specs.declared.Outcome.{Outcome}

@@ -1,19 +1,11 @@
 -- A turn of the loop that puts the units of an accepted string into their rows: the units to come are those from the i-th on, each before
 -- it stands in its row.
-use Prim.Native.Nat.{ℕ, zero, suc, _+_, _≤_, _<_}
-use native.Mathlib.Omega.{arith}
-use native.Mathlib.Numerals.{add-one}
-use mathlib.Core.Path.{_≡_, refl, ap, sym, _∙_, subst}
-use mathlib.Core.List.{List, [], _∷_}
-use lib.ListN.{length, getD, drop}
+use Rattle.element.proofs.Names.{ℕ, zero, suc, _+_, _≤_, _<_, arith, add-one, _≡_, refl, ap, sym, _∙_, subst, List, [], _∷_, length, getD, drop}
+use Rattle.element.proofs.Names.{UnitRecord, fresh, State, pick}
 use lib.Seq.{drop-cons}
 use Rattle.base.specs.Limit as limit
 use Rattle.base.specs.Refusal as refusal
-use Rattle.base.specs.declared.Unit.{Unit as UnitRecord}
-use Rattle.state.specs.State.{fresh}
-use Rattle.state.specs.declared.State.{State}
 use Rattle.grammar.specs.Reading.{checkOf}
-use Rattle.base.specs.Choice.{pick}
 use Rattle.check_list.proofs.Turns.{put-turn}
 use Rattle.rows.specs.Rows.{withRecord}
 use Rattle.rows.specs.Stowable.{stowableOf}

@@ -1,16 +1,8 @@
 -- No record of an accepted string offends: the string reads as its records do, so that the check of a list goes through all of them (`fine-end`),
 -- and so through the first k (`fine-at`).
-use Prim.Native.Nat.{ℕ, zero, suc, _≤_}
-use native.Mathlib.Omega.{arith}
-use mathlib.Core.Path.{_≡_, refl, sym, ap, _∙_, subst}
-use mathlib.Core.Bool.{Bool, true, false}
-use mathlib.Core.List.{List}
-use lib.Dec.{leb}
-use lib.ListN.{length, getD}
-use borrow.Author.Tests.{leb-true, leb-false}
+use Rattle.element.proofs.Names.{ℕ, zero, suc, _≤_, arith, _≡_, refl, sym, ap, _∙_, subst, Bool, true, false, List, leb, length, getD, leb-true}
+use Rattle.element.proofs.Names.{leb-false, UnitRecord, Directions}
 use Rattle.base.specs.Refusal as refusal
-use Rattle.base.specs.declared.Unit.{Unit as UnitRecord}
-use Rattle.state.specs.declared.directions.Directions.{Directions}
 use Rattle.grammar.specs.Reading.{Octets, checkOf, readingOf}
 use Rattle.check_list.specs.Turn.{turnOf}
 use Rattle.check_list.specs.declared.Progress.{Progress}

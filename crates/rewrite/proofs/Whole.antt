@@ -1,16 +1,9 @@
 -- The answer and the output of the writer, once the units of an accepted string stand in their rows, are those of its shortest form: the
 -- string has as many records as it has units, no more than a list may have, and `finished` says the rest.
-use Prim.Native.Nat.{ℕ, _+_, _≤_, zero-le}
-use native.Mathlib.Omega.{arith}
-use mathlib.Core.Path.{_≡_, refl, ap, sym, _∙_, subst}
-use mathlib.Core.List.{List}
-use lib.ListN.{length}
-use borrow.Author.Tests.{eq-eqb, ne-eqb, le-leb}
-use Rattle.base.specs.Choice.{pick}
+use Rattle.element.proofs.Names.{ℕ, _+_, _≤_, zero-le, arith, _≡_, refl, ap, sym, _∙_, subst, List, length, eq-eqb, ne-eqb, le-leb, pick, Answer}
+use Rattle.element.proofs.Names.{UnitRecord}
 use Rattle.base.specs.Limit as limit
 use Rattle.base.specs.Refusal as refusal
-use Rattle.base.specs.declared.Answer.{Answer}
-use Rattle.base.specs.declared.Unit.{Unit as UnitRecord}
 use Rattle.grammar.specs.Reading.{Octets, checkOf}
 use Rattle.read.proofs.Filled.{short}
 use Rattle.check_list.specs.Turn.{begun, lookedAt}

@@ -1,12 +1,6 @@
 -- The seven octets of a row, stored with the four of the start first: stores at different places may change their order.
-use Prim.Native.Nat.{ℕ, zero, suc, _+_, _/_, _%_, _<_}
-use native.Mathlib.Omega.{arith}
+use Rattle.element.proofs.Names.{ℕ, zero, suc, _+_, _/_, _%_, _<_, arith, _≡_, refl, ap, List, [], _∷_, set, sets, UnitRecord}
 use native.Mathlib.Numerals.{towards-suc}
-use mathlib.Core.Path.{_≡_, refl, ap}
-use mathlib.Core.List.{List, [], _∷_}
-use lib.ListN.{set}
-use lib.Seq.{sets}
-use Rattle.base.specs.declared.Unit.{Unit as UnitRecord}
 use Rattle.rows.specs.Rows.{tagOf, numberOf, sevenOctets}
 
 -- two stores at different places may change their order

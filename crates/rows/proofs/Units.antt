@@ -1,14 +1,7 @@
 -- The unit of a row by its tag: text, a segment, a mark; and the octets of a segment's part.
-use Prim.Native.Nat.{ℕ, _+_, _≤_, _<_}
-use native.Mathlib.Omega.{arith}
-use mathlib.Core.Path.{_≡_}
-use mathlib.Core.Bool.{false, _&&_}
-use mathlib.Core.List.{List}
-use lib.ListN.{length, take, drop, length-take, length-drop}
-use lib.Dec.{eqb, leb, ltb}
-use borrow.Author.Tests.{eq-eqb, lt-ltb, le-ltb, le-leb, lt-leb, ltb-true, ltb-false, ne-eqb}
-use Rattle.base.specs.Choice.{pick}
-use Rattle.base.proofs.Bools.{test, and-second, tested}
+use Rattle.element.proofs.Names.{ℕ, _+_, _≤_, _<_, arith, _≡_, false, _&&_, List, length, take, drop, length-take, length-drop, eqb, leb, ltb, eq-eqb}
+use Rattle.element.proofs.Names.{lt-ltb, le-ltb, le-leb, lt-leb, ltb-true, ltb-false, ne-eqb, pick, test, tested}
+use Rattle.base.proofs.Bools.{and-second}
 use Rattle.grammar.specs.Units.{control, tab, newline, revert, ext, controlOf}
 use Rattle.rows.specs.Rows.{countOf, partOf, textTagged, markTagged, unitTagged}
 use Rattle.rows.specs.Tag as tag

@@ -1,25 +1,14 @@
 -- The runs that calls with lists give, from the first position on, are those by number (`calls-in-order`): a call from a position before run k
 -- gives run k, k + 1 and so on, by as many single steps (`order`). Of a refused string each call answers the refusal (`calls-refused`).
-use Prim.Native.Nat.{ℕ, zero, suc, _+_, _≤_, _<_, zero-le}
-use native.Mathlib.Omega.{arith}
-use mathlib.Core.Path.{_≡_, refl, ap, sym, _∙_}
-use mathlib.Core.Bool.{Bool, true, false}
-use mathlib.Core.List.{List, [], _∷_}
-use lib.Dec.{eqb, ltb}
-use lib.ListN.{length}
-use borrow.Author.Tests.{eqb-false, eq-eqb, ne-eqb, ltb-true, ltb-false}
-use Rattle.base.specs.Answers.{answer, refusedAt}
-use Rattle.base.specs.Choice.{pick}
+use Rattle.element.proofs.Names.{ℕ, zero, suc, _+_, _≤_, _<_, zero-le, arith, _≡_, refl, ap, sym, _∙_, Bool, true, false, List, [], _∷_, eqb, ltb}
+use Rattle.element.proofs.Names.{length, eqb-false, eq-eqb, ne-eqb, ltb-true, ltb-false, answer, refusedAt, pick, on-lt, fresh, State}
 use Rattle.base.specs.Limit as limit
 use Rattle.base.specs.Refusal as refusal
-use Rattle.base.proofs.Ladder.{on-lt}
 use Rattle.grammar.specs.Reading.{checkOf}
 use Rattle.reader.proofs.Whole.{may-stand, fresh-fit}
-use Rattle.state.specs.State.{fresh}
-use Rattle.state.specs.declared.State.{State}
-use Rattle.runs.specs.Runs.{runsOf, noRun, nthOf, runAt}
+use Rattle.runs.specs.Runs.{runsOf, noRun, nthRunOf, runAt}
 use Rattle.runs.specs.Steps.{position, firstPosition, runFrom, knownOf}
-use Rattle.runs.specs.Listed.{Given, givesNone, endOf, givenFrom, nextRunsOf, afterCalls, givenBy, runsAt, Next}
+use Rattle.runs.specs.Listed.{GivenRuns, givesNone, endOf, givenFrom, nextRunsOf, afterCalls, givenBy, runsAt, Next}
 use Rattle.runs.specs.declared.Bounds.{Bounds}
 use Rattle.runs.specs.declared.stepping.RunPosition.{RunPosition}
 use Rattle.runs.specs.declared.stepping.RunStep.{RunStep}
@@ -42,7 +31,7 @@ unfolding knownOf pick
 known-false s = refl
 
 -- what is given of an accepted string from before run k on, where c runs are given before in this call
-record Ordered (s : List ℕ) (k c room : ℕ) (g : Given) : Type 0 where
+record Ordered (s : List ℕ) (k c room : ℕ) (g : GivenRuns) : Type 0 where
   runs : g .runs ≡ runsAt s k (length (g .runs))
   counts : g .step .answer ≡ answer refusal.accepted (length s) (c + length (g .runs))
   fits : length (g .runs) ≤ room
@@ -50,7 +39,7 @@ record Ordered (s : List ℕ) (k c room : ℕ) (g : Given) : Type 0 where
   after : Stands s (k + length (g .runs)) (g .step .position)
 
 module _ (s : List ℕ) (accepts : Good s) where
-  by-number : (k : ℕ) → nthOf (length s) k (runsOf s) ≡ runAt s k
+  by-number : (k : ℕ) → nthRunOf (length s) k (runsOf s) ≡ runAt s k
   unfolding runAt pick
   by-number k = rw (accepts .accepted)
 
@@ -73,7 +62,7 @@ module _ (s : List ℕ) (accepts : Good s) where
         after = rw more at (n .after);
       })
   first-of k c m r h go false e =
-      let past : (j : ℕ) → nthOf (length s) (k + j) (runsOf s) ≡ noRun (refusedAt refusal.bad-unit 0) = λ j. nth-past (length s) k j (runsOf s)
+      let past : (j : ℕ) → nthRunOf (length s) (k + j) (runsOf s) ≡ noRun (refusedAt refusal.bad-unit 0) = λ j. nth-past (length s) k j (runsOf s)
       (λ z. eqb-false _ _ e (ap (λ (x : Bounds). x .answer .number) (h .shown) ∙ z)) in
       let here : k + 0 ≡ k = omega arith in
       let none : r .run ≡ noRun (refusedAt refusal.bad-unit 0) = h .shown ∙ rw here at (past 0) in

@@ -1,21 +1,11 @@
 -- The runs one after the other, from the first position on, are those by number (`in-order`). Each piece of a string is followed by the pieces
 -- from its end on, read with the state there (`cuts`); so a step from a position of an accepted string shows the first of the runs that are
 -- left, and the runs that are left after it are the others (`one-step`). Of a refused string each step answers the refusal and stays.
-use Prim.Native.Nat.{ℕ, zero, suc, _+_, _-_, _≤_, _<_, zero-le}
-use native.Mathlib.Omega.{arith}
-use native.Mathlib.Nat.{not-suc-le-zero}
-use mathlib.Core.Path.{_≡_, refl, ap, sym, _∙_}
-use mathlib.Core.Bool.{Bool, true, false, false≢true}
-use mathlib.Core.List.{List, [], _∷_}
-use lib.Dec.{eqb, ltb}
-use lib.ListN.{length}
-use borrow.Author.Tests.{eq-eqb, eqb-true, ltb-false, le-ltb}
-use Rattle.base.specs.Answers.{refusedAt}
-use Rattle.base.specs.Choice.{pick, from}
+use Rattle.element.proofs.Names.{ℕ, zero, suc, _+_, _-_, _≤_, _<_, zero-le, arith, not-suc-le-zero, _≡_, refl, ap, sym, _∙_, Bool, true, false}
+use Rattle.element.proofs.Names.{false≢true, List, [], _∷_, eqb, ltb, length, eq-eqb, eqb-true, ltb-false, le-ltb, refusedAt, pick, from, Answer, on-ne}
+use Rattle.element.proofs.Names.{fresh, State}
 use Rattle.base.specs.Limit as limit
 use Rattle.base.specs.Refusal as refusal
-use Rattle.base.specs.declared.Answer.{Answer}
-use Rattle.base.proofs.Ladder.{on-ne}
 use Rattle.element.proofs.Sizes.{Fit}
 use Rattle.grammar.specs.Reading.{Elements, checkOf, noneRefused}
 use Rattle.grammar.proofs.Places.{Ahead, ends, passes, reads, ahead-from, from-start}
@@ -23,15 +13,13 @@ use Rattle.grammar.proofs.Agrees.{zero-none}
 use Rattle.grammar.proofs.Places as places
 use Rattle.reader.specs.Step.{mayStand}
 use Rattle.reader.proofs.Whole.{may-stand, fresh-fit}
-use Rattle.state.specs.State.{fresh}
-use Rattle.state.specs.declared.State.{State}
 use Rattle.pieces.specs.Pieces.{isRun, sameRunOf, longer, joined, piecesFrom, piecesOf}
 use Rattle.pieces.specs.declared.Piece.{Piece}
 use Rattle.pieces.specs.Partition.{stateFrom}
 use Rattle.pieces.proofs.Laws.{StateAfter, state-after, first-state}
 use Rattle.pieces.proofs.Step.{Step, stops, goes, step, elementAt, rest, noRefusal}
-use Rattle.runs.specs.Runs.{runsIn, runsOf, shownOf, noRun, nthOf, runAt}
-use Rattle.runs.specs.Steps.{position, firstPosition, stays, stepTo, stopAt, lastOf, firstOf, runFrom, knownOf, checkedFrom, nextRunOf, positionAfter}
+use Rattle.runs.specs.Runs.{runsIn, runsOf, shownOf, noRun, nthRunOf, runAt}
+use Rattle.runs.specs.Steps.{position, firstPosition, stays, runStepTo, stopAt, lastOf, firstOf, runFrom, knownOf, checkedFrom, nextRunOf, positionAfter}
 use Rattle.runs.specs.declared.Bounds.{Bounds}
 use Rattle.runs.specs.declared.stepping.RunPosition.{RunPosition}
 use Rattle.runs.specs.declared.stepping.RunStep.{RunStep}
@@ -105,7 +93,7 @@ module _ (s : List ℕ) (there : ℕ → State) (ok : Bool) where
 data Walked (s : List ℕ) (there : ℕ → State) (ok : Bool) (none : RunStep) (ps : List Piece) (r : RunStep) : Type 0 where
   over : runsIn ps ≡ [] → r ≡ none → Walked s there ok none ps r
   shows : {p : Piece} {rest-of : List Piece} → runsIn ps ≡ p ∷ runsIn rest-of → Cut s there ok (p .end) rest-of
-      → r ≡ stepTo (p .end) (there (p .end)) (shownOf (length s) p) → Walked s there ok none ps r
+      → r ≡ runStepTo (p .end) (there (p .end)) (shownOf (length s) p) → Walked s there ok none ps r
 
 module _ (s : List ℕ) (there : ℕ → State) (ok : Bool) (none : RunStep) where
   passed : (p : Piece) (ps : List Piece) → isRun (p .kind) ≡ false → Walked s there ok none ps (firstOf (length s) there none ps)
@@ -129,7 +117,7 @@ module _ (s : List ℕ) (there : ℕ → State) (ok : Bool) (none : RunStep) whe
 record Done (s : List ℕ) (r : RunStep) : Type 0 where
   place : ℕ
   state : State
-  is : r ≡ stepTo place state (noRun (refusedAt refusal.bad-unit 0))
+  is : r ≡ runStepTo place state (noRun (refusedAt refusal.bad-unit 0))
   within : place ≤ length s
   fit : Fit state
   empty : rest s place state ≡ []
@@ -167,11 +155,11 @@ pub record Stands (s : List ℕ) (k : ℕ) (p : RunPosition) : Type 0 where
   pub within : p .place ≤ length s
   pub fit : Fit (p .state)
   pub clear : noRefusal s (p .place) (p .state) ≡ true
-  pub runs : (j : ℕ) → nthOf (length s) j (runsIn (rest s (p .place) (p .state))) ≡ nthOf (length s) (k + j) (runsOf s)
+  pub runs : (j : ℕ) → nthRunOf (length s) j (runsIn (rest s (p .place) (p .state))) ≡ nthRunOf (length s) (k + j) (runsOf s)
 
 -- the k-th run is shown, and the position then stands before the next
 pub record Stepped (s : List ℕ) (k : ℕ) (r : RunStep) : Type 0 where
-  pub shown : r .run ≡ nthOf (length s) k (runsOf s)
+  pub shown : r .run ≡ nthRunOf (length s) k (runsOf s)
   pub after : Stands s (suc k) (r .position)
 
 module _ (s : List ℕ) (g : Good s) (k : ℕ) (p : RunPosition) (h : Stands s k p) where
@@ -197,10 +185,10 @@ module _ (s : List ℕ) (g : Good s) (k : ℕ) (p : RunPosition) (h : Stands s k
   there = stateFrom s (p .place) (p .state)
 
   one-by : {r : RunStep} → Done s (lastFrom s (p .place) (p .state)) → Walked s there true (lastFrom s (p .place) (p .state)) left r → Stepped s k r
-  unfolding nthOf runsIn
+  unfolding nthRunOf runsIn
   one-by d (over x y) =
-      let none : (j : ℕ) → nthOf (length s) (k + j) (runsOf s) ≡ noRun (refusedAt refusal.bad-unit 0) = λ j. sym (h .runs j) ∙
-      ap (nthOf (length s) j) x in
+      let none : (j : ℕ) → nthRunOf (length s) (k + j) (runsOf s) ≡ noRun (refusedAt refusal.bad-unit 0) = λ j. sym (h .runs j) ∙
+      ap (nthRunOf (length s) j) x in
       let is = y ∙ d .is in
       let n : k + 0 ≡ k = omega arith in
       rw is (record {
@@ -214,17 +202,17 @@ module _ (s : List ℕ) (g : Good s) (k : ℕ) (p : RunPosition) (h : Stands s k
       })
   one-by d (shows x c y) =
       let n : k + 0 ≡ k = omega arith in
-      let first : nthOf (length s) 0 (runsIn left) ≡ nthOf (length s) k (runsOf s) = rw n at (h .runs 0) in
+      let first : nthRunOf (length s) 0 (runsIn left) ≡ nthRunOf (length s) k (runsOf s) = rw n at (h .runs 0) in
       rw y (record {
-        shown = sym (ap (nthOf (length s) 0) x) ∙ first;
+        shown = sym (ap (nthRunOf (length s) 0) x) ∙ first;
         after = record {
           within = c .within;
           fit = c .fit;
           clear = c .clear;
           runs = λ j.
               let m : k + suc j ≡ suc k + j = omega arith in
-              ap (λ (ps : List Piece). nthOf (length s) j (runsIn ps)) (sym (c .follows)) ∙
-              (sym (ap (nthOf (length s) (suc j)) x) ∙ rw m at (h .runs (suc j)));
+              ap (λ (ps : List Piece). nthRunOf (length s) j (runsIn ps)) (sym (c .follows)) ∙
+              (sym (ap (nthRunOf (length s) (suc j)) x) ∙ rw m at (h .runs (suc j)));
         };
       })
 
@@ -247,7 +235,7 @@ module _ (s : List ℕ) (g : Good s) where
   stands zero = stands-first
   stands (suc k) = one-step s g k (positionAfter s k) (stands k) .after
 
-  accepted-runs : (k : ℕ) → nextRunOf s (positionAfter s k) .run ≡ nthOf (length s) k (runsOf s)
+  accepted-runs : (k : ℕ) → nextRunOf s (positionAfter s k) .run ≡ nthRunOf (length s) k (runsOf s)
   accepted-runs k = one-step s g k (positionAfter s k) (stands k) .shown
 
 -- ---- a refused string: each step from the first position on stays
@@ -286,9 +274,9 @@ in-order s k = by-check s k (eqb (checkOf s .number) refusal.accepted) refl
 -- ---- the run of a number, by steps
 
 -- where a number shows no run, it and all after it are answered 11
-pub nth-past : (n k j : ℕ) (ps : List Piece) → (nthOf n k ps .answer .number ≡ refusal.accepted → ⊥)
-    → nthOf n (k + j) ps ≡ noRun (refusedAt refusal.bad-unit 0)
-unfolding nthOf shownOf
+pub nth-past : (n k j : ℕ) (ps : List Piece) → (nthRunOf n k ps .answer .number ≡ refusal.accepted → ⊥)
+    → nthRunOf n (k + j) ps ≡ noRun (refusedAt refusal.bad-unit 0)
+unfolding nthRunOf shownOf
 nth-past n k j [] h = refl
 nth-past n zero j (p ∷ ps) h = absurd (h refl)
 nth-past n (suc k) j (p ∷ ps) h = let z : suc k + j ≡ suc (k + j) = omega arith in rw z (nth-past n k j ps h)

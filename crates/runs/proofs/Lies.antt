@@ -1,16 +1,10 @@
 -- The bounds of a run lie in the string: its piece does, since the pieces lie end to end.
-use Prim.Native.Nat.{ℕ, zero, suc, _≤_, _<_, zero-le}
-use native.Mathlib.Omega.{arith}
-use mathlib.Core.Bool.{Bool, true, false}
-use mathlib.Core.Path.{_≡_}
-use mathlib.Core.List.{List, _∷_}
-use lib.ListN.{length}
-use Rattle.base.specs.Choice.{pick, from}
+use Rattle.element.proofs.Names.{ℕ, zero, suc, _≤_, _<_, zero-le, arith, Bool, true, false, _≡_, List, _∷_, length, pick, from}
 use Rattle.pieces.specs.Pieces.{isRun, piecesOf}
 use Rattle.pieces.specs.declared.Piece.{Piece}
 use Rattle.pieces.specs.Partition.{EndToEnd, none, more}
 use Rattle.pieces.proofs.Partition.{pieces-tiled}
-use Rattle.runs.specs.Runs.{runsIn, runsOf, shownOf, nthOf, runAt}
+use Rattle.runs.specs.Runs.{runsIn, runsOf, shownOf, nthRunOf, runAt}
 use Rattle.runs.specs.declared.Bounds.{Bounds}
 
 abbrev pub Lies : List ℕ → Bounds → Type 0
@@ -21,15 +15,15 @@ ends none = omega arith
 ends (more b l r) = let h = ends r in omega arith
 
 module _ (s : List ℕ) (n : ℕ) where
-  first-lies : {e : ℕ} (p : Piece) (ps : List Piece) (k : ℕ) (t : Bool) → p .start < p .end → EndToEnd (p .end) e ps → e ≤ length s → ((j : ℕ) → Lies s (nthOf n j (runsIn ps)))
-      → Lies s (nthOf n k (pick t (p ∷ runsIn ps) (runsIn ps)))
-  unfolding nthOf shownOf pick
+  first-lies : {e : ℕ} (p : Piece) (ps : List Piece) (k : ℕ) (t : Bool) → p .start < p .end → EndToEnd (p .end) e ps → e ≤ length s → ((j : ℕ) → Lies s (nthRunOf n j (runsIn ps)))
+      → Lies s (nthRunOf n k (pick t (p ∷ runsIn ps) (runsIn ps)))
+  unfolding nthRunOf shownOf pick
   first-lies p ps zero true l r h f = let m = ends r in (omega arith, omega arith)
   first-lies p ps (suc k) true l r h f = f k
   first-lies p ps k false l r h f = f k
 
-  nth-lies : {a e : ℕ} {ps : List Piece} → EndToEnd a e ps → e ≤ length s → (k : ℕ) → Lies s (nthOf n k (runsIn ps))
-  unfolding nthOf runsIn
+  nth-lies : {a e : ℕ} {ps : List Piece} → EndToEnd a e ps → e ≤ length s → (k : ℕ) → Lies s (nthRunOf n k (runsIn ps))
+  unfolding nthRunOf runsIn
   nth-lies none h k = (zero-le, zero-le)
   nth-lies (more {p} {ps} b l r) h k = first-lies p ps k (isRun (p .kind)) (omega arith) r h (λ j. nth-lies r h j)
 

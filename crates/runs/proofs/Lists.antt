@@ -1,34 +1,20 @@
 -- The turns of the loops of `listed`, on plain values. What is still given from where a list has come to is, by one step: a run before what is
 -- given after it (`finish-shown`), what is given from a later place where the first run is the same (`finish-passed`), or nothing
 -- (`finish-none`). So the end stays the same from turn to turn (`Onward`).
-use Prim.Native.Nat.{ℕ, zero, suc, _+_, _-_, _*_, _^_, _≤_, _<_, zero-le}
-use native.Mathlib.Omega.{arith}
-use mathlib.Core.Path.{_≡_, refl, ap, sym, _∙_}
-use mathlib.Core.Bool.{Bool, true, false}
-use mathlib.Core.List.{List, map}
-use lib.Dec.{eqb}
-use lib.ListN.{length, set, length-set, length-map}
-use lib.Seq.{sets, sets-eq}
-use borrow.Author.Tests.{eq-eqb, ne-eqb, le-ltb}
-use Rattle.base.specs.Answers.{answer, refusedAt}
-use Rattle.base.specs.Choice.{pick, from}
+use Rattle.element.proofs.Names.{ℕ, zero, suc, _+_, _-_, _*_, _^_, _≤_, _<_, zero-le, arith, _≡_, refl, ap, sym, _∙_, Bool, true, false, List, eqb}
+use Rattle.element.proofs.Names.{length, set, length-set, sets, eq-eqb, ne-eqb, le-ltb, answer, refusedAt, pick, from, Answer, on-true, on-false, on-eq, on-ne}
+use Rattle.element.proofs.Names.{on-lt, on-ge, no-set, Side, GL, GR, designatedOf, State, Element, End, Refused, Silent, Found, Sets}
+use mathlib.Core.List.{map}
+use lib.ListN.{length-map}
+use lib.Seq.{sets-eq}
 use Rattle.base.specs.Limit as limit
 use Rattle.base.specs.Refusal as refusal
-use Rattle.base.specs.declared.Answer.{Answer}
-use Rattle.base.proofs.Ladder.{on-true, on-false, on-eq, on-ne, on-lt, on-ge}
-use Rattle.charset.specs.Charsets.{no-set}
-use Rattle.charset.specs.declared.Side.{Side}
-use Rattle.charset.specs.declared.Side.the-variants.{GL, GR}
 use Rattle.element.proofs.Sizes.{Fit}
 use Rattle.grammar.specs.Reading.{Octets}
 use Rattle.grammar.proofs.Places.{refused-number}
 use Rattle.reader.specs.Step.{mayStand}
 use Rattle.reader.proofs.Whole.{may-stand}
 use Rattle.state.specs.Directions.{inForceOf}
-use Rattle.state.specs.State.{designatedOf}
-use Rattle.state.specs.declared.State.{State}
-use Rattle.state.specs.declared.elements.Element.{Element}
-use Rattle.state.specs.declared.elements.Element.the-variants.{End, Refused, Silent, Found}
 use Rattle.stretch.specs.Characters.{settledOf}
 use Rattle.stretch.specs.Designation.{designationAt}
 use Rattle.stretch.specs.declared.designation.Designation.{Designation}
@@ -36,10 +22,9 @@ use Rattle.pieces.specs.Pieces.{piece, setIn}
 use Rattle.pieces.specs.declared.Piece.{Piece}
 use Rattle.pieces.proofs.Step.{elementAt, pieceAt}
 use Rattle.runs.specs.Runs.{shownOf}
-use Rattle.state.specs.declared.Sets.{Sets}
 use Rattle.runs.specs.Spans.{TextTo, RightTo, singly, doubly}
-use Rattle.runs.specs.Steps.{position, stepTo, stopAt, runFrom, knownOf}
-use Rattle.runs.specs.Listed.{wordOf, upperOf, listAfter, runsStep, Given, before, givesNone, endOf, givenFrom}
+use Rattle.runs.specs.Steps.{position, runStepTo, stopAt, runFrom, knownOf}
+use Rattle.runs.specs.Listed.{wordOf, upperOf, wordsAfter, runsStep, GivenRuns, before, givesNone, endOf, givenFrom}
 use Rattle.runs.specs.Listed.{checkedRuns, nextRunsOf, stand, finished, Onward}
 use Rattle.runs.specs.declared.Bounds.{Bounds}
 use Rattle.runs.specs.declared.listed.RunsStep.{RunsStep}
@@ -52,13 +37,13 @@ use Rattle.runs.proofs.Steps.{turn-designation, turn-quick, turn-begun,
 -- ---- what is given, by one step
 
 -- what a step gives, where k runs are given before it and there is room for m after it
-abbrev pub stepped : List ℕ → ℕ → ℕ → RunStep → Given
+abbrev pub stepped : List ℕ → ℕ → ℕ → RunStep → GivenRuns
 stepped s k m r =
     pick (eqb (r .run .answer .number) refusal.accepted)
     (before (r .run) (givenFrom s (suc k) m (r .position .place) (r .position .state)))
     (givesNone (r .position) (endOf (length s) k (r .run .answer)))
 
-abbrev filled : ℕ → List ℕ → Given → RunsStep × List ℕ
+abbrev filled : ℕ → List ℕ → GivenRuns → RunsStep × List ℕ
 filled k out g = (g .step, sets out k (map wordOf (g .runs)))
 
 -- no more than there is room for
@@ -73,8 +58,8 @@ given-fits s k (suc m) at st =
     by r true e f = let z = f (r .position .place) (r .position .state) in rw e (omega arith)
     by r false e f = rw e zero-le
 
-list-after : (bs : List Bounds) (o : List ℕ) → length bs ≤ length o → sets o 0 (map wordOf bs) ≡ listAfter bs o
-unfolding listAfter
+list-after : (bs : List Bounds) (o : List ℕ) → length bs ≤ length o → sets o 0 (map wordOf bs) ≡ wordsAfter bs o
+unfolding wordsAfter
 list-after bs o h =
     let n : length (map wordOf bs) ≡ length bs = length-map bs wordOf in
     let z : 0 + length (map wordOf bs) ≡ length bs = omega arith in
@@ -90,7 +75,7 @@ module _ (s : List ℕ) (at k : ℕ) (st : State) (out : List ℕ) where
   finish-step h = let z : length out - k ≡ suc (length out - (k + 1)) = omega arith in rw z
 
   -- a run is shown, and stored
-  pub finish-shown : (e : ℕ) (next : State) (run : Bounds) (w : ℕ) → k < length out → stepTo e next run ≡ runFrom s at st
+  pub finish-shown : (e : ℕ) (next : State) (run : Bounds) (w : ℕ) → k < length out → runStepTo e next run ≡ runFrom s at st
       → run .answer .number ≡ refusal.accepted → w ≡ wordOf run
       → finished s (stand e (k + 1) next) (set out k w) ≡ finished s (stand at k st) out
   unfolding pick
@@ -144,7 +129,7 @@ module _ {s : List ℕ} {l : Stand} {o : List ℕ} {at k : ℕ} {st : State} {ou
   here = plain-first s at st (h .may)
 
   -- a run is shown and stored
-  pub on-shown : (e : ℕ) (next : State) (q : Piece) (w : ℕ) → k < length out → stepTo e next (shownOf (length s) q) ≡ runFrom s at st
+  pub on-shown : (e : ℕ) (next : State) (q : Piece) (w : ℕ) → k < length out → runStepTo e next (shownOf (length s) q) ≡ runFrom s at st
       → w ≡ wordOf (shownOf 0 q) → at ≤ e → e ≤ length s → Fit next → Onward s l o (stand e (k + 1) next) (set out k w)
   unfolding shownOf
   on-shown e next q w i is v m b f =
@@ -186,7 +171,7 @@ module _ {s : List ℕ} {l : Stand} {o : List ℕ} {at k : ℕ} {st : State} {ou
   -- where it ends
   abbrev pub Ends : ℕ → State → RunsStep → Type 0
   Ends place state r =
-      (r ≡ givenFrom s 0 (length o) place state .step) × (out ≡ listAfter (givenFrom s 0 (length o) place state .runs) o)
+      (r ≡ givenFrom s 0 (length o) place state .step) × (out ≡ wordsAfter (givenFrom s 0 (length o) place state .runs) o)
 
   module _ (place : ℕ) (state : State) (from-start : l ≡ stand place 0 state) (r : RunsStep) where
     ends-by : finished s (stand at k st) out ≡ (r, out) → Ends place state r
@@ -306,14 +291,14 @@ module _ {s : List ℕ} {l : Stand} {o : List ℕ} {direction at k : ℕ} {st : 
 -- ---- the check before the first run
 
 -- what is answered and stored is what is given
-abbrev pub Gave : Given → List ℕ → RunsStep → List ℕ → Type 0
-Gave g o r n = (r ≡ g .step) × (n ≡ listAfter (g .runs) o)
+abbrev pub Gave : GivenRuns → List ℕ → RunsStep → List ℕ → Type 0
+Gave g o r n = (r ≡ g .step) × (n ≡ wordsAfter (g .runs) o)
 
-pub gave-none : {g : Given} {o : List ℕ} {r : RunsStep} (p : RunPosition) (a : Answer) → r ≡ runsStep p a → g ≡ givesNone p a → Gave g o r o
-unfolding listAfter
+pub gave-none : {g : GivenRuns} {o : List ℕ} {r : RunsStep} (p : RunPosition) (a : Answer) → r ≡ runsStep p a → g ≡ givesNone p a → Gave g o r o
+unfolding wordsAfter
 gave-none p a e is = rw is (e, refl)
 
-pub gave-same : {g h : Given} (o : List ℕ) {r : RunsStep} {n : List ℕ} → g ≡ h → Gave h o r n → Gave g o r n
+pub gave-same : {g h : GivenRuns} (o : List ℕ) {r : RunsStep} {n : List ℕ} → g ≡ h → Gave h o r n → Gave g o r n
 gave-same o e x = rw e x
 
 module _ (s : List ℕ) (p : RunPosition) (room : ℕ) (a : Answer) (is : a ≡ knownOf s (p .checked)) where

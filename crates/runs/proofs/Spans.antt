@@ -1,36 +1,18 @@
 -- In a state that text leaves as it is, an octet of the span of a side, or two, is a piece of a run of that side (`single-piece`, `double-piece`);
 -- and where no such octets stand the piece is none of that run (`single-ends`, `double-ends`). The first by what such an octet starts, the second
 -- by where an octet lies that starts text.
-use Prim.Native.Nat.{ℕ, zero, suc, _+_, _-_, _/_, _%_, _≤_, _<_}
-use native.Mathlib.Omega.{arith}
-use mathlib.Core.Path.{_≡_, refl, ap, sym, _∙_}
-use mathlib.Core.Bool.{Bool, true, false}
-use mathlib.Core.List.{List, [], _∷_}
-use lib.Dec.{eqb}
-use lib.ListN.{length, getD}
-use borrow.Author.Tests.{eqb-true, eq-eqb, ne-eqb, lt-ltb}
-use Rattle.base.specs.Choice.{pick, from}
+use Rattle.element.proofs.Names.{ℕ, zero, suc, _+_, _-_, _/_, _%_, _≤_, _<_, arith, _≡_, refl, ap, sym, _∙_, Bool, true, false, List, [], _∷_, eqb}
+use Rattle.element.proofs.Names.{length, getD, eqb-true, eq-eqb, ne-eqb, lt-ltb, pick, from, off, on-true, on-lt, on-ge, from-octet, from-length, form-96}
+use Rattle.element.proofs.Names.{formOf, Side, GL, GR, writtenOf, stepOf, next, State, Sets, Directions, Step, Goes, Stops, Shape, Refuses, Designates, Gives}
 use Rattle.base.specs.Refusal as refusal
-use Rattle.base.proofs.Bools.{off}
-use Rattle.base.proofs.Ladder.{on-true, on-lt, on-ge, from-octet, from-length}
-use Rattle.charset.specs.Charsets.{form-96, formOf}
-use Rattle.charset.specs.declared.Side.{Side}
-use Rattle.charset.specs.declared.Side.the-variants.{GL, GR}
 use Rattle.element.specs.Element.{shapeOf, steppedOf, directedOf}
 use Rattle.element.specs.Start.{Start, startIn, begunBy}
 use Rattle.element.proofs.Sizes.{kindIn, escape-kind, mark-kind}
 use Rattle.element.proofs.Starts.{On, wideIn, Starts, starts, graphic-low, graphic, used-graphic, graphic-used, all-used}
 use Rattle.element.proofs.Starts as start
 use Rattle.grammar.specs.Reading.{Octets}
-use Rattle.state.specs.Directions.{writtenOf, stepOf}
-use Rattle.state.specs.Elements.{refused, next}
-use Rattle.state.specs.declared.State.{State}
-use Rattle.state.specs.declared.Sets.{Sets}
-use Rattle.state.specs.declared.directions.Directions.{Directions}
-use Rattle.state.specs.declared.directions.Step.{Step}
-use Rattle.state.specs.declared.directions.Step.the-variants.{Goes, Stops}
-use Rattle.state.specs.declared.elements.Shape.{Shape}
-use Rattle.state.specs.declared.elements.Shape.the-variants.{Ends, Refuses, Designates, Gives}
+use Rattle.state.specs.Elements.{refused}
+use Rattle.state.specs.declared.elements.Shape.the-variants.{Ends}
 use Rattle.stretch.specs.Characters.{settledOf}
 use Rattle.stretch.proofs.Starts.{Written, number, one-start, left-start, written-one, written-two, written-found}
 use Rattle.stretch.proofs.Starts as stretched

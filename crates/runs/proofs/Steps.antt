@@ -1,31 +1,15 @@
 -- A turn of the loop of `run_from`, on plain values: the first run, counted from the piece that was read last, is the first run from the place
 -- where the loop began; and so are the state at each later place, and what is answered where no run is left.
-use Prim.Native.Nat.{ℕ, suc, _+_, _≤_, _<_}
-use native.Mathlib.Omega.{arith}
-use mathlib.Core.Path.{_≡_, refl, ap, sym, _∙_}
-use mathlib.Core.Bool.{Bool, true, false, false≢true}
-use mathlib.Core.List.{List, [], _∷_}
-use lib.Dec.{leb, ltb}
-use lib.ListN.{length}
-use borrow.Author.Tests.{eq-eqb, lt-ltb, ltb-true, ltb-false, leb-true}
-use Rattle.base.specs.Choice.{pick, from}
+use Rattle.element.proofs.Names.{ℕ, suc, _+_, _≤_, _<_, arith, _≡_, refl, ap, sym, _∙_, Bool, true, false, false≢true, List, [], _∷_, leb, ltb}
+use Rattle.element.proofs.Names.{length, eq-eqb, lt-ltb, ltb-true, ltb-false, leb-true, pick, from, Answer, pick-last, on-eq, on-ne, no-set, allowed, GL, GR}
+use Rattle.element.proofs.Names.{designatedOf, Sets, State, Element, End, Refused, Silent, Found}
 use Rattle.base.specs.Limit as limit
 use Rattle.base.specs.Refusal as refusal
-use Rattle.base.specs.declared.Answer.{Answer}
-use Rattle.base.proofs.Bools.{pick-last}
-use Rattle.base.proofs.Ladder.{on-eq, on-ne}
-use Rattle.charset.specs.Charsets.{no-set, allowed}
-use Rattle.charset.specs.declared.Side.the-variants.{GL, GR}
 use Rattle.element.proofs.Sizes.{Fit, silent, found}
 use Rattle.grammar.specs.Reading.{Octets}
 use Rattle.grammar.proofs.Places.{ahead, at-end, at-refused, at-passed, step-passed}
 use Rattle.reader.specs.Step.{mayStand}
 use Rattle.reader.proofs.Whole.{fresh-fit}
-use Rattle.state.specs.State.{designatedOf}
-use Rattle.state.specs.declared.Sets.{Sets}
-use Rattle.state.specs.declared.State.{State}
-use Rattle.state.specs.declared.elements.Element.{Element}
-use Rattle.state.specs.declared.elements.Element.the-variants.{End, Refused, Silent, Found}
 use Rattle.stretch.specs.Characters.{settledOf}
 use Rattle.stretch.specs.Designation.{designationAt}
 use Rattle.stretch.specs.declared.designation.Designation.{Designation}
@@ -42,7 +26,7 @@ use Rattle.pieces.proofs.Step.{Step, stops, goes, step, elementAt, pieceAt, res
 use Rattle.runs.specs.Runs.{shownOf}
 use Rattle.runs.specs.Spans.{Ones, Twos, Single, Double, TextTo, singly, doubly}
 use Rattle.runs.specs.Spans as spans
-use Rattle.runs.specs.Steps.{stays, stepTo, stopAt, lastOf, firstOf, runFrom, knownOf, checkedFrom}
+use Rattle.runs.specs.Steps.{stays, runStepTo, stopAt, lastOf, firstOf, runFrom, knownOf, checkedFrom}
 use Rattle.runs.specs.declared.Bounds.{Bounds}
 use Rattle.runs.specs.declared.stepping.RunPosition.{RunPosition}
 use Rattle.runs.specs.declared.stepping.RunStep.{RunStep}
@@ -51,7 +35,7 @@ use Rattle.runs.proofs.Spans.{left-octet, right-octet, text-settled, si
 -- ---- the first run among pieces
 
 module _ (n : ℕ) (there : ℕ → State) (none : RunStep) where
-  pub first-run : (p : Piece) (ps : List Piece) → isRun (p .kind) ≡ true → firstOf n there none (p ∷ ps) ≡ stepTo (p .end) (there (p .end)) (shownOf n p)
+  pub first-run : (p : Piece) (ps : List Piece) → isRun (p .kind) ≡ true → firstOf n there none (p ∷ ps) ≡ runStepTo (p .end) (there (p .end)) (shownOf n p)
   unfolding firstOf pick
   first-run p ps e = rw e
 
@@ -141,18 +125,18 @@ module _ (s : List ℕ) (place : ℕ) (state : State) (at : ℕ) (st : State) (l
   abbrev chosen : List Piece → RunStep
   chosen ps = firstOf (length s) (stateFrom s place state) (lastFrom s place state) ps
 
-  shown-by : Followed (last .kind) (q .kind) → 0 < g → chosen (joined last (rest s at st)) ≡ stepTo at st (shownOf (length s) last)
+  shown-by : Followed (last .kind) (q .kind) → 0 < g → chosen (joined last (rest s at st)) ≡ runStepTo at st (shownOf (length s) last)
   shown-by (same r i f e) l = absurd (omega arith)
   shown-by (over r f e) l =
       let there : stateFrom s place state (last .end) ≡ st = ap (stateFrom s place state) (h .ends) ∙
       (h .later at (omega arith) ∙ first-state s at st (elementAt s at st) refl) in
       rw (apart s at st last at-q f)
       (first-run (length s) (stateFrom s place state) (lastFrom s place state) last (rest s at st) r ∙
-      (ap (λ (x : State). stepTo (last .end) x (shownOf (length s) last)) there ∙ ap (λ (x : ℕ). stepTo x st (shownOf (length s) last)) (h .ends)))
+      (ap (λ (x : State). runStepTo (last .end) x (shownOf (length s) last)) there ∙ ap (λ (x : ℕ). runStepTo x st (shownOf (length s) last)) (h .ends)))
   shown-by (other r f e) l = absurd (omega arith)
 
-  pub turn-shown : (run : Bounds) (r : RunStep) → 0 < g → run ≡ shownOf (length s) last → r ≡ stepTo at st run → r ≡ runFrom s place state
-  turn-shown run r l e k = k ∙ (ap (stepTo at st) e ∙ (sym (shown-by met l) ∙ h .first))
+  pub turn-shown : (run : Bounds) (r : RunStep) → 0 < g → run ≡ shownOf (length s) last → r ≡ runStepTo at st run → r ≡ runFrom s place state
+  turn-shown run r l e k = k ∙ (ap (runStepTo at st) e ∙ (sym (shown-by met l) ∙ h .first))
 
   stop-by : {x : Piece} → Step s at st x → Followed (last .kind) (x .kind) → x .end ≡ at → endingOf (last .kind) (x .kind) ≤ 0
       → chosen (joined last (rest s at st)) ≡ lastFrom s place state
@@ -242,8 +226,8 @@ agree : (n : ℕ) (none : RunStep) {f g : ℕ → State} {a e : ℕ} {ps : List 
 unfolding firstOf
 agree n none tile.none h = refl
 agree n none {f} {g} (tile.more {p} {ps} b l t) h =
-    ap (λ (x : State). pick (isRun (p .kind)) (stepTo (p .end) x (shownOf n p)) (firstOf n f none ps)) (h (p .end) (omega arith)) ∙
-    ap (λ (r : RunStep). pick (isRun (p .kind)) (stepTo (p .end) (g (p .end)) (shownOf n p)) r) (agree n none t (λ i k. h i (omega arith)))
+    ap (λ (x : State). pick (isRun (p .kind)) (runStepTo (p .end) x (shownOf n p)) (firstOf n f none ps)) (h (p .end) (omega arith)) ∙
+    ap (λ (r : RunStep). pick (isRun (p .kind)) (runStepTo (p .end) (g (p .end)) (shownOf n p)) r) (agree n none t (λ i k. h i (omega arith)))
 
 pub fit-piece : (s : List ℕ) (at : ℕ) (st : State) (e : Element) → elementAt s at st ≡ e → Fit st → Fit (pieceOf s at e .state)
 unfolding pieceOf
@@ -355,7 +339,7 @@ module _ (s : List ℕ) (place : ℕ) (state : State) (k : ℕ) (st : State) (a 
 
     -- the run is shown, and the position is at its end
     turn-text : {at i : ℕ} (q : Piece) (run : Bounds) (r : RunStep) → Grown s place state k st a at → TextTo s (st .sets) k at i → a < i
-        → q ≡ piece a i k st → run ≡ shownOf (length s) q → r ≡ stepTo i st run → r ≡ runFrom s place state
+        → q ≡ piece a i k st → run ≡ shownOf (length s) q → r ≡ runStepTo i st run → r ≡ runFrom s place state
     turn-text {i = i} q run r g x l e f j = by (grow-text x g)
       where
         by : Grown s place state k st a i → r ≡ runFrom s place state
@@ -409,7 +393,7 @@ module _ (s : List ℕ) (place : ℕ) (state : State) (at : ℕ) (st : State) (p
   -- text that leaves the state
   pub turn-quick : Octets s → (k i : ℕ) (q : Piece) (run : Bounds) (r : RunStep) → k < 2 → settledOf (st .directions) ≡ true
       → TextTo s (st .sets) k at i → at < i → q ≡ piece at i k st
-      → run ≡ shownOf (length s) q → r ≡ stepTo i st run → r ≡ runFrom s place state
+      → run ≡ shownOf (length s) q → r ≡ runStepTo i st run → r ≡ runFrom s place state
   turn-quick o k i q run r low settled x l e f g =
       turn-text s at st k st at low o settled q run r (still refl (head-first s at st)) x l e f g ∙ p .same
 
@@ -424,7 +408,7 @@ module _ (s : List ℕ) (place : ℕ) (state : State) (at : ℕ) (st : State) (p
     -- the first text of a string, or of what a position made by hand leaves open
     pub turn-begun : Octets s → (i : ℕ) (u : Piece) (run : Bounds) (r : RunStep) → TextTo s (q .state .sets) (q .kind) (q .end) i
         → u ≡ piece (q .start) i (q .kind) (q .state)
-        → run ≡ shownOf (length s) u → r ≡ stepTo i (q .state) run → r ≡ runFrom s place state
+        → run ≡ shownOf (length s) u → r ≡ runStepTo i (q .state) run → r ≡ runFrom s place state
     turn-begun o i u run r x e f g =
         let y = run-begun in
         let n = next-piece s place state at st p q is (λ z. omega (arith, y .more, z)) in

@@ -1,24 +1,19 @@
 -- The runs of some strings, computed from the definitions: start, end, set, octet width, direction, and the answer.
-use Prim.Native.Nat.{ℕ, _-_}
-use mathlib.Core.Path.{_≡_, refl}
-use mathlib.Core.List.{List, [], _∷_}
-use Rattle.base.specs.Answers.{answer, refusedAt}
-use Rattle.base.specs.Choice.{pick}
+use Rattle.element.proofs.Names.{ℕ, _-_, _≡_, refl, List, [], _∷_, answer, refusedAt, pick, mayUse, formOf, setOf, writtenOf, deeperOf, begunOf}
+use Rattle.element.proofs.Names.{revertedOf, stepOf, next, put}
 use Rattle.base.specs.Direction as direction
 use Rattle.base.specs.Refusal as refusal
-use Rattle.charset.specs.Charsets.{mayUse, formOf, fitsOf, find, setOf}
+use Rattle.charset.specs.Charsets.{fitsOf, find}
 use Rattle.control.specs.Escape.{designatesOf, designationOf, multiOctetOf, escapeOf}
 use Rattle.control.specs.Mark.{beginOf, csiOf}
 use Rattle.element.specs.Element.{shapeOf, steppedOf, directedOf}
 use Rattle.element.specs.Start.{usedIn, characterStart, leftStart, startOf, begunBy}
 use Rattle.grammar.specs.Reading.{onward, elements, answerOf, checkOf}
 use Rattle.segment.specs.Segment.{nameOctetOf, nameOf, textWidthOf, contentOf, bodyOf, lengthsOf, extendedOf}
-use Rattle.state.specs.Directions.{writtenOf, deeperOf, begunOf, revertedOf, stepOf, inForceOf}
-use Rattle.state.specs.Elements.{next}
-use Rattle.state.specs.State.{put}
+use Rattle.state.specs.Directions.{inForceOf}
 use Rattle.text.specs.Text.{graphicOf, secondOctetOf}
 use Rattle.pieces.specs.Pieces.{sideKindOf, pieceKindOf, pieceOf, sameRunOf, joined, piecesFrom, piecesOf, setIn}
-use Rattle.runs.specs.Runs.{runsIn, runsOf, widthOf, bounds, shownOf, noRun, nthOf, runAt}
+use Rattle.runs.specs.Runs.{runsIn, runsOf, widthOf, bounds, shownOf, noRun, nthRunOf, runAt}
 use Rattle.runs.specs.declared.Bounds.{Bounds}
 
 -- a string, the number of a run, and what is answered
@@ -75,5 +70,5 @@ pub table : found rows ≡ expected rows
 unfolding pick mayUse formOf fitsOf find setOf put next graphicOf secondOctetOf nameOctetOf nameOf textWidthOf contentOf bodyOf lengthsOf extendedOf
     beginOf csiOf designatesOf designationOf multiOctetOf escapeOf writtenOf deeperOf begunOf revertedOf stepOf inForceOf usedIn characterStart
     leftStart startOf begunBy shapeOf steppedOf directedOf onward elements answerOf checkOf sideKindOf pieceKindOf pieceOf sameRunOf joined piecesFrom
-    piecesOf setIn runsIn runsOf widthOf shownOf nthOf runAt
+    piecesOf setIn runsIn runsOf widthOf shownOf nthRunOf runAt
 table = refl

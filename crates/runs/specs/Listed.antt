@@ -32,8 +32,8 @@ abbrev pub upperOf : ℕ → ℕ → ℕ
 upperOf c direction = c * 0x100000000 + widthOf c * 0x10000000000 + direction * 0x1000000000000
 
 -- a list after runs are stored: their words stand at its start, and the rest stays
-unfoldable pub listAfter : List Bounds → List ℕ → List ℕ
-listAfter bs out = map wordOf bs ++ drop (length bs) out
+unfoldable pub wordsAfter : List Bounds → List ℕ → List ℕ
+wordsAfter bs out = map wordOf bs ++ drop (length bs) out
 
 -- ---- the runs that are given
 
@@ -41,15 +41,15 @@ abbrev pub runsStep : RunPosition → Answer → RunsStep
 runsStep p a = record { position = p; answer = a }
 
 -- the runs, and the position and the answer after them
-pub record Given : Type 0 where
+pub record GivenRuns : Type 0 where
   pub runs : List Bounds
   pub step : RunsStep
 
-abbrev pub before : Bounds → Given → Given
+abbrev pub before : Bounds → GivenRuns → GivenRuns
 before b g = record { runs = b ∷ g .runs; step = g .step }
 
 -- no run: the position and the answer
-abbrev pub givesNone : RunPosition → Answer → Given
+abbrev pub givesNone : RunPosition → Answer → GivenRuns
 givesNone p a = record { runs = []; step = runsStep p a }
 
 -- the answer where a step from a string of n octets shows none and k runs are given: how many they are, 0 where none is left. A refused element,
@@ -59,7 +59,7 @@ endOf n k a =
     pick (eqb k 0) (pick (eqb (a .number) refusal.bad-unit) (answer refusal.accepted n 0) a) (answer refusal.accepted n k)
 
 -- the runs from a place and a state on, m at most, where k are given before them
-unfoldable pub givenFrom : List ℕ → ℕ → ℕ → ℕ → State → Given
+unfoldable pub givenFrom : List ℕ → ℕ → ℕ → ℕ → State → GivenRuns
 givenFrom s k zero at st = givesNone (position at st true) (answer refusal.accepted (length s) k)
 givenFrom s k (suc m) at st =
     let r = runFrom s at st in
@@ -68,13 +68,13 @@ givenFrom s k (suc m) at st =
     (givesNone (r .position) (endOf (length s) k (r .run .answer)))
 
 -- of accepted strings alone, as for a single step
-unfoldable pub checkedRuns : List ℕ → RunPosition → ℕ → Given
+unfoldable pub checkedRuns : List ℕ → RunPosition → ℕ → GivenRuns
 checkedRuns s p room =
     pick (eqb (knownOf s (p .checked) .number) refusal.accepted) (givenFrom s 0 room (p .place) (p .state))
     (givesNone p (knownOf s (p .checked)))
 
 -- from any position, also one made by hand
-unfoldable pub nextRunsOf : List ℕ → RunPosition → ℕ → Given
+unfoldable pub nextRunsOf : List ℕ → RunPosition → ℕ → GivenRuns
 nextRunsOf s p room =
     pick (ltb limit.octets (length s)) (givesNone p (refusedAt refusal.too-long 0))
     (pick (mayStand (length s) (p .place) (p .state)) (checkedRuns s p room) (givesNone p (refusedAt refusal.bad-unit 0)))
@@ -96,7 +96,7 @@ runsAt s k zero = []
 runsAt s k (suc n) = runAt s k ∷ runsAt s (suc k) n
 
 -- what a call gives of an accepted string of which k runs are given: the next ones, as many as there is room for; fewer, where no more are left
-pub record Next (s : List ℕ) (k room : ℕ) (g : Given) : Type 0 where
+pub record Next (s : List ℕ) (k room : ℕ) (g : GivenRuns) : Type 0 where
   pub runs : g .runs ≡ runsAt s k (length (g .runs))
   pub counts : g .step .answer ≡ answer refusal.accepted (length s) (length (g .runs))
   pub fits : length (g .runs) ≤ room
@@ -108,7 +108,7 @@ abbrev pub stand : ℕ → ℕ → State → Stand
 stand place count st = record { place = place; count = count; state = st }
 
 -- what is still given from there on, and the list once that is stored
-abbrev pub leftOf : List ℕ → Stand → List ℕ → Given
+abbrev pub leftOf : List ℕ → Stand → List ℕ → GivenRuns
 leftOf s l out = givenFrom s (l .count) (length out - l .count) (l .place) (l .state)
 
 abbrev pub finished : List ℕ → Stand → List ℕ → RunsStep × List ℕ

@@ -47,14 +47,14 @@ abbrev pub noRun : Answer → Bounds
 noRun a = bounds 0 0 0 0 direction.none a
 
 -- the k-th of runs, counted from 0; past the last 11 (rule R4)
-unfoldable pub nthOf : ℕ → ℕ → List Piece → Bounds
-nthOf n k [] = noRun (refusedAt refusal.bad-unit 0)
-nthOf n zero (p ∷ ps) = shownOf n p
-nthOf n (suc k) (p ∷ ps) = nthOf n k ps
+unfoldable pub nthRunOf : ℕ → ℕ → List Piece → Bounds
+nthRunOf n k [] = noRun (refusedAt refusal.bad-unit 0)
+nthRunOf n zero (p ∷ ps) = shownOf n p
+nthRunOf n (suc k) (p ∷ ps) = nthRunOf n k ps
 
 -- the k-th run of a string, where it is accepted, and else its refusal (rule R4)
 unfoldable pub runAt : List ℕ → ℕ → Bounds
-runAt s k = pick (eqb (checkOf s .number) refusal.accepted) (nthOf (length s) k (runsOf s)) (noRun (checkOf s))
+runAt s k = pick (eqb (checkOf s .number) refusal.accepted) (nthRunOf (length s) k (runsOf s)) (noRun (checkOf s))
 
 -- the octets of the k-th run, none where there is no such run
 abbrev pub runOctets : List ℕ → ℕ → List ℕ

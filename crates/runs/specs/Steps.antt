@@ -38,16 +38,16 @@ abbrev pub stays : RunPosition → Answer → RunStep
 stays p a = runStep p (noRun a)
 
 -- a place of a string that is taken for accepted
-abbrev pub stepTo : ℕ → State → Bounds → RunStep
-stepTo place st run = runStep (position place st true) run
+abbrev pub runStepTo : ℕ → State → Bounds → RunStep
+runStepTo place st run = runStep (position place st true) run
 
 -- no run is left where an element is reached: 11 (rule R4); a refused element, which only a position made
 -- by hand can reach, is answered by its refusal
 unfoldable pub stopAt : ℕ → State → Element → RunStep
-stopAt at st End = stepTo at st (noRun (refusedAt refusal.bad-unit 0))
-stopAt at st (Refused n o) = stepTo at st (noRun (refusedAt n (at + o)))
-stopAt at st (Silent k next) = stepTo at st (noRun (refusedAt refusal.bad-unit 0))
-stopAt at st (Found p next) = stepTo at st (noRun (refusedAt refusal.bad-unit 0))
+stopAt at st End = runStepTo at st (noRun (refusedAt refusal.bad-unit 0))
+stopAt at st (Refused n o) = runStepTo at st (noRun (refusedAt n (at + o)))
+stopAt at st (Silent k next) = runStepTo at st (noRun (refusedAt refusal.bad-unit 0))
+stopAt at st (Found p next) = runStepTo at st (noRun (refusedAt refusal.bad-unit 0))
 
 -- no run is left among elements under a state: the position is then at their end, or before the refused element
 unfoldable pub lastOf : State → Elements → RunStep
@@ -61,7 +61,7 @@ lastOf st (found-at at p next es) = lastOf next es
 unfoldable pub firstOf : ℕ → (ℕ → State) → RunStep → List Piece → RunStep
 firstOf n there none [] = none
 firstOf n there none (p ∷ ps) =
-    pick (isRun (p .kind)) (stepTo (p .end) (there (p .end)) (shownOf n p)) (firstOf n there none ps)
+    pick (isRun (p .kind)) (runStepTo (p .end) (there (p .end)) (shownOf n p)) (firstOf n there none ps)
 
 -- the first run from a place and a state on
 abbrev pub runFrom : List ℕ → ℕ → State → RunStep

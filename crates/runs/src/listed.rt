@@ -9,7 +9,7 @@ ghost use Rattle.stretch.specs.Characters.{settledOf};
 ghost use Rattle.state.specs.Directions.{inForceOf};
 ghost use Rattle.runs.specs.Runs.{shownOf};
 ghost use Rattle.runs.specs.Steps.{position};
-ghost use Rattle.runs.specs.Listed.{wordOf, upperOf, listAfter, runsStep, endOf, givenFrom, checkedRuns, nextRunsOf, stand, Onward};
+ghost use Rattle.runs.specs.Listed.{wordOf, upperOf, wordsAfter, runsStep, endOf, givenFrom, checkedRuns, nextRunsOf, stand, Onward};
 use crate::ends::left_end;
 use crate::ends::right_end;
 use crate::ends::text_end;
@@ -165,7 +165,7 @@ fn end_of(n: usize, k: usize, answer: Answer) -> Answer
 fn list_from(s: &[u8], place: usize, state: State, out: &mut [u64]) -> RunsStep
     requires { ⌜ (length (now s) ≤ limits.octets) × (mayStand (length (now s)) place state ≡ true) ⌝ }
     ensures { λ r. ⌜ (r ≡ givenFrom (now (s .entry)) 0 (length (now (out .entry))) place state .step)
-        × (now (out .exit) ≡ listAfter (givenFrom (now (s .entry)) 0 (length (now (out .entry))) place state .runs) (now (out .entry))) ⌝ }
+        × (now (out .exit) ≡ wordsAfter (givenFrom (now (s .entry)) 0 (length (now (out .entry))) place state .runs) (now (out .entry))) ⌝ }
 {
     let mut l = stand_at(place, 0, state);
     loop {
@@ -203,7 +203,7 @@ fn list_from(s: &[u8], place: usize, state: State, out: &mut [u64]) -> RunsStep
 fn list_checked(s: &[u8], p: RunPosition, out: &mut [u64]) -> RunsStep
     requires { ⌜ (length (now s) ≤ limits.octets) × (mayStand (length (now s)) (p .place) (p .state) ≡ true) ⌝ }
     ensures { λ r. ⌜ (r ≡ checkedRuns (now (s .entry)) p (length (now (out .entry))) .step)
-        × (now (out .exit) ≡ listAfter (checkedRuns (now (s .entry)) p (length (now (out .entry))) .runs) (now (out .entry))) ⌝ }
+        × (now (out .exit) ≡ wordsAfter (checkedRuns (now (s .entry)) p (length (now (out .entry))) .runs) (now (out .entry))) ⌝ }
 {
     let answer = known(s, p.checked);
     if answer.number == refusal::ACCEPTED {
@@ -215,7 +215,7 @@ fn list_checked(s: &[u8], p: RunPosition, out: &mut [u64]) -> RunsStep
 // The next runs from a position, as many as the list has room for, and the position after them. The rest of the list stays.
 pub fn next_runs(s: &[u8], p: RunPosition, out: &mut [u64]) -> RunsStep
     ensures { λ r. ⌜ (r ≡ nextRunsOf (now (s .entry)) p (length (now (out .entry))) .step)
-        × (now (out .exit) ≡ listAfter (nextRunsOf (now (s .entry)) p (length (now (out .entry))) .runs) (now (out .entry))) ⌝ }
+        × (now (out .exit) ≡ wordsAfter (nextRunsOf (now (s .entry)) p (length (now (out .entry))) .runs) (now (out .entry))) ⌝ }
 {
     if limit::OCTETS < s.len() {
         return step_to(p, Answer::refused(refusal::TOO_LONG, 0));

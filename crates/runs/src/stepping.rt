@@ -7,7 +7,7 @@ ghost use Rattle.element.specs.Element.{elementOf};
 ghost use Rattle.pieces.specs.Pieces.{piece};
 ghost use Rattle.reader.specs.Step.{mayStand};
 ghost use Rattle.runs.specs.Runs.{runAt};
-ghost use Rattle.runs.specs.Steps.{firstPosition, stays, stepTo, stopAt, runFrom, knownOf, checkedFrom, nextRunOf};
+ghost use Rattle.runs.specs.Steps.{firstPosition, stays, runStepTo, stopAt, runFrom, knownOf, checkedFrom, nextRunOf};
 use crate::Bounds;
 use crate::ends::text_end;
 use base::Answer;
@@ -57,7 +57,7 @@ fn stays(p: RunPosition, answer: Answer) -> RunStep
 
 // A step to a place of a string that is taken for accepted.
 fn step_to(place: usize, state: State, run: Bounds) -> RunStep
-    ensures { λ r. ⌜ r ≡ stepTo place state run ⌝ }
+    ensures { λ r. ⌜ r ≡ runStepTo place state run ⌝ }
 {
     RunStep {
         position: RunPosition {

@@ -1,21 +1,10 @@
 -- A record that offends by itself has the number of rule N9, whatever directions are open (`bad-stops`); one that does not
 -- stands for a good unit, whose step is that of the direction rule (`not-bad`). By its kind, its unit and the tests of it are computed.
-use Prim.Native.Nat.{ℕ, _+_, _≤_, _<_}
-use native.Mathlib.Omega.{arith}
-use mathlib.Core.Path.{_≡_, refl, ap₂}
-use mathlib.Core.Bool.{true, false, _&&_}
-use mathlib.Core.List.{List}
-use mathlib.Core.Option.{some}
-use mathlib.Core.Logic.{_⊎_, inl, inr, ⊎-elim}
-use lib.ListN.{length, take, drop, length-take, length-drop}
-use lib.Dec.{eqb, leb, ltb}
-use borrow.Author.Tests.{eqb-true, ltb-true, ltb-false, leb-true, leb-false, lt-ltb, le-ltb, le-leb, lt-leb, ne-eqb}
+use Rattle.element.proofs.Names.{ℕ, _+_, _≤_, _<_, arith, _≡_, refl, ap₂, true, false, _&&_, List, some, _⊎_, inl, inr, ⊎-elim, length, take, drop}
+use Rattle.element.proofs.Names.{length-take, length-drop, eqb, leb, ltb, eqb-true, ltb-true, ltb-false, leb-true, leb-false, lt-ltb, le-ltb, le-leb, lt-leb}
+use Rattle.element.proofs.Names.{ne-eqb, UnitRecord, test, tested, no-set, formOf, Directions, Stops}
 use Rattle.base.specs.Kind as kind
-use Rattle.base.specs.declared.Unit.{Unit as UnitRecord}
-use Rattle.base.proofs.Bools.{test, and-second, tested}
-use Rattle.charset.specs.Charsets.{no-set, formOf}
-use Rattle.state.specs.declared.directions.Directions.{Directions}
-use Rattle.state.specs.declared.directions.Step.the-variants.{Stops}
+use Rattle.base.proofs.Bools.{and-second}
 use Rattle.grammar.specs.Units.{TextUnit, char, space, control, ext, controlOf, unitOf, codeUsed, segment, mostOfSegment, good}
 use Rattle.grammar.specs.Reading.{direct}
 use Rattle.grammar.specs.Records.{readable, unitRead}

@@ -1,25 +1,13 @@
 -- No string of a reading is shorter than its cost (`lower`): by induction on how it reads, since a designation saves no more than its
 -- price and a unit that is shown has its need met (`shows-met`). Once a need is met its unit may be shown on the side that is used
 -- (`met-shows`).
-use mathlib.Core.Path.{_≡_, refl, sym, _∙_}
-use mathlib.Core.Bool.{Bool, true, false, cond, _||_, or-true}
-use mathlib.Core.List.{List}
-use mathlib.Core.Logic.{⊎-elim}
-use Prim.Native.Nat.{ℕ, _≤_}
-use native.Mathlib.Omega.{arith}
-use lib.ListN.{length, length-append}
-use Rattle.base.proofs.Bools.{off, or-cases, from-tests}
-use Rattle.charset.specs.Charsets.{formOf, allowed}
+use Rattle.element.proofs.Names.{_≡_, refl, sym, _∙_, Bool, true, false, cond, _||_, or-true, List, ⊎-elim, ℕ, _≤_, arith, length, length-append}
+use Rattle.element.proofs.Names.{off, from-tests, formOf, allowed, eqb, eqb-true, eq-eqb, Side, GL, GR, Sets, get}
+use Rattle.base.proofs.Bools.{or-cases}
 use Rattle.grammar.specs.Grammar.{Shows, Reads, done, designate, show, Legal}
 use Rattle.grammar.proofs.Agrees.{put-legal}
-use lib.Dec.{eqb}
-use borrow.Author.Tests.{eqb-true, eq-eqb}
-use Rattle.charset.specs.declared.Side.{Side}
-use Rattle.charset.specs.declared.Side.the-variants.{GL, GR}
 use Rattle.grammar.specs.Units.{wide, TextUnit, char, space, control, ext, octets, designation, good}
 use Rattle.shortest.proofs.Sets.{space-sets, some-side}
-use Rattle.state.specs.declared.Sets.{Sets}
-use Rattle.state.specs.State.{get}
 use Rattle.shortest.specs.Writing.{stands, met, need, placesOf, cost, used}
 use Rattle.shortest.proofs.Needs.{least-met}
 use Rattle.shortest.proofs.Costs.{designation-length, size-side, cost-steady}

@@ -1,10 +1,6 @@
 -- The table of checked strings, proved at once: antt computes the definitions.
-use mathlib.Core.Path.{_≡_, refl}
-use Rattle.base.specs.Choice.{pick}
-use Rattle.charset.specs.Charsets.{mayUse, allowed, formOf, fitsOf, find, setOf}
-use Rattle.state.specs.State.{put}
-use Rattle.state.specs.Directions.{writtenOf, deeperOf, begunOf, revertedOf, stepOf}
-use Rattle.state.specs.Elements.{next}
+use Rattle.element.proofs.Names.{_≡_, refl, pick, mayUse, allowed, formOf, setOf, put, writtenOf, deeperOf, begunOf, revertedOf, stepOf, next}
+use Rattle.charset.specs.Charsets.{fitsOf, find}
 use Rattle.text.specs.Text.{graphicOf, secondOctetOf}
 use Rattle.segment.specs.Segment.{nameOctetOf, nameOf, textWidthOf, contentOf, bodyOf, lengthsOf, extendedOf}
 use Rattle.control.specs.Mark.{beginOf, csiOf}
@@ -13,7 +9,7 @@ use Rattle.element.specs.Element.{shapeOf, steppedOf, directedOf}
 use Rattle.element.specs.Start.{usedIn, characterStart, leftStart, startOf, begunBy}
 use Rattle.grammar.specs.Units.{unitOf, wide, octets, designation}
 use Rattle.grammar.specs.Reading.{onward, elements, answerOf, checkOf, unitAt, unitsOf, readingOf}
-use Rattle.shortest.specs.Writing.{stands, price, met, need, least, size, cost, choose, used, writing}
+use Rattle.shortest.specs.Writing.{stands, price, met, need, least, unitSize, cost, choose, used, writing}
 use Rattle.shortest.specs.CheckedStrings.{table, refusals, defined, expected, answersDefined, answersExpected}
 
 pub checked-strings : (defined table ≡ expected table) × (answersDefined refusals ≡ answersExpected refusals)
@@ -21,5 +17,5 @@ unfolding pick mayUse allowed formOf fitsOf find setOf put writtenOf deeperOf be
     nameOctetOf nameOf textWidthOf contentOf bodyOf lengthsOf extendedOf beginOf csiOf intermediatesOf designatesOf designationOf multiOctetOf
     escapeOf usedIn characterStart leftStart startOf begunBy shapeOf steppedOf directedOf
     unitOf wide octets designation onward elements answerOf checkOf unitAt unitsOf readingOf stands price met
-    need least size cost choose used writing
+    need least unitSize cost choose used writing
 checked-strings = (refl, refl)

@@ -1,25 +1,13 @@
 -- The string that `writing` computes is the one of rule W4: it is one of the lazy strings (`writing-lazy`), every lazy
 -- string reads as the units and so is no shorter (`lazy-reads`, `lazy-lower`), and a lazy string as short is the same or comes after it
 -- (`first`); such a string is one (`the-choice`, `one-choice`). What a unit's need says is what the paper's words say (`split`).
-use Prim.Native.Nat.{ℕ, _+_, _≤_, min}
-use native.Mathlib.Omega.{arith}
-use mathlib.Core.Path.{_≡_, refl, sym, ap, ap₂, _∙_}
-use mathlib.Core.Bool.{Bool, true, false, _||_}
-use mathlib.Core.List.{List, [], _∷_, _++_}
-use mathlib.Core.Option.{Option, none, some}
-use mathlib.Core.Logic.{_⊎_, inl, inr, ⊎-elim}
-use lib.ListN.{length, length-append}
-use borrow.Author.Tests.{eq-eqb}
-use Rattle.base.proofs.Bools.{off, clash, or-none}
-use Rattle.charset.specs.declared.Side.{Side}
-use Rattle.charset.specs.declared.Side.the-variants.{GL, GR}
-use Rattle.charset.specs.Charsets.{allowed, mayUse}
-use Rattle.state.specs.State.{Standing, on}
-use Rattle.state.specs.declared.Sets.{Sets}
+use Rattle.element.proofs.Names.{ℕ, _+_, _≤_, min, arith, _≡_, refl, sym, ap, ap₂, _∙_, Bool, true, false, _||_, List, [], _∷_, _++_, Option, none}
+use Rattle.element.proofs.Names.{some, _⊎_, inl, inr, ⊎-elim, length, length-append, eq-eqb, off, clash, Side, GL, GR, allowed, mayUse, Standing, on, Sets}
+use Rattle.base.proofs.Bools.{or-none}
 use Rattle.grammar.specs.Units.{TextUnit, char, space, control, ext, octets, good}
 use Rattle.grammar.specs.Grammar.{Shows, Reads, done, designate, show, Legal}
 use Rattle.grammar.proofs.Agrees.{put-legal}
-use Rattle.shortest.specs.Writing.{Need, free, either, stands, met, via, least, choose, after, designated, size, need, placesOf, used, cost, writing}
+use Rattle.shortest.specs.Writing.{Need, free, either, stands, met, via, least, choose, after, designated, unitSize, need, placesOf, used, cost, writing}
 use Rattle.shortest.specs.Writing.{Good}
 use Rattle.shortest.specs.Choice.{Serves, MayPrecede, LeftFirst, Lazy, nil, next, Preferred, Before, here, later, Chosen}
 use Rattle.shortest.proofs.Needs.{spent, Chose, nothing, the-first, the-second, chose, chosen-met}
@@ -121,7 +109,7 @@ least-permitted (either a b) f s none p = rw p (omega arith)
 least-permitted (either a b) f s (some q) p =
     rw (p .0) (⊎-elim (λ e. rw e (omega arith)) (λ e. rw e (omega arith)) (p .1))
 
-one-length : (t : List ℕ) (u : TextUnit) (d : Side) (o : Option Standing) → length (designated o ++ (octets d u ++ t)) ≡ spent o + (size u + length t)
+one-length : (t : List ℕ) (u : TextUnit) (d : Side) (o : Option Standing) → length (designated o ++ (octets d u ++ t)) ≡ spent o + (unitSize u + length t)
 one-length t u d o = omega (arith, length-append (designated o) (octets d u ++ t), length-append (octets d u) t, spent-length o, size-side d u)
 
 -- a best choice is the writer's, or the writer's is preferred

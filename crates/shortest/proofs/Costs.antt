@@ -1,25 +1,16 @@
 -- The laws of the cost and the writing, by induction on the units: the cost rises by no more than a designation's price (`cost-steady`),
 -- and the writing has as many octets as the cost says (`writing-length`). A unit has as many octets on either side (`size-side`).
-use native.Mathlib.Omega.{arith}
-use mathlib.Core.Path.{_≡_, refl}
-use mathlib.Core.List.{List, [], _∷_}
-use mathlib.Core.Option.{Option, none, some}
-use lib.ListN.{length, length-append}
-use Rattle.base.proofs.Bools.{test}
-use Rattle.charset.specs.declared.Side.{Side}
-use Rattle.charset.specs.declared.Side.the-variants.{GL, GR}
-use Rattle.state.specs.State.{Standing}
-use Rattle.state.specs.declared.Sets.{Sets}
+use Rattle.element.proofs.Names.{arith, _≡_, refl, List, [], _∷_, Option, none, some, length, length-append, test, Side, GL, GR, Standing, Sets}
 use Rattle.grammar.specs.Units.{TextUnit, char, space, control, ext, wide, octets, designation}
-use Rattle.shortest.specs.Writing.{price, need, size, cost, choose, after, designated, writing}
+use Rattle.shortest.specs.Writing.{price, need, unitSize, cost, choose, after, designated, writing}
 use Rattle.shortest.proofs.Needs.{Steady, least-steady, spent, least-chosen}
 
 pub designation-length : (p : Standing) → length (designation p) ≡ price p
 unfolding price
 designation-length p = refl
 
-pub size-side : (d : Side) (u : TextUnit) → length (octets d u) ≡ size u
-unfolding size octets
+pub size-side : (d : Side) (u : TextUnit) → length (octets d u) ≡ unitSize u
+unfolding unitSize octets
 size-side GL u = refl
 size-side GR (char c k) = test (wide c) (λ e. rw e) (λ e. rw e)
 size-side GR space = refl

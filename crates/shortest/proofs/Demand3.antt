@@ -1,16 +1,8 @@
 -- Demand 3 over unit records: the answer and the output that `writerAnswer` and `writerOutput` say meet it, since a list that some
 -- accepted string reads as has no offending unit, and the rest is demand 3 over its units.
-use Prim.Native.Nat.{ℕ}
-use mathlib.Core.Path.{_≡_, sym, subst}
-use mathlib.Core.Bool.{cond}
-use mathlib.Core.List.{List}
-use lib.ListN.{length}
-use lib.Dec.{eqb}
-use borrow.Author.Tests.{le-ltb}
+use Rattle.element.proofs.Names.{ℕ, _≡_, sym, subst, cond, List, length, eqb, le-ltb, UnitRecord, test}
 use Rattle.base.specs.Limit as limit
 use Rattle.base.specs.Refusal as refusal
-use Rattle.base.specs.declared.Unit.{Unit as UnitRecord}
-use Rattle.base.proofs.Bools.{test}
 use Rattle.grammar.specs.Units.{TextUnit}
 use Rattle.shortest.specs.Demand.{writeAnswer, outputAfter, Demand3}
 use Rattle.shortest.specs.Records.{workRoom, writerAnswer, writerOutput}

@@ -1,19 +1,10 @@
 -- The laws of a unit's need. What comes first keeps the cost steady (`least-steady`): one more designation saves no more than its price,
 -- by four cases of whether the need is met before and after it. The choice costs the least (`least-chosen`) and meets the need
 -- (`chosen-met`), and a need that is met costs nothing (`least-met`).
-use Prim.Native.Nat.{ℕ, _+_, _≤_, _<_, min}
-use native.Mathlib.Omega.{arith}
-use mathlib.Core.Path.{_≡_, refl, sym, ap, _∙_}
-use mathlib.Core.Bool.{Bool, true, false, cond, or-true}
-use mathlib.Core.Logic.{⊎-elim}
-use mathlib.Core.Option.{Option, none, some}
-use lib.Dec.{eqb, leb}
-use borrow.Author.Tests.{eqb-true, eq-eqb, leb-true, leb-false}
-use Rattle.base.proofs.Bools.{off, cond-by, or-cases, or-none}
-use Rattle.charset.specs.declared.Side.{Side}
-use Rattle.charset.specs.declared.Side.the-variants.{GL, GR}
-use Rattle.state.specs.State.{Standing, on, get, put, put′}
-use Rattle.state.specs.declared.Sets.{Sets}
+use Rattle.element.proofs.Names.{ℕ, _+_, _≤_, _<_, min, arith, _≡_, refl, sym, ap, _∙_, Bool, true, false, cond, or-true, ⊎-elim, Option, none, some}
+use Rattle.element.proofs.Names.{eqb, leb, eqb-true, eq-eqb, leb-true, leb-false, off, cond-by, Side, GL, GR, Standing, on, get, put, Sets}
+use Rattle.base.proofs.Bools.{or-cases, or-none}
+use Rattle.state.specs.State.{put′}
 use Rattle.shortest.specs.Writing.{stands, price, Need, free, either, met, least, choose, after, via}
 
 -- ---- sets put on a side

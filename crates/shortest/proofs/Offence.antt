@@ -1,24 +1,10 @@
 -- The number and the index that `checkRecords` gives are those of the first record that offends after those before it (`offence`), and
 -- it gives none exactly where no record offends (`no-offence`): both from what it gives (`verdict`), by induction on the list with the
 -- directions in force, and since the first is one. An offence has the number 11, 7, 8 or 9 (`numbers`).
-use Prim.Native.Nat.{ℕ, zero, suc, _+_, _<_}
-use native.Mathlib.Omega.{arith}
-use mathlib.Core.Path.{_≡_, refl, sym, ap, ap₂, _∙_, subst}
-use mathlib.Core.Bool.{Bool, _&&_}
-use mathlib.Core.List.{List, [], _∷_}
-use mathlib.Core.Option.{Option, none, some}
-use mathlib.Core.Logic.{_↔_, _⊎_, inl, inr}
-use lib.ListN.{getD, take}
-use lib.Dec.{leb, ltb}
-use borrow.Author.Tests.{ltb-true}
-use Rattle.base.specs.Choice.{pick}
+use Rattle.element.proofs.Names.{ℕ, zero, suc, _+_, _<_, arith, _≡_, refl, sym, ap, ap₂, _∙_, subst, Bool, _&&_, List, [], _∷_, Option, none, some}
+use Rattle.element.proofs.Names.{_↔_, _⊎_, inl, inr, getD, take, leb, ltb, ltb-true, pick, UnitRecord, clash, test, pick-by, cond-by, tested, undirected}
+use Rattle.element.proofs.Names.{writtenOf, deeperOf, begunOf, revertedOf, stepOf, Directions, Step, Goes, Stops}
 use Rattle.base.specs.Refusal as refusal
-use Rattle.base.specs.declared.Unit.{Unit as UnitRecord}
-use Rattle.base.proofs.Bools.{clash, test, pick-by, cond-by, tested}
-use Rattle.state.specs.Directions.{undirected, writtenOf, deeperOf, begunOf, revertedOf, stepOf}
-use Rattle.state.specs.declared.directions.Directions.{Directions}
-use Rattle.state.specs.declared.directions.Step.{Step}
-use Rattle.state.specs.declared.directions.Step.the-variants.{Goes, Stops}
 use Rattle.grammar.specs.Units.{TextUnit, char, space, control, ext, good}
 use Rattle.grammar.specs.Records.{unitRead}
 use Rattle.shortest.specs.Records.{own, fault, Finding, fine, faulty, onStep, checkRecords}

@@ -1,23 +1,11 @@
 -- The writer's answer is that of rule N6, exactly (`outcome`): each test of `writerAnswer` is one case. From it: what each
 -- number means (`accepted-where`, `work-room-where`, `too-long-where`, `no-room-where`), the counts and places (`accepted-answer`,
 -- `refused-count`, `refused-place`), and what the output holds (`refused-output`, `accepted-output`).
-use Prim.Native.Nat.{ℕ, _≤_, _<_}
-use native.Mathlib.Omega.{arith}
-use mathlib.Core.Path.{_≡_, refl, sym, _∙_, subst}
-use mathlib.Core.Bool.{cond}
-use mathlib.Core.List.{List}
-use mathlib.Core.Option.{Option, none, some, Option·none-ne-some}
-use mathlib.Core.Logic.{_↔_, inl, inr, ⊎-elim}
-use lib.ListN.{length, getD, take}
-use lib.Dec.{ltb}
-use borrow.Author.Tests.{ltb-true, ltb-false, le-ltb, lt-ltb}
-use Rattle.base.specs.Answers.{answer, refusedAt}
+use Rattle.element.proofs.Names.{ℕ, _≤_, _<_, arith, _≡_, refl, sym, _∙_, subst, cond, List, Option, none, some, _↔_, inl, inr, ⊎-elim, length}
+use Rattle.element.proofs.Names.{getD, take, ltb, ltb-true, ltb-false, le-ltb, lt-ltb, answer, refusedAt, Answer, UnitRecord, cond-by, undirected}
+use mathlib.Core.Option.{Option·none-ne-some}
 use Rattle.base.specs.Limit as limit
 use Rattle.base.specs.Refusal as refusal
-use Rattle.base.specs.declared.Answer.{Answer}
-use Rattle.base.specs.declared.Unit.{Unit as UnitRecord}
-use Rattle.base.proofs.Bools.{cond-by}
-use Rattle.state.specs.Directions.{undirected}
 use Rattle.grammar.specs.Units.{TextUnit}
 use Rattle.shortest.specs.Writing.{shortestCount}
 use Rattle.shortest.specs.Demand.{writeAnswer}

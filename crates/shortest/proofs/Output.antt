@@ -2,23 +2,11 @@
 -- its first place and the rest stays (`accepted-output`), which is the string of rule W4 (`output-chosen`, `output-one`) and
 -- is accepted and reads as the list (`output-read`). Its length stays (`output-length`). And 1 for the writing comes exactly where every
 -- string of the reading is over the limit (`over-limit`).
-use Prim.Native.Nat.{ℕ, _<_}
-use native.Mathlib.Omega.{arith}
-use mathlib.Core.Path.{_≡_, sym, ap, ap₂, _∙_, subst}
-use mathlib.Core.List.{List}
-use mathlib.Core.Option.{Option, none, some, Option·some-injective}
-use mathlib.Core.Logic.{_↔_}
-use lib.ListN.{length, take, drop, length-append, length-drop}
-use lib.Seq.{take-append-seam}
-use lib.Dec.{eqb}
-use borrow.Author.Tests.{eqb-true, eqb-false, eq-eqb, ne-eqb}
+use Rattle.element.proofs.Names.{ℕ, _<_, arith, _≡_, sym, ap, ap₂, _∙_, subst, List, Option, none, some, Option·some-injective, _↔_, length, take}
+use Rattle.element.proofs.Names.{drop, length-append, length-drop, take-append-seam, eqb, eqb-true, eqb-false, eq-eqb, ne-eqb, Answer, UnitRecord, test}
+use Rattle.element.proofs.Names.{Standing, fresh, undirected}
 use Rattle.base.specs.Limit as limit
 use Rattle.base.specs.Refusal as refusal
-use Rattle.base.specs.declared.Answer.{Answer}
-use Rattle.base.specs.declared.Unit.{Unit as UnitRecord}
-use Rattle.base.proofs.Bools.{test}
-use Rattle.state.specs.State.{Standing, fresh}
-use Rattle.state.specs.Directions.{undirected}
 use Rattle.grammar.specs.Units.{TextUnit}
 use Rattle.grammar.specs.Reading.{Octets, ReadAs}
 use Rattle.grammar.proofs.Agrees.{fresh-legal}

@@ -1,24 +1,11 @@
 -- A list of records has no offending record exactly where some string, its length aside, reads as it (`no-offence-read`): the units of
 -- such a list are good and keep the direction rule (`fine-units`, `units-fine`), so that their writing is such a string. Where its
 -- cost is within the limit it is accepted (`list-written`), and a list that some accepted string reads as is such a list (`read-list`).
-use Prim.Native.Nat.{ℕ, suc, _≤_}
-use native.Mathlib.Omega.{arith}
-use mathlib.Core.Path.{_≡_, refl, ap, ap₂, subst}
-use mathlib.Core.Bool.{true}
-use mathlib.Core.List.{List, [], _∷_}
-use mathlib.Core.Option.{Option, none, some, Option·some-injective}
-use mathlib.Core.Logic.{_↔_}
-use lib.ListN.{length, take, drop, take-append-drop}
-use lib.Dec.{eqb, ltb}
+use Rattle.element.proofs.Names.{ℕ, suc, _≤_, arith, _≡_, refl, ap, ap₂, subst, true, List, [], _∷_, Option, none, some, Option·some-injective}
+use Rattle.element.proofs.Names.{_↔_, length, take, drop, eqb, ltb, UnitRecord, off, clash, test, cond-by, fresh, undirected, Directions, Step, Goes, Stops}
+use lib.ListN.{take-append-drop}
 use Rattle.base.specs.Kind as kind
 use Rattle.base.specs.Limit as limit
-use Rattle.base.specs.declared.Unit.{Unit as UnitRecord}
-use Rattle.base.proofs.Bools.{off, clash, test, cond-by}
-use Rattle.state.specs.State.{fresh}
-use Rattle.state.specs.Directions.{undirected}
-use Rattle.state.specs.declared.directions.Directions.{Directions}
-use Rattle.state.specs.declared.directions.Step.{Step}
-use Rattle.state.specs.declared.directions.Step.the-variants.{Goes, Stops}
 use Rattle.grammar.specs.Units.{TextUnit, space, unitOf, good}
 use Rattle.grammar.specs.Reading.{direct, Octets, ReadAs}
 use Rattle.grammar.proofs.Rule.{directed, passes, direction-rule}

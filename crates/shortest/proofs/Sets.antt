@@ -1,11 +1,6 @@
 -- Rules of all fifteen sets, each by one computed test that is carried to each set (`up-to`).
-use Prim.Native.Nat.{ℕ, _<_}
-use mathlib.Core.Path.{_≡_, refl}
-use mathlib.Core.Bool.{true, false, _||_, _&&_, not}
-use lib.Dec.{eqb}
-use Rattle.base.proofs.Bools.{up-to, up-to-where}
-use Rattle.charset.specs.declared.Side.the-variants.{GL, GR}
-use Rattle.charset.specs.Charsets.{no-set, mayUse, allowed, formOf}
+use Rattle.element.proofs.Names.{ℕ, _<_, _≡_, refl, true, false, _||_, _&&_, not, eqb, up-to, GL, GR, no-set, mayUse, allowed, formOf}
+use Rattle.base.proofs.Bools.{up-to-where}
 use Rattle.charset.proofs.Laws.{allowed-below}
 use Rattle.grammar.specs.Units.{wide}
 

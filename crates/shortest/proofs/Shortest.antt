@@ -1,16 +1,8 @@
 -- The writing of good units that keep the direction rule is accepted and reads as them (`writing-read`), no accepted string of that
 -- reading is shorter than its cost (`no-shorter`), and demand 3 holds of the answer and the output over units (`demand3`).
-use Prim.Native.Nat.{ℕ, _≤_}
-use native.Mathlib.Omega.{arith}
-use mathlib.Core.Path.{refl, sym, ap, _∙_, subst}
-use mathlib.Core.List.{List, _++_}
-use lib.ListN.{length, take, drop, length-append}
-use lib.Seq.{take-append-seam}
-use lib.Dec.{ltb}
+use Rattle.element.proofs.Names.{ℕ, _≤_, arith, refl, sym, ap, _∙_, subst, List, _++_, length, take, drop, length-append, take-append-seam, ltb, clash}
+use Rattle.element.proofs.Names.{test, tested, fresh, Sets}
 use Rattle.base.specs.Limit as limit
-use Rattle.base.proofs.Bools.{clash, test, tested}
-use Rattle.state.specs.State.{fresh}
-use Rattle.state.specs.declared.Sets.{Sets}
 use Rattle.grammar.specs.Units.{TextUnit, octets, designation}
 use Rattle.grammar.specs.Grammar.{Reads, done, designate, show, Lawful, Accepted}
 use Rattle.grammar.specs.Reading.{ReadAs}

@@ -1,20 +1,8 @@
 -- Records that are alike in the fields that their kind uses stand for the same unit (`same-unit`), so that lists of such records have the
 -- same reading, answer and output (`same-reading`, `same-answer`, `same-output`).
-use Prim.Native.Nat.{ℕ, suc}
-use mathlib.Core.Path.{_≡_, refl, sym, ap, ap₂, _∙_}
-use mathlib.Core.List.{List}
-use mathlib.Core.Option.{Option, none}
-use mathlib.Core.Logic.{inl, inr}
-use lib.ListN.{length}
-use lib.Dec.{eqb, ltb}
-use borrow.Author.Tests.{eqb-true}
+use Rattle.element.proofs.Names.{ℕ, suc, _≡_, refl, sym, ap, ap₂, _∙_, List, Option, none, inl, inr, length, eqb, ltb, eqb-true, UnitRecord, test}
+use Rattle.element.proofs.Names.{undirected, Directions, Step, Goes, Stops}
 use Rattle.base.specs.Kind as kind
-use Rattle.base.specs.declared.Unit.{Unit as UnitRecord}
-use Rattle.base.proofs.Bools.{test}
-use Rattle.state.specs.Directions.{undirected}
-use Rattle.state.specs.declared.directions.Directions.{Directions}
-use Rattle.state.specs.declared.directions.Step.{Step}
-use Rattle.state.specs.declared.directions.Step.the-variants.{Goes, Stops}
 use Rattle.grammar.specs.Units.{TextUnit, unitOf}
 use Rattle.grammar.specs.Records.{readable, unitRead, prepend, listReading}
 use Rattle.shortest.specs.Records.{fault, onStep, checkRecords, writerAnswer, writerOutput}

@@ -1,20 +1,8 @@
 -- The writing of good units is a string of octets, each below 256, where the octets of their extended segments are: so it is of every
 -- unit's octets and every designation's.
-use Prim.Native.Nat.{ℕ, zero, suc, _+_, _/_, _%_, _≤_, _<_}
-use native.Mathlib.Omega.{arith}
-use mathlib.Core.Path.{_≡_, refl}
-use mathlib.Core.Bool.{Bool, true, _&&_}
-use mathlib.Core.List.{List, [], _∷_, _++_}
-use mathlib.Core.Option.{Option, none, some}
-use lib.Dec.{eqb, ltb}
-use lib.ListN.{length}
-use Rattle.base.proofs.Bools.{test, and-right, from-tests}
-use Rattle.charset.specs.declared.Side.{Side}
-use Rattle.charset.specs.declared.Side.the-variants.{GL, GR}
-use Rattle.charset.specs.Charsets.{form-94x94, formOf}
+use Rattle.element.proofs.Names.{ℕ, zero, suc, _+_, _/_, _%_, _≤_, _<_, arith, _≡_, refl, Bool, true, _&&_, List, [], _∷_, _++_, Option, none, some}
+use Rattle.element.proofs.Names.{eqb, ltb, length, test, and-right, from-tests, Side, GL, GR, form-94x94, formOf, Standing, on, Sets}
 use Rattle.charset.proofs.Laws.{row-past, by-rows}
-use Rattle.state.specs.State.{Standing, on}
-use Rattle.state.specs.declared.Sets.{Sets}
 use Rattle.grammar.specs.Units.{TextUnit, char, space, control, tab, newline, ltr, rtl, revert, ext}
 use Rattle.grammar.specs.Units.{wide, top, octets, designation, codeUsed, good}
 use Rattle.grammar.specs.Grammar.{Reads, done, designate, show}

@@ -55,13 +55,13 @@ least free f s = f s
 least (either a b) f s = cond (met (either a b) s) (f s) (min (via a f s) (via b f s))
 
 -- the octets of a unit, the same on either side
-unfoldable pub size : TextUnit → ℕ
-size u = length (octets GL u)
+unfoldable pub unitSize : TextUnit → ℕ
+unitSize u = length (octets GL u)
 
 -- the octets of the shortest writing from sets in force
 unfoldable pub cost : List TextUnit → Sets → ℕ
 cost [] s = 0
-cost (u ∷ us) s = size u + least (need u) (cost us) s
+cost (u ∷ us) s = unitSize u + least (need u) (cost us) s
 
 -- what to designate for a need: nothing where it is met, and the preferred one where it costs no more
 unfoldable pub choose : Need → (Sets → ℕ) → Sets → Option Standing

@@ -1,29 +1,13 @@
 -- A designation that is found by its octets is the reader's element: where its set is one of the fifteen, the final octet is one that the
 -- table has, and the octets before it lead to its form.
-use Prim.Native.Nat.{ℕ, _+_, _-_, _<_, _≤_}
-use native.Mathlib.Omega.{arith}
-use mathlib.Core.Path.{_≡_, refl, ap, sym, _∙_, subst}
-use mathlib.Core.Bool.{Bool, true, false}
-use mathlib.Core.List.{List, [], _∷_}
-use lib.Dec.{eqb}
-use lib.ListN.{length, getD}
-use borrow.Author.Tests.{eqb-true}
-use Rattle.base.specs.Choice.{pick, from}
-use Rattle.base.proofs.Ladder.{on-eq, on-ne, on-lt, on-ge, from-octet, from-length}
-use Rattle.charset.specs.Charsets.{form-94, form-96, form-94x94, no-set, setOf}
-use Rattle.charset.specs.declared.Side.{Side}
-use Rattle.charset.specs.declared.Side.the-variants.{GL, GR}
+use Rattle.element.proofs.Names.{ℕ, _+_, _-_, _<_, _≤_, arith, _≡_, refl, ap, sym, _∙_, subst, Bool, true, false, List, [], _∷_, eqb, length, getD}
+use Rattle.element.proofs.Names.{eqb-true, pick, from, on-eq, on-ne, on-lt, on-ge, from-octet, from-length, form-96, form-94x94, no-set, setOf, Side, GL, GR}
+use Rattle.element.proofs.Names.{next, designatedOf, Sets, State, Shape, Designates, Silent}
+use Rattle.charset.specs.Charsets.{form-94}
 use Rattle.charset.proofs.Laws.{final-range}
 use Rattle.control.specs.Escape.{designatesOf, designationOf, multiOctetOf, escapeOf}
 use Rattle.element.specs.Element.{shapeOf, directedOf, elementOf}
 use Rattle.element.specs.Start.{startOf, begunBy}
-use Rattle.state.specs.Elements.{next}
-use Rattle.state.specs.State.{designatedOf}
-use Rattle.state.specs.declared.Sets.{Sets}
-use Rattle.state.specs.declared.State.{State}
-use Rattle.state.specs.declared.elements.Shape.{Shape}
-use Rattle.state.specs.declared.elements.Shape.the-variants.{Designates}
-use Rattle.state.specs.declared.elements.Element.the-variants.{Silent}
 use Rattle.stretch.specs.Designation as quick
 use Rattle.stretch.specs.declared.designation.Designation.{Designation}
 
@@ -87,8 +71,8 @@ no : {t : List ℕ} {s : Sets} → Is t s quick.absent
 no = is {d = quick.absent} (λ h. absurd (omega arith))
 
 module _ (t : List ℕ) (s : Sets) where
-  multi-octet : (c d : ℕ) → Is (0x1B ∷ 0x24 ∷ c ∷ d ∷ t) s (quick.multiOctetOf c d)
-  unfolding quick.multiOctetOf shapeOf startOf begunBy escapeOf multiOctetOf next pick
+  multi-octet : (c d : ℕ) → Is (0x1B ∷ 0x24 ∷ c ∷ d ∷ t) s (quick.multiOctetAt c d)
+  unfolding quick.multiOctetAt shapeOf startOf begunBy escapeOf multiOctetOf next pick
   multi-octet c d =
       by (eqb c 0x28) (λ e. rw (eqb-true c 0x28 e) (is {d = quick.byFinalOf 4 form-94x94 GL d} (λ h. four-octets form-94x94 GL d h refl t)))
       (λ _. by (eqb c 0x29) (λ e. rw (eqb-true c 0x29 e) (is {d = quick.byFinalOf 4 form-94x94 GR d} (λ h. four-octets form-94x94 GR d h refl t))) (λ _. no))

@@ -1,25 +1,15 @@
 -- Units of one width that stand one after the other are elements one by one: the law is stated once, over the width, and of the elements
 -- themselves. Where each of the tests that pass says that an element of `suc w` octets starts there and leaves the state, as many tests as
 -- pass are as many elements, and then those after.
-use Prim.Native.Nat.{ℕ, zero, suc, _+_, _*_, _-_, _≤_, zero-le}
-use native.Mathlib.Omega.{arith}
+use Rattle.element.proofs.Names.{ℕ, zero, suc, _+_, _*_, _-_, _≤_, zero-le, arith, _≡_, refl, ap, sym, _∙_, subst, Bool, true, false, List, [], _∷_}
+use Rattle.element.proofs.Names.{length, pick, from, Answer, from-length, State, Part, Element, Found}
 use native.Mathlib.Nat.{zero-add, mul-suc, suc-add}
-use mathlib.Core.Path.{_≡_, refl, ap, sym, _∙_, subst}
-use mathlib.Core.Bool.{Bool, true, false}
-use mathlib.Core.List.{List, [], _∷_}
-use lib.ListN.{length}
-use Rattle.base.specs.Choice.{pick, from}
-use Rattle.base.specs.declared.Answer.{Answer}
-use Rattle.base.proofs.Ladder.{from-from, from-length}
+use Rattle.base.proofs.Ladder.{from-from}
 use Rattle.element.specs.Element.{elementOf}
 use Rattle.element.proofs.Sizes.{found, element-size, of-passed}
 use Rattle.grammar.specs.Reading.{Elements, found-at, size, onward, elements, answerOf}
 use Rattle.grammar.proofs.Elements.{elements-drop}
 use Rattle.grammar.proofs.Places.{ahead}
-use Rattle.state.specs.declared.State.{State}
-use Rattle.state.specs.declared.elements.Part.{Part}
-use Rattle.state.specs.declared.elements.Element.{Element}
-use Rattle.state.specs.declared.elements.Element.the-variants.{Found}
 use Rattle.stretch.specs.Characters.{leadOf}
 
 -- n units from a place on, each of which leaves the state, and then other elements

@@ -1,14 +1,8 @@
 -- A turn of the loops over a stretch: what is left to pass is one unit less, or nothing.
-use Prim.Native.Nat.{ℕ, suc, _+_, _*_, _-_, _/_, _%_, _<_, _≤_}
-use native.Mathlib.Omega.{arith}
-use mathlib.Core.Path.{_≡_, refl, ap, sym, _∙_}
-use mathlib.Core.Bool.{Bool, true, false, not}
-use mathlib.Core.List.{List, [], _∷_}
-use lib.ListN.{length, getD}
-use borrow.Author.Tests.{lt-ltb, le-ltb}
-use Rattle.base.specs.Choice.{pick, from}
-use Rattle.base.proofs.Ladder.{ladder, on-true, on-false, on-eq, on-ne, on-ge, from-octet, from-end, from-length}
-use Rattle.charset.specs.Charsets.{form-94, form-96, form-94x94}
+use Rattle.element.proofs.Names.{ℕ, suc, _+_, _*_, _-_, _/_, _%_, _<_, _≤_, arith, _≡_, refl, ap, sym, _∙_, Bool, true, false, not, List, [], _∷_}
+use Rattle.element.proofs.Names.{length, getD, lt-ltb, le-ltb, pick, from, ladder, on-true, on-false, on-eq, on-ne, on-ge, from-octet, from-end, from-length}
+use Rattle.element.proofs.Names.{form-96, form-94x94}
+use Rattle.charset.specs.Charsets.{form-94}
 use Rattle.element.proofs.Starts.{graphic}
 use Rattle.stretch.specs.Characters.{graphicOn, singleOf, leadOf, oneAt, twoAt, singlesOf, pairsOf, Within, Four, Along, Spans, Filled, glOctet, grOctet}
 

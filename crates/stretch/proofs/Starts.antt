@@ -1,37 +1,18 @@
 -- Each test of the stretches says which class the octet is of (`single-start`, `pair-start`), and where a class starts a unit it is an element
 -- that leaves the state: text in a state that text leaves as it is, a tab or newline in any.
-use Prim.Native.Nat.{ℕ, _+_, _*_, _/_, _%_, _<_, _≤_}
-use native.Mathlib.Omega.{arith}
+use Rattle.element.proofs.Names.{ℕ, _+_, _*_, _/_, _%_, _<_, _≤_, arith, _≡_, refl, ap, sym, _∙_, subst, Bool, true, false, false≢true, List, []}
+use Rattle.element.proofs.Names.{_∷_, _⊎_, inl, inr, ⊎-elim, eqb, ltb, eqb-true, eq-eqb, ltb-true, ltb-false, leb-true, pick, on-true, on-false}
+use Rattle.element.proofs.Names.{pick-last, form-96, form-94x94, formOf, Side, GL, GR, directions, writtenOf, stepOf, part, next, get, Sets, State, Directions}
+use Rattle.element.proofs.Names.{Goes, Part, Found, Shape, Gives}
 use native.Mathlib.Nat.{eq-or-lt-of-le}
-use mathlib.Core.Path.{_≡_, refl, ap, sym, _∙_, subst}
-use mathlib.Core.Bool.{Bool, true, false, false≢true}
-use mathlib.Core.List.{List, [], _∷_}
-use mathlib.Core.Logic.{_⊎_, inl, inr, ⊎-elim}
-use lib.Dec.{eqb, ltb}
-use borrow.Author.Tests.{eqb-true, eq-eqb, ltb-true, ltb-false, leb-true}
-use Rattle.base.specs.Choice.{pick}
 use Rattle.base.specs.Kind as kind
-use Rattle.base.proofs.Ladder.{on-true, on-false}
-use Rattle.base.proofs.Bools.{pick-both, pick-last}
-use Rattle.charset.specs.Charsets.{form-94, form-96, form-94x94, formOf}
-use Rattle.charset.specs.declared.Side.{Side}
-use Rattle.charset.specs.declared.Side.the-variants.{GL, GR}
+use Rattle.base.proofs.Bools.{pick-both}
+use Rattle.charset.specs.Charsets.{form-94}
 use Rattle.element.specs.Element.{shapeOf, steppedOf, directedOf, elementOf}
 use Rattle.element.specs.Start.{Start, usedIn, startOf, leftStart, startIn, begunBy}
 use Rattle.element.specs.Start as start
 use Rattle.element.proofs.Starts.{On, wideIn, graphic-low, graphic, graphic-used, all-used, starts-one, starts-two}
 use Rattle.grammar.specs.Reading.{size}
-use Rattle.state.specs.Directions.{directions, writtenOf, stepOf}
-use Rattle.state.specs.Elements.{part, next}
-use Rattle.state.specs.State.{get}
-use Rattle.state.specs.declared.Sets.{Sets}
-use Rattle.state.specs.declared.State.{State}
-use Rattle.state.specs.declared.directions.Directions.{Directions}
-use Rattle.state.specs.declared.directions.Step.the-variants.{Goes}
-use Rattle.state.specs.declared.elements.Part.{Part}
-use Rattle.state.specs.declared.elements.Element.the-variants.{Found}
-use Rattle.state.specs.declared.elements.Shape.{Shape}
-use Rattle.state.specs.declared.elements.Shape.the-variants.{Gives}
 use Rattle.text.specs.Text.{graphicOf, secondOctetOf}
 use Rattle.stretch.specs.Characters.{glOctet, graphicOn, grOctet, singleOf, oneAt, twoAt, settledOf}
 use Rattle.stretch.proofs.Law.{One}

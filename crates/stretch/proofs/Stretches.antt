@@ -1,20 +1,8 @@
 -- A stretch's octets are as many elements as it has units (`stretch-ahead`): each of the three kinds of stretch is the law of its width.
-use Prim.Native.Nat.{ℕ, _*_, _<_, _≤_}
-use native.Mathlib.Omega.{arith}
-use mathlib.Core.Path.{_≡_, refl, sym, subst}
-use mathlib.Core.Bool.{Bool, true, false}
-use mathlib.Core.List.{List, _∷_}
-use lib.Dec.{eqb, ltb}
-use lib.ListN.{length}
-use Rattle.base.specs.Choice.{pick, from}
-use Rattle.base.proofs.Ladder.{on-lt, on-ge, from-end, from-length}
-use Rattle.charset.specs.Charsets.{form-94x94, formOf}
-use Rattle.charset.specs.declared.Side.{Side}
-use Rattle.charset.specs.declared.Side.the-variants.{GL, GR}
+use Rattle.element.proofs.Names.{ℕ, _*_, _<_, _≤_, arith, _≡_, refl, sym, subst, Bool, true, false, List, _∷_, eqb, ltb, length, pick, from, on-lt}
+use Rattle.element.proofs.Names.{on-ge, from-end, from-length, form-94x94, formOf, Side, GL, GR, get, State}
 use Rattle.element.specs.Element.{elementOf}
 use Rattle.element.proofs.Starts.{wideIn}
-use Rattle.state.specs.State.{get}
-use Rattle.state.specs.declared.State.{State}
 use Rattle.stretch.specs.Characters.{leadOf, oneAt, twoAt, singlesOf, pairsOf, settledOf, stretch, twosOf, byFormsOf, stretchAt}
 use Rattle.stretch.specs.declared.characters.Stretch.{Stretch}
 use Rattle.stretch.proofs.Law.{One, Ahead, leads, lead-fits}

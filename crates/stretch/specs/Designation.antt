@@ -1,4 +1,4 @@
--- The designation at the start of octets, where there are four: what the code finds by its octets. That it is the reader's is proved
+-- The designationWith at the start of octets, where there are four: what the code finds by its octets. That it is the reader's is proved
 -- (`designation-silent`), so that nothing here has to be believed.
 use Prim.Native.Nat.{ℕ}
 use mathlib.Core.List.{List, [], _∷_}
@@ -9,24 +9,24 @@ use Rattle.charset.specs.declared.Side.{Side}
 use Rattle.charset.specs.declared.Side.the-variants.{GL, GR}
 use Rattle.stretch.specs.declared.designation.Designation.{Designation}
 
-abbrev pub designation : ℕ → Side → ℕ → Designation
-designation octets side set = record { octets = octets; side = side; set = set }
+abbrev pub designationWith : ℕ → Side → ℕ → Designation
+designationWith octets side set = record { octets = octets; side = side; set = set }
 
 abbrev pub absent : Designation
-absent = designation 0 GL no-set
+absent = designationWith 0 GL no-set
 
 abbrev pub byFinalOf : ℕ → ℕ → Side → ℕ → Designation
-byFinalOf octets form side last = designation octets side (setOf form side last)
+byFinalOf octets form side last = designationWith octets side (setOf form side last)
 
 -- the octets after 1B 24
-unfoldable pub multiOctetOf : ℕ → ℕ → Designation
-multiOctetOf b last =
+unfoldable pub multiOctetAt : ℕ → ℕ → Designation
+multiOctetAt b last =
     pick (eqb b 0x28) (byFinalOf 4 form-94x94 GL last) (pick (eqb b 0x29) (byFinalOf 4 form-94x94 GR last) absent)
 
 -- the three octets after 1B
 unfoldable pub sequenceOf : ℕ → ℕ → ℕ → Designation
 sequenceOf b c d =
-    pick (eqb b 0x24) (multiOctetOf c d)
+    pick (eqb b 0x24) (multiOctetAt c d)
     (pick (eqb b 0x28) (byFinalOf 3 form-94 GL c)
     (pick (eqb b 0x29) (byFinalOf 3 form-94 GR c) (pick (eqb b 0x2D) (byFinalOf 3 form-96 GR c) absent)))
 

@@ -1,7 +1,7 @@
 // Designations, found by their octets.
 ghost use mathlib.Core.Path.{_≡_};
 ghost use Rattle.base.specs.Choice.{from};
-ghost use Rattle.stretch.specs.Designation.{absent, byFinalOf, multiOctetOf, sequenceOf, designationAt};
+ghost use Rattle.stretch.specs.Designation.{absent, byFinalOf, multiOctetAt, sequenceOf, designationAt};
 use charset::FORM_94;
 use charset::FORM_94X94;
 use charset::FORM_96;
@@ -39,7 +39,7 @@ fn by_final(octets: usize, form: u8, side: Side, last: u8) -> Designation
 
 // The octets after 1B 24.
 fn multi_octet(b: u8, last: u8) -> Designation
-    ensures { λ r. ⌜ r ≡ multiOctetOf b last ⌝ }
+    ensures { λ r. ⌜ r ≡ multiOctetAt b last ⌝ }
 {
     match b {
         0x28 => by_final(4, FORM_94X94, Side::GL, last),

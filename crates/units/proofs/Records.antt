@@ -1,26 +1,14 @@
 -- The records of a string's units: their reading, with the string as the octets of its segments, is the string's (`records-read`); their
 -- fields that mean nothing are 0 (`records-meant`); and there are as many as an accepted string's answer counts (`records-count`). Each
 -- goes by induction on the elements of the string.
-use Prim.Native.Nat.{ℕ, _+_, _≤_, _<_}
-use native.Mathlib.Omega.{arith}
-use native.Mathlib.Numerals.{add-one}
-use mathlib.Core.Path.{_≡_, refl, ap, ap₂, sym, _∙_}
-use mathlib.Core.Bool.{Bool, true, false, cond}
-use mathlib.Core.List.{List, [], _∷_}
-use mathlib.Core.Option.{Option, none, some}
-use lib.Dec.{eqb, leb, ltb}
-use lib.ListN.{length, take, drop}
+use Rattle.element.proofs.Names.{ℕ, _+_, _≤_, _<_, arith, add-one, _≡_, refl, ap, ap₂, sym, _∙_, Bool, true, false, cond, List, [], _∷_, Option}
+use Rattle.element.proofs.Names.{none, some, eqb, leb, ltb, length, take, drop, lt-ltb, le-ltb, le-leb, ne-eqb, answer, refusedAt, pick, from, UnitRecord}
+use Rattle.element.proofs.Names.{State, Part}
 use lib.Seq.{drop-drop}
-use borrow.Author.Tests.{lt-ltb, le-ltb, le-leb, ne-eqb}
-use Rattle.base.specs.Answers.{answer, refusedAt}
-use Rattle.base.specs.Choice.{pick, from}
 use Rattle.base.specs.Kind as kind
 use Rattle.base.specs.Limit as limit
 use Rattle.base.specs.Refusal as refusal
-use Rattle.base.specs.declared.Unit.{Unit as UnitRecord}
 use Rattle.element.specs.Meant.{Meant, with-set, with-none, with-code, MeantPart}
-use Rattle.state.specs.declared.State.{State}
-use Rattle.state.specs.declared.elements.Part.{Part}
 use Rattle.grammar.specs.Units.{TextUnit, unitOf}
 use Rattle.grammar.specs.Reading.{Elements, size, elementsOf, answerOf, checkOf, unitAt, unitsOf, readingOf}
 use Rattle.grammar.specs.Records.{readable, unitRead, prepend, listReading}

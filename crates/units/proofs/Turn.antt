@@ -1,15 +1,8 @@
 -- A turn of the loop of `next_unit`, on plain values: the element at a place gives what all elements from there give, or those after it do.
-use Prim.Native.Nat.{ℕ, _+_}
-use mathlib.Core.Path.{_≡_, sym, ap}
-use mathlib.Core.List.{List}
-use Rattle.base.specs.Choice.{from}
+use Rattle.element.proofs.Names.{ℕ, _+_, _≡_, sym, ap, List, from, State, Part, Element, End, Refused, Silent, Found}
 use Rattle.base.specs.Refusal as refusal
 use Rattle.element.specs.Element.{elementOf}
 use Rattle.element.proofs.Sizes.{silent, found}
-use Rattle.state.specs.declared.State.{State}
-use Rattle.state.specs.declared.elements.Part.{Part}
-use Rattle.state.specs.declared.elements.Element.{Element}
-use Rattle.state.specs.declared.elements.Element.the-variants.{End, Refused, Silent, Found}
 use Rattle.grammar.specs.Reading.{size}
 use Rattle.grammar.proofs.Places.{ahead, at-end, at-refused, at-passed}
 use Rattle.units.specs.Records.{recordOf}

@@ -1,14 +1,7 @@
 -- The answer by the length of the list and by how far it is checked.
-use Prim.Native.Nat.{ℕ, _≤_, _<_}
-use mathlib.Core.Path.{_≡_}
-use mathlib.Core.List.{List}
-use lib.ListN.{length}
-use borrow.Author.Tests.{lt-ltb, le-ltb}
-use Rattle.base.specs.Answers.{refusedAt}
-use Rattle.base.specs.Choice.{pick}
+use Rattle.element.proofs.Names.{ℕ, _≤_, _<_, _≡_, List, length, lt-ltb, le-ltb, refusedAt, pick, Directions}
 use Rattle.base.specs.Limit as limit
 use Rattle.base.specs.Refusal as refusal
-use Rattle.state.specs.declared.directions.Directions.{Directions}
 use Rattle.check_list.specs.declared.Progress.{Progress}
 use Rattle.check_list.specs.declared.Progress.the-variants.{Fine, Faulty}
 use Rattle.emit.specs.Emit.{rowsAnswer, rowsOutput}

@@ -1,22 +1,11 @@
 -- The check record by record is that of the whole list, and the rows of a list with no offending record hold its units.
-use Prim.Native.Nat.{ℕ, zero, suc, _+_, _*_, _/_, _≤_, _<_}
-use native.Mathlib.Omega.{arith}
-use mathlib.Core.Path.{_≡_, refl, sym, ap, ap₂, _∙_, subst}
-use mathlib.Core.Bool.{Bool, true, false}
-use mathlib.Core.List.{List, [], _∷_}
-use mathlib.Core.Logic.{_⊎_, inl, inr, ⊎-elim}
-use mathlib.Core.Option.{Option, none, some, Option·none-ne-some, Option·some-injective}
-use lib.Dec.{ltb, leb}
-use lib.ListN.{length, getD, set, drop, length-set, drop-of-length-le}
-use lib.Seq.{sets, length-sets, getD-set-same, getD-set-other, drop-cons}
-use borrow.Author.Tests.{ltb-true, ltb-false, lt-ltb}
-use Rattle.base.specs.Choice.{pick}
+use Rattle.element.proofs.Names.{ℕ, zero, suc, _+_, _*_, _/_, _≤_, _<_, arith, _≡_, refl, sym, ap, ap₂, _∙_, subst, Bool, true, false, List, []}
+use Rattle.element.proofs.Names.{_∷_, _⊎_, inl, inr, ⊎-elim, Option, none, some, Option·some-injective, ltb, leb, length, getD, set, drop, length-set}
+use Rattle.element.proofs.Names.{sets, ltb-true, ltb-false, lt-ltb, pick, UnitRecord, undirected, Directions, Step, Goes, Stops}
+use mathlib.Core.Option.{Option·none-ne-some}
+use lib.ListN.{drop-of-length-le}
+use lib.Seq.{length-sets, getD-set-same, getD-set-other, drop-cons}
 use Rattle.base.specs.Limit as limit
-use Rattle.base.specs.declared.Unit.{Unit as UnitRecord}
-use Rattle.state.specs.Directions.{undirected}
-use Rattle.state.specs.declared.directions.Directions.{Directions}
-use Rattle.state.specs.declared.directions.Step.{Step}
-use Rattle.state.specs.declared.directions.Step.the-variants.{Goes, Stops}
 use Rattle.grammar.specs.Units.{TextUnit, good}
 use Rattle.grammar.specs.Records.{unitRead, listReading, prepend}
 use Rattle.shortest.specs.Records.{fault, Finding, fine, faulty, onStep, checkRecords}

@@ -1,21 +1,8 @@
 -- The answer and the output after the list is checked and its records stand in their rows are those of the writer.
-use Prim.Native.Nat.{ℕ, _+_, _≤_, _<_}
-use native.Mathlib.Omega.{arith}
-use mathlib.Core.Path.{_≡_, refl, sym, ap, _∙_, subst}
-use mathlib.Core.Bool.{Bool, true, false, cond}
-use mathlib.Core.List.{List}
-use mathlib.Core.Logic.{_⊎_, inl, inr}
-use mathlib.Core.Option.{some}
-use lib.Dec.{ltb, eqb}
-use lib.ListN.{length, getD}
-use borrow.Author.Tests.{ltb-true, ltb-false, lt-ltb, le-ltb, le-leb, ne-eqb}
-use Rattle.base.specs.Choice.{pick}
+use Rattle.element.proofs.Names.{ℕ, _+_, _≤_, _<_, arith, _≡_, refl, sym, ap, _∙_, subst, Bool, true, false, cond, List, _⊎_, inl, inr, some, ltb}
+use Rattle.element.proofs.Names.{eqb, length, getD, ltb-true, ltb-false, lt-ltb, le-ltb, le-leb, ne-eqb, pick, Answer, UnitRecord, undirected, Directions}
 use Rattle.base.specs.Limit as limit
 use Rattle.base.specs.Refusal as refusal
-use Rattle.base.specs.declared.Answer.{Answer}
-use Rattle.base.specs.declared.Unit.{Unit as UnitRecord}
-use Rattle.state.specs.Directions.{undirected}
-use Rattle.state.specs.declared.directions.Directions.{Directions}
 use Rattle.grammar.specs.Units.{TextUnit}
 use Rattle.shortest.specs.Demand.{writeAnswer, outputAfter}
 use Rattle.grammar.specs.Records.{listReading}

@@ -1,7 +1,5 @@
 -- `line_end` stays within the text: the invariant is that `i` does, and is not before `at`.
-use borrow.Author.Needs.{needs}
-use Prim.Native.Nat.{_≤_, _-_}
-use lib.ListN.{length}
+use Rattle.element.proofs.Names.{arith, _≤_, _-_, length}
 use Rattle.answers.proofs.line_end.Statement.{statement}
 use Rattle.answers.proofs.line_end.Tie as tie
 
@@ -17,11 +15,11 @@ line-end-spec =
     (tie.spec
     Inv-loop
     μ-loop
-    (search needs)
-    (search needs)
-    (search needs)
-    (λ c. search needs)
-    (search needs)
-    (search needs)
-    (search needs)
-    (λ c. search needs))
+    (search arith)
+    (search arith)
+    (search arith)
+    (λ c. search arith)
+    (search arith)
+    (search arith)
+    (search arith)
+    (λ c. search arith))

@@ -1,10 +1,5 @@
 -- `octets_of` stores within the octets it is lent: the invariant is that `k` is at most their number, which stays.
-use borrow.Author.Needs.{needs}
-use native.Mathlib.Omega.{arith}
-use mathlib.Core.Path.{_≡_, refl, sym}
-use Prim.Native.Nat.{_≤_, _-_, _/_}
-use lib.ListN.{length, length-set}
-use lib.Seq.{length-take-le}
+use Rattle.element.proofs.Names.{arith, _≡_, refl, sym, _≤_, _-_, _/_, length, length-set, length-take-le}
 use Rattle.answers.proofs.octets_of.Statement.{statement}
 use Rattle.answers.proofs.octets_of.Tie as tie
 
@@ -15,16 +10,16 @@ abbrev μ-loop : tie.MeasureT-loop
 μ-loop line octets₀ n k₀ octets k = length octets - k
 
 returns : tie.Need-returns Inv-loop μ-loop
-returns c = (search needs, sym (length-take-le _ _ (search needs)))
+returns c = (search arith, sym (length-take-le _ _ (search arith)))
 
 loop-less : tie.Need-loop-less Inv-loop μ-loop
 loop-less c = simp length-set (omega arith)
 
 loop-again : tie.Need-loop-again Inv-loop μ-loop
-loop-again c = (simp length-set (omega arith), simp length-set (omega arith), search needs)
+loop-again c = (simp length-set (omega arith), simp length-set (omega arith), search arith)
 
 returns-2 : tie.Need-returns-2 Inv-loop μ-loop
-returns-2 c = (search needs, sym (length-take-le _ _ (search needs)))
+returns-2 c = (search arith, sym (length-take-le _ _ (search arith)))
 
 pub octets-of-spec : {M : Type 1} → statement M
 octets-of-spec =
@@ -32,18 +27,18 @@ octets-of-spec =
     (tie.spec
     Inv-loop
     μ-loop
-    (search needs)
-    (search needs)
+    (search arith)
+    (search arith)
     returns
-    (search needs)
-    (search needs)
-    (search needs)
-    (search needs)
-    (search needs)
-    (search needs)
-    (search needs)
-    (search needs)
+    (search arith)
+    (search arith)
+    (search arith)
+    (search arith)
+    (search arith)
+    (search arith)
+    (search arith)
+    (search arith)
     loop-less
     loop-again
-    (search needs)
+    (search arith)
     returns-2)

@@ -1,7 +1,5 @@
 -- `show_lines` ends: each line moves the place on, and it stays within the text.
-use borrow.Author.Needs.{needs}
-use Prim.Native.Nat.{_≤_, _-_}
-use lib.ListN.{length}
+use Rattle.element.proofs.Names.{arith, _≤_, _-_, length}
 use Rattle.answers.proofs.show_lines.Statement.{statement}
 use Rattle.answers.proofs.show_lines.Tie as tie
 
@@ -17,12 +15,12 @@ show-lines-spec =
     (tie.spec
     Inv-loop
     μ-loop
-    (search needs)
-    (search needs)
-    (search needs)
-    (search needs)
-    (search needs)
-    (search needs)
-    (search needs)
-    (search needs)
-    (λ c. search needs))
+    (search arith)
+    (search arith)
+    (search arith)
+    (search arith)
+    (search arith)
+    (search arith)
+    (search arith)
+    (search arith)
+    (λ c. search arith))

@@ -5,11 +5,9 @@ use Rattle.walks.proofs.Names.{_≡_, refl, ℕ, [], _∷_, List, length, repli
 use Rattle.walks.proofs.Names.{flft, sem, ‵, raw, _⊛_, later, _$_, !, move, keep, let-go, use1, use2, split, join, fsplit, frame, await, done, lit, Is}
 use Rattle.walks.proofs.Names.{mem, u8, RefT, sliceVal, finally, nothing}
 use Rattle.walks.proofs.Names as kit
-use lib.Dec.{lit<}
+use Rattle.element.proofs.Names.{lit<, Answer, UnitRecord}
 use denote.Array.{Array, array-vals, array-lawful, array-makes, arrayVal}
 use denote.Struct.Laws as LL
-use Rattle.base.specs.declared.Answer.{Answer}
-use Rattle.base.specs.declared.Unit.{Unit as UnitRecord}
 use Rattle.base.proofs.Unit as U
 use Rattle.base.proofs.Unit.Laws as U′
 use Rattle.base.proofs.Answer as N

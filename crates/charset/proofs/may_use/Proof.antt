@@ -1,5 +1,5 @@
 -- `charset::may_use` meets its contract, by what it calls for each side.
-use borrow.Author.Needs.{needs}
+use native.Mathlib.Omega.{arith}
 use Rattle.charset.proofs.may_use.Statement.{statement}
 use Rattle.charset.proofs.may_use.Tie as tie
 
@@ -11,4 +11,4 @@ returns-2 c = cc
 
 pub may-use-spec : {M : Type 1} → statement M
 may-use-spec =
-    tie.close (tie.spec (search needs) (search needs) (search needs) (search needs) returns returns-2)
+    tie.close (tie.spec (search arith) (search arith) (search arith) (search arith) returns returns-2)

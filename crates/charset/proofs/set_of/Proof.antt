@@ -1,5 +1,5 @@
 -- `charset::set_of` meets its contract, by what it calls for each side.
-use borrow.Author.Needs.{needs}
+use native.Mathlib.Omega.{arith}
 use Rattle.charset.proofs.set_of.Statement.{statement}
 use Rattle.charset.proofs.set_of.Tie as tie
 
@@ -12,4 +12,4 @@ returns-2 c = cc
 pub set-of-spec : {M : Type 1} → statement M
 set-of-spec =
     tie.close
-    (tie.spec (search needs) (search needs) (search needs) (search needs) returns returns-2)
+    (tie.spec (search arith) (search arith) (search arith) (search arith) returns returns-2)

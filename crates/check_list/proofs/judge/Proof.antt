@@ -1,10 +1,6 @@
 -- `check_list::judge` meets its contract, by the kind.
-use native.Mathlib.Omega.{arith}
-use mathlib.Core.Path.{ap, _∙_}
+use Rattle.element.proofs.Names.{arith, ap, _∙_, Bool, stepOf}
 use Rattle.check_list.proofs.Refusals.{kind-character, kind-plain, kind-segment, kind-none}
-use mathlib.Core.Bool.{Bool}
-use Rattle.state.specs.Directions.{stepOf}
-use borrow.Author.Needs.{needs}
 use Rattle.check_list.proofs.judge.Statement.{statement}
 use Rattle.check_list.proofs.judge.Tie as tie
 
@@ -12,16 +8,16 @@ pub judge-spec : {M : Type 1} → statement M
 judge-spec =
     tie.close
     (tie.spec
-    (search needs)
+    (search arith)
     (λ c. c .character .ensures ∙ search kind-character)
-    (search needs)
-    (search needs)
+    (search arith)
+    (search arith)
     (λ c. let args = c .before .before .before .before .before .args in
     c .step .ensures
     ∙ ap (λ (t : Bool). stepOf t (args .unit .kind) (args .directions)) (c .before .counts-as-text .ensures)
     ∙ search kind-plain)
-    (search needs)
-    (search needs)
-    (search needs)
+    (search arith)
+    (search arith)
+    (search arith)
     (λ c. c .segment .ensures ∙ search kind-segment)
     (λ c. kind-none _ _ _ (omega (arith, c .before .if2 .left, c .if3 .left))))

@@ -1,5 +1,5 @@
 -- `check_list::looked_at` meets its contract.
-use Rattle.base.proofs.Ladder.{ladder}
+use Rattle.element.proofs.Names.{ladder}
 use Rattle.check_list.specs.Turn.{lookedAt}
 use Rattle.check_list.proofs.looked_at.Statement.{statement}
 use Rattle.check_list.proofs.looked_at.Tie as tie

@@ -1,8 +1,6 @@
 -- `check_list::put` meets its contract, by what the test of the record says.
-use mathlib.Core.Path.{sym, _∙_}
-use Rattle.base.specs.Choice.{pick}
+use Rattle.element.proofs.Names.{arith, sym, _∙_, pick}
 use Rattle.check_list.proofs.Turns.{stowable-told}
-use borrow.Author.Needs.{needs}
 use Rattle.check_list.proofs.put.Statement.{statement}
 use Rattle.check_list.proofs.put.Tie as tie
 
@@ -20,4 +18,4 @@ unfolding pick
 returns-2 c = rw (sym (c .before .stowable .ensures) ∙ c .if1 .left)
 
 pub put-spec : {M : Type 1} → statement M
-put-spec = tie.close (tie.spec (search needs) put-requires (search needs) returns returns-2)
+put-spec = tie.close (tie.spec (search arith) put-requires (search arith) returns returns-2)

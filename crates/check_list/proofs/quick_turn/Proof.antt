@@ -1,8 +1,6 @@
 -- `check_list::quick_turn` meets its contract, by what the quick check says.
-use mathlib.Core.Path.{sym, _∙_}
-use Rattle.base.specs.Choice.{pick}
+use Rattle.element.proofs.Names.{arith, sym, _∙_, pick}
 use Rattle.check_list.proofs.Quick.{plain-stowable}
-use borrow.Author.Needs.{needs}
 use Rattle.check_list.proofs.quick_turn.Statement.{statement}
 use Rattle.check_list.proofs.quick_turn.Tie as tie
 
@@ -11,9 +9,9 @@ unfolding pick
 quick-turn-spec =
     tie.close
     (tie.spec
-    (search needs)
+    (search arith)
     (λ c κs. plain-stowable _ (sym (c .before .before .plain .ensures) ∙ c .before .if1 .taken))
-    (search needs)
+    (search arith)
     (λ c. let plain = sym (c .before .before .before .before .before .plain .ensures) ∙ c .before .before .before .before .if1 .taken in
     (sym plain, rw plain (c .before .before .put .ensures)))
     (λ c. let plain = sym (c .before .plain .ensures) ∙ c .if1 .left in

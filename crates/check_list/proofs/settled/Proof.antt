@@ -1,5 +1,5 @@
 -- `check_list::settled` meets its contract.
-use Rattle.base.proofs.Ladder.{ladder}
+use Rattle.element.proofs.Names.{ladder}
 use Rattle.check_list.specs.Plain.{settledByText}
 use Rattle.check_list.proofs.settled.Statement.{statement}
 use Rattle.check_list.proofs.settled.Tie as tie

@@ -1,7 +1,6 @@
 -- `check_list::turn` meets its contract, by what came before and by what the record is refused for.
-use mathlib.Core.Path.{sym, _∙_}
+use Rattle.element.proofs.Names.{arith, sym, _∙_}
 use Rattle.check_list.proofs.Turns.{stowable, turn-goes, turn-stops, turn-faulty}
-use borrow.Author.Needs.{needs}
 use Rattle.check_list.proofs.turn.Statement.{statement}
 use Rattle.check_list.proofs.turn.Tie as tie
 
@@ -9,13 +8,13 @@ pub turn-spec : {M : Type 1} → statement M
 turn-spec =
     tie.close
     (tie.spec
-    (search needs)
-    (search needs)
-    (search needs)
+    (search arith)
+    (search arith)
+    (search arith)
     (λ c κs. stowable _ _ _ _ (sym (c .before .before .before .before .judge .ensures) ∙ c .before .before .step .given .1))
-    (search needs)
-    (search needs)
-    (search needs)
+    (search arith)
+    (search arith)
+    (search arith)
     (λ c. let args = c .before .before .before .before .before .before .before .before .before .before .before .before .before .args in
     let fine = c .before .before .before .before .before .before .before .before .before .progress .given .1 in
     let goes = sym (c .before .before .before .before .before .before .before .judge .ensures) ∙ c .before .before .before .before .before .step .given .1 in

@@ -1,6 +1,5 @@
 -- `check_string::answer` meets its contract, by what `check` ensures.
-use mathlib.Core.Path.{ap}
-use borrow.Author.Needs.{needs}
+use Rattle.element.proofs.Names.{arith, ap}
 use Rattle.check_string.specs.declared.Checked.{Checked}
 use Rattle.check_string.proofs.answer.Statement.{statement}
 use Rattle.check_string.proofs.answer.Tie as tie
@@ -9,4 +8,4 @@ returns : tie.Need-returns
 returns c = ap (λ (x : Checked). x .answer) (c .before .check .ensures)
 
 pub answer-spec : {M : Type 1} → statement M
-answer-spec = tie.close (tie.spec (search needs) returns)
+answer-spec = tie.close (tie.spec (search arith) returns)

@@ -1,5 +1,5 @@
 -- `check_string::check` meets its contract, by what `whole` ensures.
-use borrow.Author.Needs.{needs}
+use Rattle.element.proofs.Names.{arith}
 use Rattle.check_string.proofs.check.Statement.{statement}
 use Rattle.check_string.proofs.check.Tie as tie
 
@@ -7,4 +7,4 @@ returns : tie.Need-returns
 returns c = rw (c .whole .ensures)
 
 pub check-spec : {M : Type 1} → statement M
-check-spec = tie.close (tie.spec (search needs) returns)
+check-spec = tie.close (tie.spec (search arith) returns)

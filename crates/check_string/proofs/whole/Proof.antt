@@ -1,11 +1,6 @@
 -- `check_string::whole` meets its contract: at each turn of the loop what is left answers what the whole string does (`Head`), and the turns are
 -- those of `Turn`.
-use Prim.Native.Nat.{_-_}
-use native.Mathlib.Omega.{arith}
-use mathlib.Core.Path.{_∙_}
-use borrow.Author.Needs.{needs}
-use lib.ListN.{length}
-use Rattle.base.proofs.Ladder.{on-lt, on-ge}
+use Rattle.element.proofs.Names.{_-_, arith, _∙_, length, on-lt, on-ge}
 use Rattle.grammar.specs.Reading.{checkOf}
 use Rattle.check_string.proofs.Turn.{Head, head-first, turn-done, turn-designation, turn-stretch}
 use Rattle.check_string.proofs.Turn.{turn-ends, turn-short, turn-refuses, turn-designates, turn-stops, turn-goes}
@@ -166,44 +161,44 @@ whole-spec =
     (tie.spec
     Inv-loop
     μ-loop
-    (search needs)
+    (search arith)
     returns
     loop-holds
-    (search needs)
-    (search needs)
+    (search arith)
+    (search arith)
     add-at
-    (search needs)
+    (search arith)
     loop-less
     loop-again
-    (search needs)
+    (search arith)
     add-at-2
     add-count
     loop-less-2
     loop-again-2
-    (search needs)
-    (search needs)
-    (search needs)
+    (search arith)
+    (search arith)
+    (search arith)
     returns-2
-    (search needs)
+    (search arith)
     add-place
-    (search needs)
+    (search arith)
     returns-3
-    (search needs)
+    (search arith)
     add-at-3
-    (search needs)
+    (search arith)
     loop-less-3
     loop-again-3
-    (search needs)
-    (search needs)
-    (search needs)
-    (search needs)
+    (search arith)
+    (search arith)
+    (search arith)
+    (search arith)
     returns-4
-    (search needs)
+    (search arith)
     add-at-4
     add-at-5
-    (search needs)
+    (search arith)
     add-count-2
     loop-less-4
     loop-again-4
-    (search needs)
+    (search arith)
     returns-5)

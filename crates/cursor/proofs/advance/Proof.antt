@@ -1,8 +1,7 @@
 -- `cursor::advance` meets its contract. Assumes nothing.
-use mathlib.Core.Path.{ap, _∙_}
+use Rattle.element.proofs.Names.{arith, ap, _∙_}
 use Rattle.cursor.specs.Cursor.{textTurn, passedOf, advanceAt}
 use Rattle.cursor.proofs.Rules.{reading}
-use borrow.Author.Needs.{needs}
 use Rattle.cursor.proofs.advance.Statement.{statement}
 use Rattle.cursor.proofs.advance.Tie as tie
 
@@ -17,12 +16,12 @@ unfolding advanceAt
 advance-spec =
     tie.close
     (tie.spec
-    (search needs)
+    (search arith)
     (λ c. search reading depth 9)
-    (search needs)
-    (search needs)
-    (search needs)
-    (search needs)
+    (search arith)
+    (search arith)
+    (search arith)
+    (search arith)
     returns-2
-    (search needs)
+    (search arith)
     (λ c. search reading depth 9))

@@ -1,7 +1,7 @@
 -- `cursor::or_two` meets its contract, test by test.
+use Rattle.element.proofs.Names.{arith}
 use Rattle.cursor.specs.Cursor.{doubleOf}
 use Rattle.cursor.proofs.Rules.{reading}
-use borrow.Author.Needs.{needs}
 use Rattle.cursor.proofs.or_two.Statement.{statement}
 use Rattle.cursor.proofs.or_two.Tie as tie
 
@@ -10,14 +10,14 @@ unfolding doubleOf
 or-two-spec =
     tie.close
     (tie.spec
-    (search needs)
-    (search needs)
+    (search arith)
+    (search arith)
     (λ c. search reading depth 9)
-    (search needs)
-    (search needs)
-    (search needs)
+    (search arith)
+    (search arith)
+    (search arith)
     (λ c. search reading depth 9)
-    (search needs)
+    (search arith)
     (λ c. search reading depth 9)
-    (search needs)
+    (search arith)
     (λ c. search reading depth 9))

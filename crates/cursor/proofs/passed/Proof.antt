@@ -1,15 +1,14 @@
 -- `cursor::passed` meets its contract. Assumes nothing.
-use mathlib.Core.Path.{_≡_, ap, _∙_}
+use Rattle.element.proofs.Names.{arith, _≡_, ap, _∙_}
 use Rattle.cursor.specs.Cursor.{placedOf, passedOf}
-use borrow.Author.Needs.{needs}
 use Rattle.cursor.proofs.passed.Statement.{statement}
 use Rattle.cursor.proofs.passed.Tie as tie
 
 designation-at-requires : tie.Need-designation-at-requires
-designation-at-requires c κs = search needs
+designation-at-requires c κs = search arith
 
 placed-requires : tie.Need-placed-requires
-placed-requires c κs = search needs
+placed-requires c κs = search arith
 
 returns : tie.Need-returns
 unfolding passedOf

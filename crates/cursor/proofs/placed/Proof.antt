@@ -1,10 +1,7 @@
 -- `cursor::placed` meets its contract: a designation that was found stands within the string.
-use native.Mathlib.Omega.{arith}
-use denote.Ref.{now}
-use Rattle.base.proofs.Ladder.{ladder, on-lt}
+use Rattle.element.proofs.Names.{arith, now, ladder, on-lt}
 use Rattle.cursor.specs.Cursor.{placedOf}
 use Rattle.cursor.proofs.Fits.{placed-fits}
-use borrow.Author.Needs.{needs}
 use Rattle.cursor.proofs.placed.Statement.{statement}
 use Rattle.cursor.proofs.placed.Tie as tie
 
@@ -22,4 +19,4 @@ returns c =
 
 pub placed-spec : {M : Type 1} → statement M
 unfolding placedOf
-placed-spec = tie.close (tie.spec (search needs) (search needs) add-place returns (λ c. search ladder))
+placed-spec = tie.close (tie.spec (search arith) (search arith) add-place returns (λ c. search ladder))

@@ -1,5 +1,5 @@
 -- `cursor::set_at` meets its contract. Assumes nothing.
-use Rattle.base.proofs.Ladder.{ladder}
+use Rattle.element.proofs.Names.{ladder}
 use Rattle.cursor.specs.Cursor.{setAt}
 use Rattle.cursor.proofs.set_at.Statement.{statement}
 use Rattle.cursor.proofs.set_at.Tie as tie

@@ -1,5 +1,5 @@
 -- `cursor::text_octet` meets its contract. Assumes nothing.
-use Rattle.base.proofs.Ladder.{ladder}
+use Rattle.element.proofs.Names.{ladder}
 use Rattle.cursor.specs.Cursor.{textOctet}
 use Rattle.cursor.proofs.text_octet.Statement.{statement}
 use Rattle.cursor.proofs.text_octet.Tie as tie

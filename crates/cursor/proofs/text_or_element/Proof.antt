@@ -1,9 +1,7 @@
 -- `cursor::text_or_element` meets its contract, test by test.
+use Rattle.element.proofs.Names.{arith, on-lt, on-ge, sym, _∙_}
 use Rattle.cursor.specs.Cursor.{octetOf, quickOf, textTurn}
 use Rattle.cursor.proofs.Rules.{reading, on-quick, on-text}
-use Rattle.base.proofs.Ladder.{on-lt, on-ge}
-use mathlib.Core.Path.{sym, _∙_}
-use borrow.Author.Needs.{needs}
 use Rattle.cursor.proofs.text_or_element.Statement.{statement}
 use Rattle.cursor.proofs.text_or_element.Tie as tie
 
@@ -35,14 +33,14 @@ pub text-or-element-spec : {M : Type 1} → statement M
 text-or-element-spec =
     tie.close
     (tie.spec
-    (search needs)
+    (search arith)
     returns
-    (search needs)
-    (search needs)
-    (search needs)
-    (search needs)
+    (search arith)
+    (search arith)
+    (search arith)
+    (search arith)
     returns-2
-    (search needs)
+    (search arith)
     returns-3
-    (search needs)
+    (search arith)
     returns-4)

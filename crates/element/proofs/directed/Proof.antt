@@ -1,7 +1,7 @@
 -- `element::directed` meets its contract, case by case; a unit's step is what `Directions::step` ensures.
+use native.Mathlib.Omega.{arith}
 use mathlib.Core.Path.{_∙_, ap}
 use Rattle.element.specs.Element.{steppedOf, directedOf}
-use borrow.Author.Needs.{needs}
 use Rattle.element.proofs.directed.Statement.{statement}
 use Rattle.element.proofs.directed.Tie as tie
 
@@ -25,13 +25,13 @@ pub directed-spec : {M : Type 1} → statement M
 directed-spec =
     tie.close
     (tie.spec
-    (search needs)
-    (search needs)
-    (search needs)
-    (search needs)
-    (search needs)
-    (search needs)
-    (search needs)
+    (search arith)
+    (search arith)
+    (search arith)
+    (search arith)
+    (search arith)
+    (search arith)
+    (search arith)
     returns
     returns-2
     returns-3

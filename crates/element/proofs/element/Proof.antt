@@ -1,5 +1,5 @@
 -- `element::element` meets its contract, by what it calls.
-use borrow.Author.Needs.{needs}
+use native.Mathlib.Omega.{arith}
 use Rattle.element.proofs.element.Statement.{statement}
 use Rattle.element.proofs.element.Tie as tie
 
@@ -7,4 +7,4 @@ returns : tie.Need-returns
 returns c = rw (← (c .before .shape .ensures)) (c .directed .ensures)
 
 pub element-spec : {M : Type 1} → statement M
-element-spec = tie.close (tie.spec (search needs) (search needs) returns)
+element-spec = tie.close (tie.spec (search arith) (search arith) returns)

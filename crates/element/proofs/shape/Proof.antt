@@ -1,8 +1,8 @@
 -- `element::shape` meets its contract, test by test.
+use native.Mathlib.Omega.{arith}
 use Rattle.element.proofs.Steps.{shaping, on-shape, on-delete}
 use Rattle.element.specs.Element.{shapeOf}
 use Rattle.element.specs.Start.{startOf, begunBy}
-use borrow.Author.Needs.{needs}
 use Rattle.element.proofs.shape.Statement.{statement}
 use Rattle.element.proofs.shape.Tie as tie
 
@@ -15,20 +15,20 @@ shape-spec =
     tie.close
     (tie.spec
     (λ c. search shaping depth 24)
-    (search needs)
-    (search needs)
-    (search needs)
-    (search needs)
-    (search needs)
-    (search needs)
-    (search needs)
+    (search arith)
+    (search arith)
+    (search arith)
+    (search arith)
+    (search arith)
+    (search arith)
+    (search arith)
     (λ c. search shaping depth 24)
-    (search needs)
-    (search needs)
+    (search arith)
+    (search arith)
     (λ c. search shaping depth 24)
     (λ c. search shaping depth 24)
-    (search needs)
-    (search needs)
+    (search arith)
+    (search arith)
     (λ c. search shaping depth 24)
     (λ c. search shaping depth 24)
     (λ c. search shaping depth 24)

@@ -1,6 +1,6 @@
 -- `element::stepped` meets its contract, case by case.
+use native.Mathlib.Omega.{arith}
 use Rattle.element.specs.Element.{steppedOf}
-use borrow.Author.Needs.{needs}
 use Rattle.element.proofs.stepped.Statement.{statement}
 use Rattle.element.proofs.stepped.Tie as tie
 
@@ -13,4 +13,4 @@ unfolding steppedOf
 returns-2 c = rw (c .before .step2 .given .1)
 
 pub stepped-spec : {M : Type 1} → statement M
-stepped-spec = tie.close (tie.spec (search needs) (search needs) (search needs) returns returns-2)
+stepped-spec = tie.close (tie.spec (search arith) (search arith) (search arith) returns returns-2)

@@ -1,8 +1,5 @@
 -- `emit::choose` meets its contract, test by test.
-use native.Mathlib.Omega.{arith}
-use Prim.Native.Nat.{ℕ, _+_}
-use mathlib.Core.Path.{ap}
-use lib.ListN.{getD}
+use Rattle.element.proofs.Names.{arith, ℕ, _+_, ap, getD}
 use Rattle.numbers.proofs.Numbers.{chosen-only}
 use Rattle.emit.proofs.Chosen.{first-stays, second-stays, first-taken, second-taken}
 use Rattle.emit.proofs.choose.Statement.{statement}

@@ -1,5 +1,5 @@
 -- `emit::choose_quickly` meets its contract: where a place that serves the class stands, nothing is designated.
-use native.Mathlib.Omega.{arith}
+use Rattle.element.proofs.Names.{arith}
 use Rattle.emit.proofs.Chosen.{gl-stays, gr-stays}
 use Rattle.emit.proofs.choose_quickly.Statement.{statement}
 use Rattle.emit.proofs.choose_quickly.Tie as tie

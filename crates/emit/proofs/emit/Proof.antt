@@ -1,8 +1,5 @@
 -- `emit::emit` meets its contract. The invariant: what is written and the writing of the rest are the whole.
-use native.Mathlib.Omega.{arith}
-use mathlib.Core.Path.{_≡_, refl, _∙_}
-use Prim.Native.Nat.{_-_, _≤_}
-use lib.ListN.{length}
+use Rattle.element.proofs.Names.{arith, _≡_, refl, _∙_, _-_, _≤_, length}
 use Rattle.emit.proofs.Stores.{written-length}
 use Rattle.emit.proofs.Forward.{Going, going-none, j-below, room-change, room-unit, going-more, going-end}
 use Rattle.emit.proofs.emit.Statement.{statement}

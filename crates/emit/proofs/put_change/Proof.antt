@@ -1,5 +1,5 @@
 -- `emit::put_change` meets its contract, by where the two numbers differ.
-use native.Mathlib.Omega.{arith}
+use Rattle.element.proofs.Names.{arith}
 use Rattle.emit.proofs.Stores.{written-none, written-as, room-as}
 use Rattle.emit.proofs.Chosen.{change-none, change-gr, change-gl}
 use Rattle.emit.proofs.put_change.Statement.{statement}

@@ -1,6 +1,5 @@
 -- `emit::put_row` meets its contract, by the tag.
-use native.Mathlib.Omega.{arith}
-use mathlib.Core.Logic.{⊎-elim}
+use Rattle.element.proofs.Names.{arith, ⊎-elim}
 use Rattle.emit.specs.Octets.{sideOf}
 use Rattle.emit.proofs.Stores.{written-as, room-as, segment-room}
 use Rattle.emit.proofs.Row.{text-octets, segment-octets, mark-octets}

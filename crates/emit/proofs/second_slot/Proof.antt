@@ -1,6 +1,5 @@
 -- `emit::second_slot` meets its contract.
-use native.Mathlib.Omega.{arith}
-use borrow.Author.Tests.{lt-ltb, le-ltb}
+use Rattle.element.proofs.Names.{arith, lt-ltb, le-ltb}
 use Rattle.emit.proofs.second_slot.Statement.{statement}
 use Rattle.emit.proofs.second_slot.Tie as tie
 

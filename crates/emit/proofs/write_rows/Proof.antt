@@ -1,5 +1,5 @@
 -- `emit::write_rows` meets its contract, answer by answer.
-use native.Mathlib.Omega.{arith}
+use Rattle.element.proofs.Names.{arith}
 use Rattle.emit.proofs.Whole.{wrote-many, wrote-no-work, wrote-long, wrote-room, ready-all, wrote-all}
 use Rattle.emit.proofs.write_rows.Statement.{statement}
 use Rattle.emit.proofs.write_rows.Tie as tie

@@ -1,6 +1,5 @@
 -- `numbers::class_of` meets its contract, test by test.
-use native.Mathlib.Omega.{arith}
-use Rattle.base.proofs.Ladder.{ladder}
+use Rattle.element.proofs.Names.{arith, ladder}
 use Rattle.numbers.specs.Numbers.{classOf}
 use Rattle.numbers.proofs.class_of.Statement.{statement}
 use Rattle.numbers.proofs.class_of.Tie as tie

@@ -1,6 +1,6 @@
 -- `numbers::place_in_gl` meets its contract, test by test.
+use Rattle.element.proofs.Names.{arith}
 use Rattle.numbers.proofs.Numbers.{gl-none, gl-two, gl-other}
-use borrow.Author.Needs.{needs}
 use Rattle.numbers.proofs.place_in_gl.Statement.{statement}
 use Rattle.numbers.proofs.place_in_gl.Tie as tie
 
@@ -8,9 +8,9 @@ pub place-in-gl-spec : {M : Type 1} → statement M
 place-in-gl-spec =
     tie.close
     (tie.spec
-    (λ c. search needs)
-    (λ c. search needs)
+    (λ c. search arith)
+    (λ c. search arith)
     (λ c. search gl-none)
-    (search needs)
+    (search arith)
     (λ c. search gl-two)
     (λ c. search gl-other))

@@ -1,7 +1,6 @@
 -- `pieces::piece_kind` meets its contract, kind by kind.
-use Rattle.base.proofs.Ladder.{ladder}
+use Rattle.element.proofs.Names.{arith, ladder}
 use Rattle.pieces.specs.Pieces.{pieceKindOf}
-use borrow.Author.Needs.{needs}
 use Rattle.pieces.proofs.piece_kind.Statement.{statement}
 use Rattle.pieces.proofs.piece_kind.Tie as tie
 
@@ -10,8 +9,8 @@ unfolding pieceKindOf
 piece-kind-spec =
     tie.close
     (tie.spec
-    (search needs)
-    (search needs)
+    (search arith)
+    (search arith)
     (λ c. search ladder depth 9)
     (λ c. search ladder depth 9)
     (λ c. search ladder depth 9)

@@ -1,5 +1,5 @@
 -- `pieces::set_in` meets its contract, test by test.
-use Rattle.base.proofs.Ladder.{ladder}
+use Rattle.element.proofs.Names.{ladder}
 use Rattle.pieces.specs.Pieces.{setIn}
 use Rattle.pieces.proofs.set_in.Statement.{statement}
 use Rattle.pieces.proofs.set_in.Tie as tie

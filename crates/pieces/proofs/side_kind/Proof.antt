@@ -1,5 +1,5 @@
 -- `pieces::side_kind` meets its contract, test by test.
-use Rattle.base.proofs.Ladder.{ladder}
+use Rattle.element.proofs.Names.{ladder}
 use Rattle.pieces.specs.Pieces.{sideKindOf}
 use Rattle.pieces.proofs.side_kind.Statement.{statement}
 use Rattle.pieces.proofs.side_kind.Tie as tie

@@ -1,7 +1,6 @@
 -- `plan::plan` meets its contract. The invariant: what the rows from i on cost is known from all numbers, and those rows are planned.
-use native.Mathlib.Omega.{arith}
-use mathlib.Core.Path.{refl}
-use lib.ListN.{length, replicate}
+use Rattle.element.proofs.Names.{arith, refl, length}
+use lib.ListN.{replicate}
 use Rattle.plan.specs.Plan.{rowsOf, Planned}
 use Rattle.numbers.proofs.Numbers.{bounded}
 use Rattle.plan.proofs.Rest.{Known, known-none, planned-none, known-sum, known-result, known-smooth, row-lies}

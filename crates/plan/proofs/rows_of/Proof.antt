@@ -1,6 +1,5 @@
 -- `plan::rows_of` meets its contract, test by test.
-use native.Mathlib.Omega.{arith}
-use Rattle.base.proofs.Ladder.{ladder}
+use Rattle.element.proofs.Names.{arith, ladder}
 use Rattle.plan.specs.Plan.{rowsOf}
 use Rattle.plan.proofs.rows_of.Statement.{statement}
 use Rattle.plan.proofs.rows_of.Tie as tie

@@ -1,8 +1,6 @@
 -- `plan::size_from` meets its contract, tag by tag.
-use native.Mathlib.Omega.{arith}
-use Prim.Native.Nat.{ℕ, _+_}
-use mathlib.Core.Path.{ap, ap₂, _∙_}
-use Rattle.base.proofs.Ladder.{ladder, after}
+use Rattle.element.proofs.Names.{arith, ℕ, _+_, ap, ap₂, _∙_, ladder}
+use Rattle.base.proofs.Ladder.{after}
 use Rattle.rows.specs.Rows.{partOf}
 use Rattle.plan.specs.Plan.{sizeOf}
 use Rattle.plan.proofs.size_from.Statement.{statement}

@@ -1,9 +1,5 @@
 -- `print` meets its contract, by the cases of the answer (proofs/Whole).
-use borrow.Author.Needs.{needs}
-use native.Mathlib.Omega.{arith}
-use mathlib.Core.Path.{ap, ap₂, sym, _∙_}
-use lib.ListN.{length}
-use denote.Ref.{now}
+use Rattle.element.proofs.Names.{arith, ap, ap₂, sym, _∙_, length, now}
 use Rattle.program.specs.Printed.{storedIn}
 use Rattle.program.proofs.Whole.{accepted-form, counted-form, refused-line}
 use Rattle.program.proofs.print.Statement.{statement}
@@ -45,12 +41,12 @@ pub print-spec : {M : Type 1} → statement M
 print-spec =
     tie.close
     (tie.spec
-    (search needs)
-    (search needs)
-    (search needs)
+    (search arith)
+    (search arith)
+    (search arith)
     returns
-    (search needs)
+    (search arith)
     returns-2
-    (search needs)
-    (search needs)
+    (search arith)
+    (search arith)
     returns-3)

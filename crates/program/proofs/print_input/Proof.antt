@@ -1,12 +1,6 @@
 -- `print_input` meets its contract, which is `print`'s: the first n octets of the room are all of it where n is not less than its length.
-use Prim.Native.Nat.{ℕ}
-use native.Mathlib.Omega.{arith}
-use mathlib.Core.Path.{ap, sym, _∙_}
-use mathlib.Core.List.{List}
-use lib.ListN.{length}
-use lib.Seq.{length-take-le, take-all}
-use borrow.Author.Needs.{needs}
-use denote.Ref.{now}
+use Rattle.element.proofs.Names.{ℕ, arith, ap, sym, _∙_, List, length, length-take-le, now}
+use lib.Seq.{take-all}
 use Rattle.rewrite.specs.Shortest.{shortestAnswer}
 use Rattle.program.specs.Printed.{room, printedOf, storedIn}
 use Rattle.program.proofs.print_input.Statement.{statement}
@@ -28,9 +22,9 @@ print-input-spec =
     tie.close
     (tie.spec
     (λ c. sym (length-take-le _ _ (omega arith)))
-    (search needs)
-    (search needs)
-    (λ c. search needs)
-    (search needs)
-    (search needs)
+    (search arith)
+    (search arith)
+    (λ c. search arith)
+    (search arith)
+    (search arith)
     returns-2)

@@ -1,6 +1,5 @@
 -- `read::answer` meets its contract. Assumes nothing.
-use borrow.Author.Needs.{needs}
-use Rattle.base.proofs.Ladder.{ladder}
+use Rattle.element.proofs.Names.{arith, ladder}
 use Rattle.read.specs.Listing.{readAnswer}
 use Rattle.read.proofs.answer.Statement.{statement}
 use Rattle.read.proofs.answer.Tie as tie
@@ -18,4 +17,4 @@ unfolding readAnswer
 returns-3 c = rw (← (c .before .before .answer .ensures)) (search ladder)
 
 pub answer-spec : {M : Type 1} → statement M
-answer-spec = tie.close (tie.spec (search needs) returns returns-2 returns-3)
+answer-spec = tie.close (tie.spec (search arith) returns returns-2 returns-3)

@@ -1,18 +1,13 @@
 -- `read::fill` meets its contract: its code is followed by hand, for the list lent is of structs. The borrow of the list is opened once,
--- before the loop, and closed once, after it or where no unit of the form stands. In each other turn the unit is stored to its element of the
+-- before the loop, and closed once, after it or where no unit of the form standsAfter. In each other turn the unit is stored to its element of the
 -- list. Of the functions that it calls the proof knows their contracts alone.
 -- Assumes nothing.
 use Rattle.walks.proofs.Names.{_≡_, refl, sym, _∙_, ap, subst, ℕ, suc, _+_, _-_, _*_, _≤_, _<_, _^_, [], _∷_, List, length, fullShare, named, w64}
 use Rattle.walks.proofs.Names.{Val, vint, SProp, id⊢, flft, fobs, ‵, _⊛_, prop, atRet, Sq, _$_, !, move, let-go, split, join, fsplit, fjoin, frame, done}
 use Rattle.walks.proofs.Names.{look, lit, of-opd, bin, Is, u8, usize, RefT, sliceVal, Room, heres, Held, owned, nothing}
 use Rattle.walks.proofs.Names as kit
-use native.Mathlib.Numerals.{add-one}
-use native.Mathlib.Omega.{arith}
-use lib.Dec.{ltb→lt, nltb→le, lit<}
-use lib.ListN.{length-set}
-use prog.Wp.{afterTurn}
+use Rattle.element.proofs.Names.{add-one, arith, ltb→lt, nltb→le, lit<, length-set, afterTurn, UnitRecord}
 use denote.Struct.Laws as LL
-use Rattle.base.specs.declared.Unit.{Unit as UnitRecord}
 use Rattle.base.proofs.Unit as U
 use Rattle.base.proofs.Unit.Laws as U′
 use Rattle.walks.proofs.Body.{𝓣of, tests, holds, fails}
@@ -22,7 +17,7 @@ use Rattle.walks.proofs.Calls.{calls, plain, all, _&_, but, _&′_, the-one, be
 use Rattle.walks.proofs.Loop.{Turns, rounds, loop-by}
 use Rattle.walks.proofs.Frame.{empty, full, Blocks, envOf, laid, clears, leaves}
 use Rattle.walks.proofs.Steps.{var, arg, part, sets, resets-last, lands-in, recasts, in64, past}
-use Rattle.read.specs.Spans.{Fits, stands, nthOf, countFrom, storedFrom}
+use Rattle.read.specs.Spans.{Fits, standsAfter, unitAfter, countFrom, storedFrom}
 use Rattle.read.specs.declared.spans.Span.{Span}
 use Rattle.read.proofs.Fills.{count-over, count-stops, count-goes, count-most, stored-over, stored-stops, stored-goes}
 use Rattle.read.proofs.spans.Span as R
@@ -133,7 +128,7 @@ module _ {M : Type 1} (𝓤 : kit.URA M) (H : kit.Heap 𝓤) (𝓜 : kit.Model �
   got g = g .1 .1 .0
 
   abbrev unit : Going → UnitRecord
-  unit g = nthOf xs r (g .0)
+  unit g = unitAfter xs r (g .0)
 
   inside : (g : Going) → g .0 < r .most → start + g .0 < length ys
   inside g less = omega (arith, less, room-left)
@@ -153,7 +148,7 @@ module _ {M : Type 1} (𝓤 : kit.URA M) (H : kit.Heap 𝓤) (𝓜 : kit.Model �
   more : (g : Going) → g .0 < r .most → g .1 .0 ≡ suc (g .1 .0 - 1)
   more g less = omega (arith, less, g .1 .1 .1 .left)
 
-  abbrev further : (g : Going) → g .0 < r .most → stands xs r (g .0) ≡ kit.true → Going
+  abbrev further : (g : Going) → g .0 < r .most → standsAfter xs r (g .0) ≡ kit.true → Going
   further g less e = (
     suc (g .0),
     (
@@ -194,13 +189,13 @@ module _ {M : Type 1} (𝓤 : kit.URA M) (H : kit.Heap 𝓤) (𝓜 : kit.Model �
         tests ! (var ! 15 refl)
         (λ test.
         let less : g .0 < r .most = ltb→lt (g .0) (r .most) test in
-        -- whether a unit of the form stands there
+        -- whether a unit of the form standsAfter there
         calls ! 𝓣 0 refl twice stands-at.ended (stands-at.clauses 𝓤 H A (𝓜 .mem) (𝓡 .run))
         (cites 𝓤 H 𝓜 𝓖 𝓡 code.env code.calls-read·spans·stands-at (stands-at.Met.met 𝓤 H 𝓜 𝓖 𝓡))
         (((κ, tt), (q, tt), tt, (s, (r, (g .0, tt))), (vs ∷ [], (R′.lowered r ∷ [], (vint w64 (g .0) ∷ [], tt)))), tt) (the-one W κ q)
         (id⊢ 𝓤 _ & plain W O span r is-r & plain W O number (g .0) (refl, omega (arith, less, most-fits)) & all)
         (kit.factI 𝓤 _ (kit.emp 𝓤) (fits, less))
-        (stands xs r (g .0)) (λ r e. id⊢ 𝓤 _) flag (arg ! 27 refl (arg ! 25 refl (arg ! 17 refl (kit.no-more !)))) (λ is-b ok. lands-in ! 13 refl ok $
+        (standsAfter xs r (g .0)) (λ r e. id⊢ 𝓤 _) flag (arg ! 27 refl (arg ! 25 refl (arg ! 17 refl (kit.no-more !)))) (λ is-b ok. lands-in ! 13 refl ok $
         kit.branches ! (var ! 13 refl)
         (λ yes-b.
         -- the unit
@@ -226,10 +221,10 @@ module _ {M : Type 1} (𝓤 : kit.URA M) (H : kit.Heap 𝓤) (𝓜 : kit.Model �
         resets-last ! 17 (bin ! (var ! 17 refl) (lit ! tt) (record { fits = next-fits g less })) refl (in64 (next-fits g less)) $
         recasts ! 17 (vint w64) (add-one (g .0)) refl $
         clears ! 5 11 refl $ move ! (1 ∷ 0 ∷ []) $
-        rounds ! μ At g (further g less (holds (stands xs r (g .0)) yes-b)) (nearer g less))))
-        -- no unit of the form stands there: the borrow is closed at the list so far
+        rounds ! μ At g (further g less (holds (standsAfter xs r (g .0)) yes-b)) (nearer g less))))
+        -- no unit of the form standsAfter there: the borrow is closed at the list so far
         (λ no-b.
-        let none : stands xs r (g .0) ≡ kit.false = fails (stands xs r (g .0)) no-b in
+        let none : standsAfter xs r (g .0) ≡ kit.false = fails (standsAfter xs r (g .0)) no-b in
         sets ! 29 (of-opd ! (var ! 17 refl)) refl (in64 (omega (arith, less, most-fits))) $
         recasts ! 29 (vint w64) (sym (count-stops xs r (g .1 .0) (g .0) none) ∙ g .1 .1 .1 .count) refl $
         move ! (1 ∷ 2 ∷ 3 ∷ 4 ∷ []) $ kit.closes-slice ! tt U.the-row ys (got g) (g .1 .1 .1 .same) b o $

@@ -6,11 +6,7 @@ use Rattle.walks.proofs.Names.{_≡_, refl, _∙_, ap, subst, ℕ, _+_, _-_, _*
 use Rattle.walks.proofs.Names.{SProp, id⊢, GName, Fml, flft, ‵, _⊛_, prop, atRet, Sq, _$_, !, move, join, done, lit, of-opd, bin, no-more, Is, u8, RefT}
 use Rattle.walks.proofs.Names as kit
 use native.Mathlib.Nat.{le-antisymm}
-use native.Mathlib.Omega.{arith}
-use lib.Dec.{ltb→lt, nltb→le, lit<}
-use prog.Wp.{afterTurn}
-use Rattle.base.specs.declared.Answer.{Answer}
-use Rattle.base.specs.declared.Unit.{Unit as UnitRecord}
+use Rattle.element.proofs.Names.{arith, ltb→lt, nltb→le, lit<, afterTurn, Answer, UnitRecord}
 use Rattle.base.proofs.Unit as U
 use Rattle.base.proofs.Answer as N
 use Rattle.base.proofs.Answer.Laws as N′

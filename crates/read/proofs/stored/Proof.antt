@@ -1,5 +1,5 @@
 -- `read::stored` meets its contract. Assumes nothing.
-use Rattle.base.proofs.Ladder.{ladder}
+use Rattle.element.proofs.Names.{ladder}
 use Rattle.read.specs.Listing.{storedOf}
 use Rattle.read.proofs.stored.Statement.{statement}
 use Rattle.read.proofs.stored.Tie as tie

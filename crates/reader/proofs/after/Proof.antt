@@ -1,7 +1,6 @@
 -- `reader::after` meets its contract. Assumes nothing.
-use mathlib.Core.Path.{_≡_, sym, ap, _∙_}
+use Rattle.element.proofs.Names.{arith, _≡_, sym, ap, _∙_}
 use Rattle.reader.specs.Step.{afterOf}
-use borrow.Author.Needs.{needs}
 use Rattle.reader.proofs.after.Statement.{statement}
 use Rattle.reader.proofs.after.Tie as tie
 
@@ -17,10 +16,10 @@ pub after-spec : {M : Type 1} → statement M
 after-spec =
     tie.close
     (tie.spec
-    (search needs)
-    (search needs)
-    (search needs)
-    (search needs)
-    (search needs)
+    (search arith)
+    (search arith)
+    (search arith)
+    (search arith)
+    (search arith)
     returns
     returns-2)

@@ -17,7 +17,7 @@ use Rattle.walks.proofs.Entry.{Bound, End, Walk, walk-in, cites}
 use Rattle.walks.proofs.Calls.{calls, plain, all, _&_, the-one}
 use Rattle.walks.proofs.Frame.{leaves}
 use Rattle.walks.proofs.Steps.{arg, part, sets, lands-in, beside, joins, fjoins}
-use Rattle.reader.specs.Reader.{stepOf, moved}
+use Rattle.reader.specs.Reader.{readerStep, moved}
 use Rattle.reader.specs.declared.Reader.{Reader}
 use Rattle.reader.specs.declared.Stepped.{Stepped}
 use Rattle.reader.proofs.Reader as T
@@ -77,7 +77,7 @@ module _ {M : Type 1} (𝓤 : kit.URA M) (H : kit.Heap 𝓤) (𝓜 : kit.Model �
     R = T.the-row α
 
     abbrev g : Stepped
-    g = stepOf h
+    g = readerStep h
 
     abbrev h′ : Reader
     h′ = moved h

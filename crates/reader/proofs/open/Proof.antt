@@ -3,10 +3,9 @@
 -- Assumes nothing.
 use Rattle.walks.proofs.Names.{refl, List, [], _∷_, named, Val, SProp, Sq, ‵, _$_, !, by, frame, agg, lit, and-then, no-more, nothing, Is, u8}
 use Rattle.walks.proofs.Names as kit
-use lib.Dec.{lit<}
+use Rattle.element.proofs.Names.{lit<, fresh, undirected}
 use denote.Struct.Laws as LL
-use Rattle.state.specs.State.{fresh, sets}
-use Rattle.state.specs.Directions.{undirected}
+use Rattle.state.specs.State.{sets}
 use Rattle.state.proofs.State as S
 use Rattle.state.proofs.State.Laws as S′
 use Rattle.state.proofs.Sets as P

@@ -1,8 +1,6 @@
 -- `reader::step` meets its contract. Assumes nothing.
-use mathlib.Core.Path.{_≡_, ap, _∙_}
-use Rattle.base.proofs.Ladder.{ladder}
+use Rattle.element.proofs.Names.{arith, _≡_, ap, _∙_, ladder}
 use Rattle.reader.specs.Step.{afterOf, stepAt}
-use borrow.Author.Needs.{needs}
 use Rattle.reader.proofs.step.Statement.{statement}
 use Rattle.reader.proofs.step.Tie as tie
 
@@ -24,13 +22,13 @@ pub step-spec : {M : Type 1} → statement M
 step-spec =
     tie.close
     (tie.spec
-    (search needs)
-    (search needs)
+    (search arith)
+    (search arith)
     returns
-    (search needs)
-    (search needs)
-    (search needs)
+    (search arith)
+    (search arith)
+    (search arith)
     returns-2
-    (search needs)
-    (search needs)
+    (search arith)
+    (search arith)
     returns-3)

@@ -1,10 +1,7 @@
 -- `rewrite::shortest` meets its contract, by what it calls and the laws of `Whole`.
 use Rattle.rewrite.proofs.Whole.{accepts, counts, refused-answer, refused-output, accepted-answer, accepted-output}
-use native.Mathlib.Omega.{arith}
-use mathlib.Core.Path.{refl, _∙_}
+use Rattle.element.proofs.Names.{arith, refl, _∙_, now}
 use Rattle.grammar.specs.Reading.{Octets}
-use denote.Ref.{now}
-use borrow.Author.Needs.{needs}
 use Rattle.rewrite.proofs.shortest.Statement.{statement}
 use Rattle.rewrite.proofs.shortest.Tie as tie
 
@@ -36,11 +33,11 @@ pub shortest-spec : {M : Type 1} → statement M
 shortest-spec =
     tie.close
     (tie.spec
-    (search needs)
+    (search arith)
     stow-requires
-    (search needs)
-    (search needs)
-    (search needs)
-    (search needs)
+    (search arith)
+    (search arith)
+    (search arith)
+    (search arith)
     returns
     returns-2)

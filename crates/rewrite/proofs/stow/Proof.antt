@@ -1,10 +1,6 @@
 -- `rewrite::stow` meets its contract. The invariant is `Head`, each turn is `head-next`, there is always a next unit (`head-more`), and no record
 -- offends (`fine-at`).
-use borrow.Author.Needs.{needs}
-use native.Mathlib.Omega.{arith}
-use Prim.Native.Nat.{suc, _-_}
-use mathlib.Core.Path.{_≡_}
-use denote.Ref.{now}
+use Rattle.element.proofs.Names.{arith, suc, _-_, _≡_, now}
 use Rattle.grammar.specs.Reading.{Octets}
 use Rattle.read.proofs.Filled.{short}
 use Rattle.rewrite.proofs.Unoffending.{fine-at}
@@ -65,13 +61,13 @@ stow-spec =
     Inv-loop
     μ-loop
     loop-holds
-    (search needs)
-    (search needs)
-    (search needs)
+    (search arith)
+    (search arith)
+    (search arith)
     same-length
     returns
-    (search needs)
-    (search needs)
+    (search arith)
+    (search arith)
     (λ c. omega arith)
     loop-again
     same-length-2

@@ -1,9 +1,5 @@
 -- `rows::octet_at` meets its contract.
-use native.Mathlib.Omega.{arith}
-use mathlib.Core.Path.{sym}
-use Prim.Native.Nat.{_+_}
-use lib.ListN.{List·getD-eq-default}
-use borrow.Author.Needs.{needs}
+use Rattle.element.proofs.Names.{arith, sym, _+_, List·getD-eq-default}
 use Rattle.rows.proofs.octet_at.Statement.{statement}
 use Rattle.rows.proofs.octet_at.Tie as tie
 
@@ -11,9 +7,9 @@ pub octet-at-spec : {M : Type 1} → statement M
 octet-at-spec =
     tie.close
     (tie.spec
-    (search needs)
-    (search needs)
-    (search needs)
-    (λ c. search needs)
+    (search arith)
+    (search arith)
+    (search arith)
+    (λ c. search arith)
     (λ c. let args = c .before .before .args in sym (List·getD-eq-default (args .work .now) 0 {n = args .row + args .place} (omega arith)))
     (λ c. let args = c .before .args in sym (List·getD-eq-default (args .work .now) 0 {n = args .row + args .place} (omega arith))))

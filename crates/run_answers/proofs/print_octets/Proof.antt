@@ -1,7 +1,5 @@
 -- `print_octets` is safe and ends: each turn passes an octet.
-use Prim.Native.Nat.{_≤_, _-_}
-use lib.ListN.{length}
-use borrow.Author.Needs.{needs}
+use Rattle.element.proofs.Names.{arith, _≤_, _-_, length}
 use Rattle.run_answers.proofs.print_octets.Statement.{statement}
 use Rattle.run_answers.proofs.print_octets.Tie as tie
 
@@ -17,12 +15,12 @@ print-octets-spec =
     (tie.spec
     Inv-loop
     μ-loop
-    (search needs)
-    (search needs)
-    (search needs)
-    (search needs)
-    (search needs)
-    (search needs)
-    (search needs)
-    (search needs)
-    (λ c. search needs))
+    (search arith)
+    (search arith)
+    (search arith)
+    (search arith)
+    (search arith)
+    (search arith)
+    (search arith)
+    (search arith)
+    (λ c. search arith))

@@ -1,7 +1,5 @@
 -- `print_runs` is safe and ends: there are no more runs than octets.
-use Prim.Native.Nat.{_≤_, _-_}
-use lib.ListN.{length}
-use borrow.Author.Needs.{needs}
+use Rattle.element.proofs.Names.{arith, _≤_, _-_, length}
 use Rattle.run_answers.proofs.print_runs.Statement.{statement}
 use Rattle.run_answers.proofs.print_runs.Tie as tie
 
@@ -17,10 +15,10 @@ print-runs-spec =
     (tie.spec
     Inv-loop
     μ-loop
-    (search needs)
-    (search needs)
-    (search needs)
-    (search needs)
-    (search needs)
-    (search needs)
-    (λ c. search needs))
+    (search arith)
+    (search arith)
+    (search arith)
+    (search arith)
+    (search arith)
+    (search arith)
+    (λ c. search arith))

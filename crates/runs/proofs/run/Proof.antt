@@ -6,7 +6,7 @@ use Rattle.walks.proofs.Names.{use2, split, fjoin, frame, done, and-then, no-mo
 use Rattle.walks.proofs.Names.{cited, says, yes, plain}
 use Rattle.walks.proofs.Names as kit
 use contract.Running.{tablesOf}
-use denote.Ref.{now}
+use Rattle.element.proofs.Names.{now}
 use denote.Struct.Laws as LL
 use Rattle.walks.proofs.Body.{𝓣of, proved}
 use Rattle.walks.proofs.Calls.{calls-value, calls-some}

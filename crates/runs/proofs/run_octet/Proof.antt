@@ -1,5 +1,5 @@
 -- `runs::run_octet` meets its contract, by what it calls; the run lies in the string.
-use borrow.Author.Needs.{needs}
+use Rattle.element.proofs.Names.{arith}
 use Rattle.runs.proofs.Lies.{lies-as}
 use Rattle.runs.proofs.run_octet.Statement.{statement}
 use Rattle.runs.proofs.run_octet.Tie as tie
@@ -11,4 +11,4 @@ returns : tie.Need-returns
 returns c = rw (c .octet .ensures, c .before .part .ensures .0, c .before .before .run-at .ensures)
 
 pub run-octet-spec : {M : Type 1} → statement M
-run-octet-spec = tie.close (tie.spec (search needs) part-requires (search needs) returns)
+run-octet-spec = tie.close (tie.spec (search arith) part-requires (search arith) returns)

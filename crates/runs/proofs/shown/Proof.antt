@@ -1,6 +1,6 @@
 -- `runs::shown` meets its contract, by what it calls.
+use Rattle.element.proofs.Names.{arith}
 use Rattle.runs.specs.Runs.{shownOf}
-use borrow.Author.Needs.{needs}
 use Rattle.runs.proofs.shown.Statement.{statement}
 use Rattle.runs.proofs.shown.Tie as tie
 
@@ -9,4 +9,4 @@ unfolding shownOf
 returns c = cc
 
 pub shown-spec : {M : Type 1} → statement M
-shown-spec = tie.close (tie.spec (search needs) (search needs) (search needs) (search needs) returns)
+shown-spec = tie.close (tie.spec (search arith) (search arith) (search arith) (search arith) returns)

@@ -1,5 +1,5 @@
 -- `segment::body` meets its contract: where the n octets are there, the part that is lent to `name_end` is what `bodyOf` takes.
-use borrow.Author.Needs.{needs}
+use native.Mathlib.Omega.{arith}
 use Rattle.segment.specs.Segment.{nameOf, contentOf}
 use Prim.Native.Nat.{ℕ}
 use lib.ListN.{take, drop}
@@ -30,12 +30,12 @@ pub body-spec : {M : Type 1} → statement M
 body-spec =
     tie.close
     (tie.spec
-    (search needs)
-    (search needs)
-    (search needs)
-    (search needs)
-    (search needs)
-    (search needs)
-    (search needs)
+    (search arith)
+    (search arith)
+    (search arith)
+    (search arith)
+    (search arith)
+    (search arith)
+    (search arith)
     returns
     returns-2)

@@ -1,8 +1,8 @@
 -- `segment::content` meets its contract: a name that ends, then the two tests of the text's length.
+use native.Mathlib.Omega.{arith}
 use Rattle.state.proofs.Steps.{steps}
 use Rattle.segment.proofs.Steps.{width-pos}
 use Rattle.segment.specs.Segment.{contentOf}
-use borrow.Author.Needs.{needs}
 use Rattle.segment.proofs.content.Statement.{statement}
 use Rattle.segment.proofs.content.Tie as tie
 
@@ -29,14 +29,14 @@ pub content-spec : {M : Type 1} → statement M
 content-spec =
     tie.close
     (tie.spec
-    (search needs)
-    (search needs)
+    (search arith)
+    (search arith)
     returns
-    (search needs)
-    (search needs)
-    (search needs)
+    (search arith)
+    (search arith)
+    (search arith)
     rem-if2
-    (search needs)
+    (search arith)
     returns-2
     returns-3
     returns-4)

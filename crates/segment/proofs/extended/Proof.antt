@@ -1,5 +1,5 @@
 -- `segment::extended` meets its contract, octet by octet and test by test.
-use borrow.Author.Needs.{needs}
+use native.Mathlib.Omega.{arith}
 use Rattle.segment.specs.Segment.{extendedOf}
 use Rattle.state.proofs.Steps.{steps}
 use Rattle.segment.proofs.extended.Statement.{statement}
@@ -11,15 +11,15 @@ extended-spec =
     tie.close
     (tie.spec
     (λ c. search steps depth 12)
-    (search needs)
-    (search needs)
+    (search arith)
+    (search arith)
     (λ c. search steps depth 12)
-    (search needs)
-    (search needs)
+    (search arith)
+    (search arith)
     (λ c. search steps depth 12)
-    (search needs)
-    (search needs)
-    (search needs)
+    (search arith)
+    (search arith)
+    (search arith)
     (λ c. search steps depth 12)
     (λ c. search steps depth 12)
     (λ c. search steps depth 12))

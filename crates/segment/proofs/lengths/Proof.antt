@@ -1,6 +1,5 @@
 -- `segment::lengths` meets its contract, octet by octet; the two lengths widen to numbers below 128 each, so n is below 16,384.
 use native.Mathlib.Omega.{arith}
-use borrow.Author.Needs.{needs}
 use Rattle.segment.specs.Segment.{lengthsOf}
 use Rattle.state.proofs.Steps.{steps}
 use Rattle.segment.proofs.lengths.Statement.{statement}
@@ -24,18 +23,18 @@ lengths-spec =
     tie.close
     (tie.spec
     (λ c. search steps depth 12)
-    (search needs)
+    (search arith)
     (λ c. search steps depth 12)
-    (search needs)
+    (search arith)
     (λ c. search steps depth 12)
-    (search needs)
-    (search needs)
+    (search arith)
+    (search arith)
     (λ c. search steps depth 12)
-    (search needs)
-    (search needs)
-    (search needs)
+    (search arith)
+    (search arith)
+    (search arith)
     mul-body
-    (search needs)
+    (search arith)
     add-body-3
-    (search needs)
+    (search arith)
     returns-5)

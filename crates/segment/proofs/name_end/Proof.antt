@@ -1,6 +1,5 @@
 -- `segment::name_end` meets its contract. The invariant: the name that the octets from `i` on have, `i` octets being passed, is
 -- that of all of them.
-use borrow.Author.Needs.{needs}
 use native.Mathlib.Omega.{arith}
 use Prim.Native.Nat.{_≤_, _-_}
 use mathlib.Core.Path.{_≡_, refl}
@@ -20,7 +19,7 @@ abbrev μ-loop : tie.MeasureT-loop
 
 loop-holds : tie.Need-loop-holds Inv-loop μ-loop
 unfolding from
-loop-holds c = (search needs, refl)
+loop-holds c = (search arith, refl)
 
 shared-slice-read-b : tie.Need-shared-slice-read-b Inv-loop μ-loop
 shared-slice-read-b c = omega arith
@@ -61,7 +60,7 @@ name-end-spec =
     shared-slice-read-b
     returns
     returns-2
-    (search needs)
+    (search arith)
     add-i
     loop-less
     loop-again

@@ -1,8 +1,5 @@
 -- `main` lends a part of the output that is there: what is printed has at most as many octets.
-use native.Mathlib.Omega.{arith}
-use mathlib.Core.Path.{sym}
-use lib.Seq.{length-take-le}
-use borrow.Author.Needs.{needs}
+use Rattle.element.proofs.Names.{arith, sym, length-take-le}
 use Rattle.shortest_form.proofs.main.Statement.{statement}
 use Rattle.shortest_form.proofs.main.Tie as tie
 
@@ -21,19 +18,19 @@ pub main-spec : {M : Type 1} → statement M
 main-spec =
     tie.close
     (tie.spec
-    (search needs)
-    (search needs)
-    (search needs)
-    (search needs)
-    (search needs)
-    (λ c. search needs)
-    (search needs)
-    (search needs)
-    (search needs)
+    (search arith)
+    (search arith)
+    (search arith)
+    (search arith)
+    (search arith)
+    (λ c. search arith)
+    (search arith)
+    (search arith)
+    (search arith)
     array-share-prefix-out
     slice-aggregate-write-all-2
-    (search needs)
-    (search needs)
-    (search needs)
-    (λ c. search needs)
-    (λ c. search needs))
+    (search arith)
+    (search arith)
+    (search arith)
+    (λ c. search arith)
+    (λ c. search arith))

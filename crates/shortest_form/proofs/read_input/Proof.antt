@@ -1,12 +1,6 @@
 -- `read_input` answers a count of octets within the room. The invariant is that, and that the room keeps its length; what is left of it falls
 -- at each turn, for a read that gives nothing ends the loop.
-use Prim.Native.Nat.{ℕ, _-_, _≤_}
-use native.Mathlib.Omega.{arith}
-use mathlib.Core.Path.{_≡_, refl, sym, _∙_}
-use mathlib.Core.List.{List}
-use lib.ListN.{length, drop, length-drop}
-use lib.Seq.{length-take-le}
-use borrow.Author.Needs.{needs}
+use Rattle.element.proofs.Names.{ℕ, _-_, _≤_, arith, _≡_, refl, sym, _∙_, List, length, drop, length-drop, length-take-le}
 use borrow.Rule.Slice.PartMut.{midOf, putMid, same-len-mid}
 use Rattle.shortest_form.proofs.read_input.Statement.{statement}
 use Rattle.shortest_form.proofs.read_input.Tie as tie
@@ -87,7 +81,7 @@ read-input-spec =
     sub-read-some
     part-read-some-start
     part-read-some-end
-    (search needs)
+    (search arith)
     same-length
     returns
     add-n

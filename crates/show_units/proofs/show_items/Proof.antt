@@ -1,6 +1,5 @@
 -- `show_units::show_items` ends: a turn is one place nearer to 10. Assumes nothing.
-use Prim.Native.Nat.{_-_, _≤_}
-use borrow.Author.Needs.{needs}
+use Rattle.element.proofs.Names.{arith, _-_, _≤_}
 use Rattle.show_units.proofs.show_items.Statement.{statement}
 use Rattle.show_units.proofs.show_items.Tie as tie
 
@@ -16,16 +15,16 @@ show-items-spec =
     (tie.spec
     Inv-loop
     μ-loop
-    (search needs)
-    (search needs)
-    (search needs)
-    (search needs)
-    (search needs)
-    (search needs)
-    (search needs)
-    (search needs)
-    (λ c. search needs)
-    (search needs)
-    (search needs)
-    (search needs)
-    (λ c. search needs))
+    (search arith)
+    (search arith)
+    (search arith)
+    (search arith)
+    (search arith)
+    (search arith)
+    (search arith)
+    (search arith)
+    (λ c. search arith)
+    (search arith)
+    (search arith)
+    (search arith)
+    (λ c. search arith))

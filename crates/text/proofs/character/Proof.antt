@@ -1,7 +1,7 @@
 -- `text::character` meets its contract, test by test.
+use native.Mathlib.Omega.{arith}
 use Rattle.state.proofs.Steps.{steps}
 use Rattle.text.specs.Functions.{characterOf}
-use borrow.Author.Needs.{needs}
 use Rattle.text.proofs.character.Statement.{statement}
 use Rattle.text.proofs.character.Tie as tie
 
@@ -10,12 +10,12 @@ unfolding characterOf
 character-spec =
     tie.close
     (tie.spec
-    (search needs)
-    (search needs)
+    (search arith)
+    (search arith)
     (λ c. search steps depth 12)
-    (search needs)
-    (search needs)
+    (search arith)
+    (search arith)
     (λ c. search steps depth 12)
-    (search needs)
+    (search arith)
     (λ c. search steps depth 12)
     (λ c. search steps depth 12))

@@ -1,7 +1,7 @@
 -- `text::text` meets its contract, test by test.
+use native.Mathlib.Omega.{arith}
 use Rattle.state.proofs.Steps.{steps}
 use Rattle.text.specs.Functions.{textOf}
-use borrow.Author.Needs.{needs}
 use Rattle.text.proofs.text.Statement.{statement}
 use Rattle.text.proofs.text.Tie as tie
 
@@ -10,11 +10,11 @@ unfolding textOf
 text-spec =
     tie.close
     (tie.spec
-    (search needs)
+    (search arith)
     (λ c. search steps depth 12)
-    (search needs)
+    (search arith)
     (λ c. search steps depth 12)
-    (search needs)
+    (search arith)
     (λ c. search steps depth 12)
-    (search needs)
+    (search arith)
     (λ c. search steps depth 12))

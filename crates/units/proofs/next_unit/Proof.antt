@@ -1,14 +1,6 @@
 -- `units::next_unit` meets its contract: at each turn the elements from the place on give what those from the start do.
 -- Assumes nothing.
-use Prim.Native.Nat.{ℕ, _+_, _-_, _≤_}
-use native.Mathlib.Omega.{arith}
-use mathlib.Core.Path.{_≡_, refl, sym, ap, _∙_}
-use borrow.Author.Needs.{needs}
-use lib.ListN.{length}
-use denote.Ref.{now}
-use Rattle.base.proofs.Ladder.{ladder, on-ge}
-use Rattle.base.specs.declared.Unit.{Unit as UnitRecord}
-use Rattle.state.specs.declared.State.{State}
+use Rattle.element.proofs.Names.{ℕ, _+_, _-_, _≤_, arith, _≡_, refl, sym, ap, _∙_, length, now, ladder, on-ge, UnitRecord, State}
 use Rattle.element.proofs.Sizes.{silent, found}
 use Rattle.grammar.proofs.Places.{refused-within, step-passed}
 use Rattle.units.specs.Next.{nextOf}
@@ -118,17 +110,17 @@ next-unit-spec =
     μ-loop
     (λ c. search ladder)
     loop-holds
-    (search needs)
-    (search needs)
+    (search arith)
+    (search arith)
     returns-2
-    (search needs)
+    (search arith)
     add-stop
     returns-3
-    (search needs)
+    (search arith)
     add-at
     loop-less
     loop-again
-    (search needs)
+    (search arith)
     record-requires
     add-octets
     add-after

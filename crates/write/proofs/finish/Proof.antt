@@ -1,7 +1,6 @@
 -- `write::finish` meets its contract, by the length of the list and by how far it is checked.
-use mathlib.Core.Path.{refl, _∙_}
+use Rattle.element.proofs.Names.{arith, refl, _∙_}
 use Rattle.write.proofs.Finishes.{finish-long, finish-fine, finish-faulty}
-use borrow.Author.Needs.{needs}
 use Rattle.write.proofs.finish.Statement.{statement}
 use Rattle.write.proofs.finish.Tie as tie
 
@@ -32,13 +31,13 @@ pub finish-spec : {M : Type 1} → statement M
 finish-spec =
     tie.close
     (tie.spec
-    (search needs)
+    (search arith)
     returns
-    (search needs)
-    (search needs)
-    (search needs)
-    (search needs)
-    (search needs)
-    (search needs)
+    (search arith)
+    (search arith)
+    (search arith)
+    (search arith)
+    (search arith)
+    (search arith)
     returns-2
     returns-3)

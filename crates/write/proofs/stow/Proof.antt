@@ -7,13 +7,10 @@ use Rattle.walks.proofs.Names.{Val, vint, SProp, id⊢, GName, Fml, flft, let-g
 use Rattle.walks.proofs.Names.{lit, of-opd, bin, no-more, Is, shows, u8, RefT, sliceVal, Room}
 use Rattle.walks.proofs.Names as kit
 use native.Mathlib.Nat.{le-antisymm}
-use native.Mathlib.Numerals.{add-one}
-use native.Mathlib.Omega.{arith}
-use lib.Dec.{T as Holds, ltb, ltb→lt, nltb→le, lit<}
-use prog.Wp.{afterTurn}
+use Rattle.element.proofs.Names.{add-one, arith, ltb, ltb→lt, nltb→le, lit<, afterTurn, UnitRecord}
+use lib.Dec.{T as Holds}
 use denote.Enum.Laws as EL
 use denote.Struct.Laws as LL
-use Rattle.base.specs.declared.Unit.{Unit as UnitRecord}
 use Rattle.base.proofs.Unit as U
 use Rattle.base.proofs.Unit.Laws as U′
 use Rattle.walks.proofs.Body.{𝓣of, tests}

@@ -7,14 +7,9 @@ use Rattle.walks.proofs.Names.{vint, SProp, id⊢, GName, Fml, flft, let-go, �
 use Rattle.walks.proofs.Names.{bin}
 use Rattle.walks.proofs.Names.{Is, shows, u8, RefT, Room}
 use Rattle.walks.proofs.Names as kit
-use native.Mathlib.Numerals.{add-one}
-use native.Mathlib.Omega.{arith}
-use lib.Dec.{ltb→lt, nltb→le}
-use prog.Wp.{afterTurn}
+use Rattle.element.proofs.Names.{add-one, arith, ltb→lt, nltb→le, afterTurn, pick, UnitRecord}
 use denote.Enum.Laws as EL
 use denote.Struct.Laws as LL
-use Rattle.base.specs.Choice.{pick}
-use Rattle.base.specs.declared.Unit.{Unit as UnitRecord}
 use Rattle.base.proofs.Unit as U
 use Rattle.base.proofs.Unit.Laws as U′
 use Rattle.walks.proofs.Body.{𝓣of, tests, holds, fails}

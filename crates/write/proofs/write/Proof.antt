@@ -7,8 +7,7 @@ use Rattle.walks.proofs.Names.{finally, nothing}
 use Rattle.walks.proofs.Names as kit
 use denote.Enum.Laws as EL
 use denote.Struct.Laws as LL
-use Rattle.base.specs.declared.Answer.{Answer}
-use Rattle.base.specs.declared.Unit.{Unit as UnitRecord}
+use Rattle.element.proofs.Names.{Answer, UnitRecord}
 use Rattle.base.proofs.Answer as N
 use Rattle.base.proofs.Answer.Laws as N′
 use Rattle.base.proofs.Unit as U

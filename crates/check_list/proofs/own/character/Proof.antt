@@ -1,12 +1,8 @@
 -- `check_list::own::character` meets its contract.
-use mathlib.Core.Path.{sym, ap, _∙_}
+use Rattle.element.proofs.Names.{arith, sym, ap, _∙_, ℕ, Bool, stepOf}
 use Rattle.check_list.proofs.Refusals.{set-none, code-unused, code-fits}
-use Prim.Native.Nat.{ℕ}
-use mathlib.Core.Bool.{Bool}
 use Rattle.base.specs.Kind as kind
-use Rattle.state.specs.Directions.{stepOf}
 use Rattle.grammar.specs.Units.{codeUsed}
-use borrow.Author.Needs.{needs}
 use Rattle.check_list.proofs.own.character.Statement.{statement}
 use Rattle.check_list.proofs.own.character.Tie as tie
 
@@ -14,10 +10,10 @@ pub character-spec : {M : Type 1} → statement M
 character-spec =
     tie.close
     (tie.spec
-    (search needs)
-    (search needs)
-    (search needs)
-    (search needs)
+    (search arith)
+    (search arith)
+    (search arith)
+    (search arith)
     (λ c. let args = c .before .before .before .before .before .before .args in
     let form = ap (λ (f : ℕ). codeUsed f (args .code)) (sym (c .before .before .before .before .form-of .ensures)) in
     let used = form ∙ sym (c .before .before .before .code-used .ensures) ∙ c .before .before .if2 .taken in

@@ -1,9 +1,7 @@
 -- `check_list::own::code_used` meets its contract, form by form.
-use mathlib.Core.Path.{sym, _∙_}
-use borrow.Author.Tests.{eq-eqb, ne-eqb}
+use Rattle.element.proofs.Names.{arith, sym, _∙_, eq-eqb, ne-eqb}
 use Rattle.base.proofs.Bools.{to-tests}
 use Rattle.grammar.specs.Units.{codeUsed}
-use borrow.Author.Needs.{needs}
 use Rattle.check_list.proofs.own.code_used.Statement.{statement}
 use Rattle.check_list.proofs.own.code_used.Tie as tie
 
@@ -12,12 +10,12 @@ unfolding codeUsed
 code-used-spec =
     tie.close
     (tie.spec
-    (search needs)
-    (search needs)
+    (search arith)
+    (search arith)
     (λ c. simp (eq-eqb _ _ (c .before .before .before .if1 .taken), sym (c .before .before .graphic .ensures) ∙ c .before .if2 .taken)
     (c .graphic2 .ensures))
     (λ c. simp (eq-eqb _ _ (c .before .before .if1 .taken), sym (c .before .graphic .ensures) ∙ c .if2 .left))
     (λ c. search to-tests)
     (λ c. search to-tests)
-    (search needs)
+    (search arith)
     (λ c. simp (ne-eqb _ _ (c .before .before .if1 .left), ne-eqb _ _ (c .before .if3 .left)) (c .graphic3 .ensures)))

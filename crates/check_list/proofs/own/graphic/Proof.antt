@@ -1,5 +1,5 @@
 -- `check_list::own::graphic` meets its contract.
-use Rattle.base.proofs.Ladder.{ladder}
+use Rattle.element.proofs.Names.{ladder}
 use Rattle.text.specs.Text.{graphicOf}
 use Rattle.check_list.proofs.own.graphic.Statement.{statement}
 use Rattle.check_list.proofs.own.graphic.Tie as tie

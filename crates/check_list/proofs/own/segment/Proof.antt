@@ -1,9 +1,6 @@
 -- `check_list::own::segment` meets its contract, refusal by refusal.
-use native.Mathlib.Omega.{arith}
-use mathlib.Core.Path.{_∙_}
-use mathlib.Core.Logic.{⊎-elim}
+use Rattle.element.proofs.Names.{arith, _∙_, ⊎-elim}
 use Rattle.check_list.proofs.Refusals.{part-outside, part-low, part-high, part-many, part-found, part-bad}
-use borrow.Author.Needs.{needs}
 use Rattle.check_list.proofs.own.segment.Statement.{statement}
 use Rattle.check_list.proofs.own.segment.Tie as tie
 
@@ -16,18 +13,18 @@ segment-spec =
     (λ c. search part-low)
     (λ c. search part-high)
     (λ c. search part-many)
-    (search needs)
-    (search needs)
-    (search needs)
-    (search needs)
-    (search needs)
-    (search needs)
-    (search needs)
-    (search needs)
+    (search arith)
+    (search arith)
+    (search arith)
+    (search arith)
+    (search arith)
+    (search arith)
+    (search arith)
+    (search arith)
     (λ c. let few = c .before .before .before .before in
     part-bad (few .before .before .before .before .before .before .args .segments .now) _ _ _ _ (few .before .before .before .before .if1 .left)
     (few .before .before .before .if2 .left) (few .before .before .if3 .left) (few .before .if4 .left) (few .if5 .left)
     (c .before .content .result) _ (c .before .before .name-end .ensures) (c .before .content .ensures)
     (λ p q. ⊎-elim (λ z. omega (arith, z)) (⊎-elim (λ z. omega (arith, z)) (λ z. omega (arith, z))) (rw q at (c .match .keys2))))
-    (search needs)
+    (search arith)
     (λ c. c .step .ensures ∙ search part-found))

@@ -1,5 +1,5 @@
 -- `check_list::plain::code_by` meets its contract.
-use Rattle.base.proofs.Ladder.{ladder}
+use Rattle.element.proofs.Names.{ladder}
 use Rattle.check_list.specs.Plain.{codeBy}
 use Rattle.check_list.proofs.plain.code_by.Statement.{statement}
 use Rattle.check_list.proofs.plain.code_by.Tie as tie

@@ -1,7 +1,6 @@
 -- `check_list::plain::plain` meets its contract.
-use Rattle.base.proofs.Ladder.{ladder}
+use Rattle.element.proofs.Names.{arith, ladder}
 use Rattle.check_list.specs.Plain.{plainOf}
-use borrow.Author.Needs.{needs}
 use Rattle.check_list.proofs.plain.plain.Statement.{statement}
 use Rattle.check_list.proofs.plain.plain.Tie as tie
 
@@ -10,8 +9,8 @@ unfolding plainOf
 plain-spec =
     tie.close
     (tie.spec
-    (search needs)
-    (search needs)
-    (search needs)
+    (search arith)
+    (search arith)
+    (search arith)
     (λ c. rw (← c .before .code-by .ensures, ← c .before .before .set-by .ensures) (search ladder depth 9))
     (λ c. search ladder depth 9))

@@ -1,5 +1,5 @@
 -- `check_list::plain::set_by` meets its contract.
-use Rattle.base.proofs.Ladder.{ladder}
+use Rattle.element.proofs.Names.{ladder}
 use Rattle.check_list.specs.Plain.{setBy}
 use Rattle.check_list.proofs.plain.set_by.Statement.{statement}
 use Rattle.check_list.proofs.plain.set_by.Tie as tie

@@ -1,8 +1,6 @@
 -- `check_list::plain::used` meets its contract.
-use native.Mathlib.Omega.{arith}
-use Rattle.base.proofs.Ladder.{ladder, on-gt}
+use Rattle.element.proofs.Names.{arith, ladder, on-gt}
 use Rattle.check_list.specs.Plain.{usedBy}
-use borrow.Author.Needs.{needs}
 use Rattle.check_list.proofs.plain.used.Statement.{statement}
 use Rattle.check_list.proofs.plain.used.Tie as tie
 
@@ -12,16 +10,16 @@ used-spec =
     tie.close
     (tie.spec
     (λ c. on-gt 0x10000 (c .before .args .code) _ _ _ (omega (arith, c .before .fits .code)) (search ladder depth 9))
-    (search needs)
-    (search needs)
-    (search needs)
-    (search needs)
-    (search needs)
-    (search needs)
-    (search needs)
+    (search arith)
+    (search arith)
+    (search arith)
+    (search arith)
+    (search arith)
+    (search arith)
+    (search arith)
     (λ c. on-gt 0x10000 (c .before .before .args .code) _ _ _ (omega (arith, c .before .before .fits .code)) (search ladder depth 9))
-    (search needs)
-    (search needs)
-    (search needs)
-    (search needs)
+    (search arith)
+    (search arith)
+    (search arith)
+    (search arith)
     (λ c. on-gt 0x10000 (c .before .before .args .code) _ _ _ (omega (arith, c .before .before .fits .code)) (search ladder depth 9)))

@@ -1,6 +1,5 @@
 -- `rows::record::number_of` meets its contract, by the kind.
-use native.Mathlib.Omega.{arith}
-use Rattle.base.proofs.Ladder.{ladder}
+use Rattle.element.proofs.Names.{arith, ladder}
 use Rattle.rows.specs.Rows.{numberOf}
 use Rattle.check_list.proofs.record.number_of.Statement.{statement}
 use Rattle.check_list.proofs.record.number_of.Tie as tie

@@ -1,12 +1,7 @@
 -- `rows::record::put` meets its contract.
-use Prim.Native.Nat.{_+_, _*_}
-use native.Mathlib.Omega.{arith}
-use mathlib.Core.Path.{refl}
-use Rattle.base.proofs.Ladder.{on-lt, on-ge}
-use lib.ListN.{length-set}
+use Rattle.element.proofs.Names.{_+_, _*_, arith, refl, on-lt, on-ge, length-set}
 use Rattle.rows.specs.Rows.{withRecord}
 use Rattle.rows.proofs.Seven.{seven-stores}
-use borrow.Author.Needs.{needs}
 use Rattle.check_list.proofs.record.put.Statement.{statement}
 use Rattle.check_list.proofs.record.put.Tie as tie
 
@@ -15,28 +10,28 @@ unfolding withRecord
 put-spec =
     tie.close
     (tie.spec
-    (search needs)
-    (search needs)
-    (λ c κs. search needs)
-    (λ c κs. search needs)
-    (search needs)
-    (search needs)
-    (search needs)
-    (search needs)
-    (search needs)
+    (search arith)
+    (search arith)
+    (λ c κs. search arith)
+    (λ c κs. search arith)
+    (search arith)
+    (search arith)
+    (search arith)
+    (search arith)
+    (search arith)
     (λ c. simp length-set (omega (arith, c .before .before .if1 .taken)))
-    (search needs)
-    (search needs)
+    (search arith)
+    (search arith)
     (λ c. simp length-set (omega (arith, c .before .before .if1 .taken)))
-    (search needs)
-    (search needs)
+    (search arith)
+    (search arith)
     (λ c. simp length-set (omega (arith, c .before .before .if1 .taken)))
     (λ c. simp length-set (omega (arith, c .before .before .if1 .taken)))
-    (search needs)
-    (search needs)
+    (search arith)
+    (search arith)
     (λ c. simp length-set (omega (arith, c .before .before .if1 .taken)))
-    (search needs)
-    (search needs)
+    (search arith)
+    (search arith)
     (λ c. simp length-set (omega (arith, c .before .before .if1 .taken)))
     (λ c. simp length-set)
     (λ c. let args = c .before .before .before .before .args in

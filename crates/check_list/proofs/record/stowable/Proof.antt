@@ -1,7 +1,6 @@
 -- `check_list::record::stowable` meets its contract.
-use Rattle.base.proofs.Ladder.{ladder}
+use Rattle.element.proofs.Names.{ladder, needs}
 use Rattle.rows.specs.Stowable.{stowableOf}
-use borrow.Author.Needs.{needs}
 use Rattle.check_list.proofs.record.stowable.Statement.{statement}
 use Rattle.check_list.proofs.record.stowable.Tie as tie
 

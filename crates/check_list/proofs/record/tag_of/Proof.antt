@@ -1,8 +1,6 @@
 -- `rows::record::tag_of` meets its contract, by the kind.
-use native.Mathlib.Omega.{arith}
-use Rattle.base.proofs.Ladder.{ladder}
+use Rattle.element.proofs.Names.{arith, ladder}
 use Rattle.rows.specs.Rows.{tagOf}
-use borrow.Author.Needs.{needs}
 use Rattle.check_list.proofs.record.tag_of.Statement.{statement}
 use Rattle.check_list.proofs.record.tag_of.Tie as tie
 
@@ -15,5 +13,5 @@ tag-of-spec =
     (λ c. omega (arith, c .before .before .before .pre .low (c .before .if2 .taken)))
     (λ c. omega (arith, c .before .before .before .pre .high (c .before .if2 .taken)))
     (λ c. search ladder depth 9)
-    (search needs)
+    (search arith)
     (λ c. search ladder depth 9))

@@ -1,7 +1,7 @@
 -- `escape::designation` meets its contract, octet by octet and test by test.
+use native.Mathlib.Omega.{arith}
 use Rattle.state.proofs.Steps.{steps}
 use Rattle.control.specs.Escape.{designationOf}
-use borrow.Author.Needs.{needs}
 use Rattle.control.proofs.escape.designation.Statement.{statement}
 use Rattle.control.proofs.escape.designation.Tie as tie
 
@@ -11,12 +11,12 @@ designation-spec =
     tie.close
     (tie.spec
     (λ c. search steps depth 12)
-    (search needs)
+    (search arith)
     (λ c. search steps depth 12)
-    (search needs)
-    (search needs)
+    (search arith)
+    (search arith)
     (λ c. search steps depth 12)
     (λ c. search steps depth 12)
-    (search needs)
+    (search arith)
     (λ c. search steps depth 12)
     (λ c. search steps depth 12))

@@ -1,5 +1,5 @@
 -- `escape::final_octet` meets its contract, by what it calls.
-use borrow.Author.Needs.{needs}
+use native.Mathlib.Omega.{arith}
 use Rattle.control.proofs.escape.final_octet.Statement.{statement}
 use Rattle.control.proofs.escape.final_octet.Tie as tie
 
@@ -7,4 +7,4 @@ returns : tie.Need-returns
 returns c = cc
 
 pub final-octet-spec : {M : Type 1} → statement M
-final-octet-spec = tie.close (tie.spec (search needs) (search needs) returns)
+final-octet-spec = tie.close (tie.spec (search arith) (search arith) returns)

@@ -1,7 +1,7 @@
 -- `mark::csi` meets its contract, arm by arm.
+use native.Mathlib.Omega.{arith}
 use Rattle.state.proofs.Steps.{steps}
 use Rattle.control.specs.Mark.{csiOf}
-use borrow.Author.Needs.{needs}
 use Rattle.control.proofs.mark.csi.Statement.{statement}
 use Rattle.control.proofs.mark.csi.Tie as tie
 
@@ -11,12 +11,12 @@ csi-spec =
     tie.close
     (tie.spec
     (λ c. search steps depth 12)
-    (search needs)
-    (search needs)
-    (search needs)
-    (search needs)
-    (search needs)
-    (search needs)
+    (search arith)
+    (search arith)
+    (search arith)
+    (search arith)
+    (search arith)
+    (search arith)
     (λ c. search steps depth 12)
     (λ c. search steps depth 12)
     (λ c. search steps depth 12)

@@ -1,6 +1,6 @@
 -- `running::ctext_next_runs` meets its contract, by what it calls.
+use Rattle.element.proofs.Names.{arith}
 use Rattle.ctext.specs.Running.{handedOf}
-use borrow.Author.Needs.{needs}
 use Rattle.ctext.proofs.running.ctext_next_runs.Statement.{statement}
 use Rattle.ctext.proofs.running.ctext_next_runs.Tie as tie
 
@@ -11,4 +11,4 @@ returns c =
     rw (← (c .before .before .before .before .before .before .before .position-in .ensures)) (rw (← (step .0), ← (c .reader-of .ensures)), step .1)
 
 pub ctext-next-runs-spec : {M : Type 1} → statement M
-ctext-next-runs-spec = tie.close (tie.spec (search needs) (search needs) (search needs) (search needs) returns)
+ctext-next-runs-spec = tie.close (tie.spec (search arith) (search arith) (search arith) (search arith) returns)

@@ -1,5 +1,5 @@
 -- `running::position_in` meets its contract, field by field.
-use mathlib.Core.Path.{refl}
+use Rattle.element.proofs.Names.{refl}
 use Rattle.ctext.specs.Running.{positionIn}
 use Rattle.ctext.proofs.running.position_in.Statement.{statement}
 use Rattle.ctext.proofs.running.position_in.Tie as tie

@@ -1,12 +1,12 @@
 -- `running::reader_of` meets its contract, by what `flag` ensures.
-use Rattle.ctext.specs.Running.{packed}
-use borrow.Author.Needs.{needs}
+use Rattle.element.proofs.Names.{arith}
+use Rattle.ctext.specs.Running.{packedRuns}
 use Rattle.ctext.proofs.running.reader_of.Statement.{statement}
 use Rattle.ctext.proofs.running.reader_of.Tie as tie
 
 returns : tie.Need-returns
-unfolding packed
+unfolding packedRuns
 returns c = rw (← (c .before .before .flag .ensures), ← (c .before .flag2 .ensures), ← (c .flag3 .ensures))
 
 pub reader-of-spec : {M : Type 1} → statement M
-reader-of-spec = tie.close (tie.spec (search needs) (search needs) (search needs) returns)
+reader-of-spec = tie.close (tie.spec (search arith) (search arith) (search arith) returns)

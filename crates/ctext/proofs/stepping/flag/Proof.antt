@@ -1,5 +1,5 @@
 -- `stepping::flag` meets its contract, case by case.
-use Rattle.base.proofs.Ladder.{ladder}
+use Rattle.element.proofs.Names.{ladder}
 use Rattle.ctext.specs.Stepping.{flagOf}
 use Rattle.ctext.proofs.stepping.flag.Statement.{statement}
 use Rattle.ctext.proofs.stepping.flag.Tie as tie

@@ -1,12 +1,12 @@
 -- `stepping::position_of` meets its contract, by what `flag` ensures.
-use Rattle.ctext.specs.Stepping.{packed}
-use borrow.Author.Needs.{needs}
+use Rattle.element.proofs.Names.{arith}
+use Rattle.ctext.specs.Stepping.{packedReader}
 use Rattle.ctext.proofs.stepping.position_of.Statement.{statement}
 use Rattle.ctext.proofs.stepping.position_of.Tie as tie
 
 returns : tie.Need-returns
-unfolding packed
+unfolding packedReader
 returns c = rw (← (c .before .flag .ensures), ← (c .flag2 .ensures))
 
 pub position-of-spec : {M : Type 1} → statement M
-position-of-spec = tie.close (tie.spec (search needs) (search needs) returns)
+position-of-spec = tie.close (tie.spec (search arith) (search arith) returns)

@@ -1,5 +1,5 @@
 -- `octets::one_octet` meets its contract, by what it calls.
-use borrow.Author.Needs.{needs}
+use Rattle.element.proofs.Names.{arith}
 use Rattle.cursor.proofs.octets.one_octet.Statement.{statement}
 use Rattle.cursor.proofs.octets.one_octet.Tie as tie
 
@@ -7,4 +7,4 @@ returns : tie.Need-returns
 returns c = cc
 
 pub one-octet-spec : {M : Type 1} → statement M
-one-octet-spec = tie.close (tie.spec (search needs) (search needs) (search needs) (search needs) (search needs) returns)
+one-octet-spec = tie.close (tie.spec (search arith) (search arith) (search arith) (search arith) (search arith) returns)

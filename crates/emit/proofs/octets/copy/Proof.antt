@@ -1,9 +1,5 @@
 -- `octets::copy` meets its contract. The invariant: the first k octets are stored.
-use native.Mathlib.Omega.{arith}
-use mathlib.Core.Path.{_≡_, refl}
-use Prim.Native.Nat.{_-_, _≤_}
-use lib.ListN.{length, take, drop, length-set}
-use lib.Seq.{sets}
+use Rattle.element.proofs.Names.{arith, _≡_, refl, _-_, _≤_, length, take, drop, length-set, sets}
 use Rattle.emit.proofs.Stores.{copy-more, copy-done}
 use Rattle.emit.proofs.octets.copy.Statement.{statement}
 use Rattle.emit.proofs.octets.copy.Tie as tie

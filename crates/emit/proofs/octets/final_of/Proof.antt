@@ -1,13 +1,5 @@
 -- `octets::final_of` meets its contract: one test of all fifteen.
-use native.Mathlib.Omega.{arith}
-use mathlib.Core.Path.{refl}
-use lib.Dec.{eqb}
-use lib.ListN.{getD}
-use mathlib.Core.List.{List, [], _∷_}
-use Prim.Native.Nat.{ℕ}
-use borrow.Author.Tests.{eqb-true}
-use Rattle.base.proofs.Bools.{up-to}
-use Rattle.charset.specs.Charsets.{rowOf}
+use Rattle.element.proofs.Names.{arith, refl, eqb, getD, List, [], _∷_, ℕ, eqb-true, up-to, rowOf}
 use Rattle.emit.proofs.octets.final_of.Statement.{statement}
 use Rattle.emit.proofs.octets.final_of.Tie as tie
 

@@ -1,5 +1,5 @@
 -- `octets::on_side` meets its contract.
-use native.Mathlib.Omega.{arith}
+use Rattle.element.proofs.Names.{arith}
 use Rattle.emit.proofs.octets.on_side.Statement.{statement}
 use Rattle.emit.proofs.octets.on_side.Tie as tie
 

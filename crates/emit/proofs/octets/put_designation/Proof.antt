@@ -1,7 +1,5 @@
 -- `octets::put_designation` meets its contract, for one-octet and two-octet sets.
-use native.Mathlib.Omega.{arith}
-use mathlib.Core.Path.{ap}
-use lib.ListN.{length, set, length-set}
+use Rattle.element.proofs.Names.{arith, ap, length, set, length-set}
 use Rattle.emit.proofs.Stores.{written-3, written-4, written-as, room-three, designation-one, designation-two}
 use Rattle.emit.proofs.octets.put_designation.Statement.{statement}
 use Rattle.emit.proofs.octets.put_designation.Tie as tie

@@ -1,7 +1,5 @@
 -- `octets::put_mark` meets its contract, tag by tag.
-use native.Mathlib.Omega.{arith}
-use lib.ListN.{length-set}
-use Rattle.base.proofs.Ladder.{ladder}
+use Rattle.element.proofs.Names.{arith, length-set, ladder}
 use Rattle.grammar.specs.Units.{tab, newline, ltr, rtl, revert, octets}
 use Rattle.rows.specs.Rows.{markTagged}
 use Rattle.emit.proofs.Stores.{written-1, written-2, mark-room, mark-written}

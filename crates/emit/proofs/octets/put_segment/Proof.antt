@@ -1,5 +1,5 @@
 -- `octets::put_segment` meets its contract: two threes of octets, and the part.
-use native.Mathlib.Omega.{arith}
+use Rattle.element.proofs.Names.{arith}
 use Rattle.emit.proofs.Stores.{written-as, written-both, segment-parts}
 use Rattle.emit.proofs.octets.put_segment.Statement.{statement}
 use Rattle.emit.proofs.octets.put_segment.Tie as tie

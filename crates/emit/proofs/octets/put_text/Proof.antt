@@ -1,7 +1,5 @@
 -- `octets::put_text` meets its contract, for a character of two octets and for one octet.
-use native.Mathlib.Omega.{arith}
-use mathlib.Core.Path.{refl, sym, _∙_}
-use lib.ListN.{length-set}
+use Rattle.element.proofs.Names.{arith, refl, sym, _∙_, length-set}
 use Rattle.emit.specs.Octets.{sideOf}
 use Rattle.emit.proofs.Stores.{written-1, written-2, written-as, room-as, single-octet, two-octets}
 use Rattle.emit.proofs.octets.put_text.Statement.{statement}

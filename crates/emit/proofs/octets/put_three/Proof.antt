@@ -1,6 +1,5 @@
 -- `octets::put_three` meets its contract.
-use native.Mathlib.Omega.{arith}
-use lib.ListN.{length-set}
+use Rattle.element.proofs.Names.{arith, length-set}
 use Rattle.emit.proofs.Stores.{written-3}
 use Rattle.emit.proofs.octets.put_three.Statement.{statement}
 use Rattle.emit.proofs.octets.put_three.Tie as tie

@@ -1,5 +1,5 @@
 -- `octets::sign` meets its contract, test by test.
-use Rattle.base.proofs.Ladder.{ladder}
+use Rattle.element.proofs.Names.{ladder}
 use Rattle.emit.specs.Octets.{signOf}
 use Rattle.emit.proofs.octets.sign.Statement.{statement}
 use Rattle.emit.proofs.octets.sign.Tie as tie

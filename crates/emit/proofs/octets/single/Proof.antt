@@ -1,6 +1,5 @@
 -- `octets::single` meets its contract.
-use native.Mathlib.Omega.{arith}
-use Rattle.base.proofs.Ladder.{ladder}
+use Rattle.element.proofs.Names.{arith, ladder}
 use Rattle.emit.proofs.octets.single.Statement.{statement}
 use Rattle.emit.proofs.octets.single.Tie as tie
 

@@ -1,5 +1,5 @@
 -- `octets::two_octets` meets its contract.
-use Rattle.base.proofs.Ladder.{ladder}
+use Rattle.element.proofs.Names.{ladder}
 use Rattle.emit.proofs.octets.two_octets.Statement.{statement}
 use Rattle.emit.proofs.octets.two_octets.Tie as tie
 

@@ -1,7 +1,5 @@
 -- `slots::after_first` meets its contract, by the class and its places.
-use native.Mathlib.Omega.{arith}
-use mathlib.Core.Path.{refl}
-use borrow.Author.Tests.{le-ltb, eq-eqb, ne-eqb}
+use Rattle.element.proofs.Names.{arith, refl, le-ltb, eq-eqb, ne-eqb}
 use Rattle.numbers.specs.Numbers.{placesInGR, afterFirst}
 use Rattle.numbers.proofs.Numbers.{bounded, first-gl, first-gr}
 use Rattle.emit.proofs.slots.after_first.Statement.{statement}

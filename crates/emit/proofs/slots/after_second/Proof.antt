@@ -1,7 +1,5 @@
 -- `slots::after_second` meets its contract, by the class and its places.
-use native.Mathlib.Omega.{arith}
-use mathlib.Core.Path.{refl}
-use borrow.Author.Tests.{le-ltb, eq-eqb, ne-eqb}
+use Rattle.element.proofs.Names.{arith, refl, le-ltb, eq-eqb, ne-eqb}
 use Rattle.numbers.specs.Numbers.{placesInGL, afterSecond}
 use Rattle.numbers.proofs.Numbers.{bounded, second-gl, second-gr}
 use Rattle.emit.proofs.slots.after_second.Statement.{statement}

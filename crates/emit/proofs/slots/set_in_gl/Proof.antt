@@ -1,5 +1,5 @@
 -- `numbers::set_in_gl` meets its contract, by the place.
-use native.Mathlib.Omega.{arith}
+use Rattle.element.proofs.Names.{arith}
 use Rattle.numbers.proofs.Numbers.{gl-set}
 use Rattle.emit.proofs.slots.set_in_gl.Statement.{statement}
 use Rattle.emit.proofs.slots.set_in_gl.Tie as tie

@@ -1,5 +1,5 @@
 -- `numbers::set_in_gr` meets its contract, by the place.
-use native.Mathlib.Omega.{arith}
+use Rattle.element.proofs.Names.{arith}
 use Rattle.numbers.proofs.Numbers.{gr-set, gr-spare}
 use Rattle.emit.proofs.slots.set_in_gr.Statement.{statement}
 use Rattle.emit.proofs.slots.set_in_gr.Tie as tie

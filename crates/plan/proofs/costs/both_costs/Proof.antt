@@ -1,6 +1,5 @@
 -- `costs::both_costs` meets its contract: the lesser costs are the least.
-use native.Mathlib.Omega.{arith}
-use mathlib.Core.Path.{refl}
+use Rattle.element.proofs.Names.{arith, refl}
 use Rattle.plan.proofs.Filled.{columns-as}
 use Rattle.plan.proofs.Least.{charges-as, last-surcharge, fit-charges, fit-column, lesser-both}
 use Rattle.plan.proofs.costs.both_costs.Statement.{statement}

@@ -1,5 +1,5 @@
 -- `costs::changed` meets its contract, test by test.
-use Rattle.base.proofs.Ladder.{ladder}
+use Rattle.element.proofs.Names.{ladder}
 use Rattle.plan.specs.Costs.{changes}
 use Rattle.plan.proofs.costs.changed.Statement.{statement}
 use Rattle.plan.proofs.costs.changed.Tie as tie

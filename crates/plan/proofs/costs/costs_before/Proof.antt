@@ -1,9 +1,5 @@
 -- `costs::costs_before` meets its contract, by where the class has a place.
-use native.Mathlib.Omega.{arith}
-use Prim.Native.Nat.{ℕ, _≤_}
-use mathlib.Core.Path.{ap, subst, _∙_}
-use mathlib.Core.List.{List}
-use lib.ListN.{getD}
+use Rattle.element.proofs.Names.{arith, ℕ, _≤_, ap, subst, _∙_, List, getD}
 use Rattle.numbers.specs.Numbers.{placesInGL}
 use Rattle.plan.proofs.Least.{last-surcharge, served-left, in-right}
 use Rattle.plan.proofs.costs.costs_before.Statement.{statement}

@@ -1,9 +1,5 @@
 -- `costs::gl_costs` meets its contract. The invariant: the first r columns hold the least costs, and the others what they held.
-use native.Mathlib.Omega.{arith}
-use Prim.Native.Nat.{_+_, _-_, _≤_}
-use mathlib.Core.Path.{_≡_, _∙_}
-use mathlib.Core.Bool.{cond}
-use lib.Dec.{eqb}
+use Rattle.element.proofs.Names.{arith, _+_, _-_, _≤_, _≡_, _∙_, cond, eqb}
 use Rattle.plan.specs.Table.{Swept}
 use Rattle.plan.proofs.Filled.{costsGL, swept-none, swept-next, swept-gl, swept-end, columns-as}
 use Rattle.plan.proofs.Least.{gl-least, unserved-most}

@@ -1,6 +1,5 @@
 -- `costs::gr_costs` meets its contract: the lesser costs are the least.
-use native.Mathlib.Omega.{arith}
-use mathlib.Core.Path.{refl}
+use Rattle.element.proofs.Names.{arith, refl}
 use Rattle.plan.proofs.Filled.{columns-as}
 use Rattle.plan.proofs.Least.{fit-column, lesser-gr}
 use Rattle.plan.proofs.costs.gr_costs.Statement.{statement}

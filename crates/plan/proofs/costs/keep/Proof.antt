@@ -1,5 +1,5 @@
 -- `costs::keep` meets its contract, by the class.
-use native.Mathlib.Omega.{arith}
+use Rattle.element.proofs.Names.{arith}
 use Rattle.plan.proofs.Turns.{kept-character, kept-space}
 use Rattle.plan.proofs.costs.keep.Statement.{statement}
 use Rattle.plan.proofs.costs.keep.Tie as tie

@@ -1,6 +1,5 @@
 -- `costs::unit_before` meets its contract.
-use native.Mathlib.Omega.{arith}
-use mathlib.Core.Path.{sym, _∙_}
+use Rattle.element.proofs.Names.{arith, sym, _∙_}
 use Rattle.plan.proofs.Turns.{changes-class, turned-moved, turned-near, turned-lowered, turned-still}
 use Rattle.plan.proofs.costs.unit_before.Statement.{statement}
 use Rattle.plan.proofs.costs.unit_before.Tie as tie

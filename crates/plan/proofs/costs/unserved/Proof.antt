@@ -1,5 +1,5 @@
 -- `costs::unserved` meets its contract.
-use borrow.Author.Tests.{eq-eqb, ne-eqb}
+use Rattle.element.proofs.Names.{eq-eqb, ne-eqb}
 use Rattle.plan.proofs.costs.unserved.Statement.{statement}
 use Rattle.plan.proofs.costs.unserved.Tie as tie
 

@@ -1,5 +1,5 @@
 -- `table::charge` meets its contract.
-use borrow.Author.Tests.{eq-eqb, ne-eqb}
+use Rattle.element.proofs.Names.{eq-eqb, ne-eqb}
 use Rattle.plan.proofs.table.charge.Statement.{statement}
 use Rattle.plan.proofs.table.charge.Tie as tie
 

@@ -1,5 +1,5 @@
 -- `table::charges` meets its contract.
-use native.Mathlib.Omega.{arith}
+use Rattle.element.proofs.Names.{arith}
 use Rattle.plan.proofs.Filled.{charges-of}
 use Rattle.plan.proofs.table.charges.Statement.{statement}
 use Rattle.plan.proofs.table.charges.Tie as tie

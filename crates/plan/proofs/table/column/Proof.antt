@@ -1,5 +1,5 @@
 -- `table::column` meets its contract.
-use native.Mathlib.Omega.{arith}
+use Rattle.element.proofs.Names.{arith}
 use Rattle.plan.proofs.Filled.{column-of}
 use Rattle.plan.proofs.table.column.Statement.{statement}
 use Rattle.plan.proofs.table.column.Tie as tie

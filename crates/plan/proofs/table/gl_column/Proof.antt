@@ -1,5 +1,5 @@
 -- `table::gl_column` meets its contract.
-use native.Mathlib.Omega.{arith}
+use Rattle.element.proofs.Names.{arith}
 use Rattle.plan.proofs.Filled.{gl-column-of}
 use Rattle.plan.proofs.table.gl_column.Statement.{statement}
 use Rattle.plan.proofs.table.gl_column.Tie as tie

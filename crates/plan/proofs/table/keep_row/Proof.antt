@@ -1,8 +1,5 @@
 -- `table::keep_row` meets its contract. The invariant: the first r costs of the row are kept.
-use native.Mathlib.Omega.{arith}
-use Prim.Native.Nat.{_-_, _≤_}
-use mathlib.Core.Path.{_≡_, refl}
-use lib.ListN.{length, getD, length-set}
+use Rattle.element.proofs.Names.{arith, _-_, _≤_, _≡_, refl, length, getD, length-set}
 use Rattle.plan.specs.Table.{PlacesFilled, RowRead}
 use Rattle.plan.proofs.Filled.{filled-none, filled-more, filled-end, filled-same}
 use Rattle.plan.proofs.table.keep_row.Statement.{statement}

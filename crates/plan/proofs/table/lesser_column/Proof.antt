@@ -1,8 +1,5 @@
 -- `table::lesser_column` meets its contract. The invariant: the first g places of the column hold the lesser costs.
-use native.Mathlib.Omega.{arith}
-use Prim.Native.Nat.{_+_, _-_, _≤_, min}
-use mathlib.Core.Path.{_≡_}
-use lib.ListN.{length, getD, length-set}
+use Rattle.element.proofs.Names.{arith, _+_, _-_, _≤_, min, _≡_, length, getD, length-set}
 use Rattle.plan.specs.Table.{ColumnFilled}
 use Rattle.plan.proofs.Filled.{filled-none, filled-more, filled-end}
 use Rattle.plan.proofs.table.lesser_column.Statement.{statement}

@@ -1,8 +1,5 @@
 -- `table::lesser_costs` meets its contract. The invariant: the first r columns hold the lesser costs.
-use native.Mathlib.Omega.{arith}
-use Prim.Native.Nat.{_+_, _-_, _≤_, min}
-use mathlib.Core.Path.{refl, _∙_}
-use lib.ListN.{getD}
+use Rattle.element.proofs.Names.{arith, _+_, _-_, _≤_, min, refl, _∙_, getD}
 use Rattle.plan.specs.Table.{Swept}
 use Rattle.plan.proofs.Filled.{swept-none, swept-more, swept-end}
 use Rattle.plan.proofs.table.lesser_costs.Statement.{statement}

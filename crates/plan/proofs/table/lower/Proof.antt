@@ -1,15 +1,12 @@
 -- `table::lower` meets its contract. The invariant: 128 is taken from the first k costs.
-use native.Mathlib.Omega.{arith}
-use Prim.Native.Nat.{ℕ, _-_, _≤_}
-use mathlib.Core.Path.{_≡_, ap}
-use lib.ListN.{length, getD, length-set}
-use Rattle.plan.specs.Table.{Filled}
+use Rattle.element.proofs.Names.{arith, ℕ, _-_, _≤_, _≡_, ap, length, getD, length-set}
+use Rattle.plan.specs.Table.{FilledTo}
 use Rattle.plan.proofs.Filled.{filled-none, filled-more, filled-end}
 use Rattle.plan.proofs.table.lower.Statement.{statement}
 use Rattle.plan.proofs.table.lower.Tie as tie
 
 abbrev Inv-loop : tie.InvT-loop
-Inv-loop cur₀ k₀ cur k = (k ≤ 80) × (length cur ≡ 80) × Filled (λ q. q) (λ q. getD cur₀ q 0 - 128) k cur₀ cur
+Inv-loop cur₀ k₀ cur k = (k ≤ 80) × (length cur ≡ 80) × FilledTo (λ q. q) (λ q. getD cur₀ q 0 - 128) k cur₀ cur
 
 pub lower-spec : {M : Type 1} → statement M
 lower-spec =

@@ -1,15 +1,12 @@
 -- `table::row_of` meets its contract. The invariant: the first r costs are there.
-use native.Mathlib.Omega.{arith}
-use Prim.Native.Nat.{_+_, _-_, _≤_}
-use mathlib.Core.Path.{_≡_, refl}
-use lib.ListN.{length, getD, length-set}
-use Rattle.plan.specs.Table.{Filled}
+use Rattle.element.proofs.Names.{arith, _+_, _-_, _≤_, _≡_, refl, length, getD, length-set}
+use Rattle.plan.specs.Table.{FilledTo}
 use Rattle.plan.proofs.Filled.{filled-none, filled-more, filled-end}
 use Rattle.plan.proofs.table.row_of.Statement.{statement}
 use Rattle.plan.proofs.table.row_of.Tie as tie
 
 abbrev Inv-loop : tie.InvT-loop
-Inv-loop costs from row₀ r₀ row r = (r ≤ 16) × (length row ≡ 16) × Filled (λ q. q) (λ q. getD costs (from + q) 0) r row₀ row
+Inv-loop costs from row₀ r₀ row r = (r ≤ 16) × (length row ≡ 16) × FilledTo (λ q. q) (λ q. getD costs (from + q) 0) r row₀ row
 
 pub row-of-spec : {M : Type 1} → statement M
 row-of-spec =

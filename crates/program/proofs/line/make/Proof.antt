@@ -1,8 +1,6 @@
 -- `line::make` meets its contract: each part of the line stands before what stands after it (`line-of`).
-use borrow.Author.Needs.{needs}
-use native.Mathlib.Omega.{arith}
+use Rattle.element.proofs.Names.{arith, now}
 use lib.ListN.{drop-of-length-le}
-use denote.Ref.{now}
 use Rattle.program.proofs.Texts.{line-of}
 use Rattle.program.proofs.line.make.Statement.{statement}
 use Rattle.program.proofs.line.make.Tie as tie
@@ -26,13 +24,13 @@ pub make-spec : {M : Type 1} → statement M
 make-spec =
     tie.close
     (tie.spec
-    (search needs)
-    (search needs)
-    (search needs)
-    (search needs)
-    (search needs)
-    (search needs)
-    (search needs)
-    (search needs)
-    (search needs)
+    (search arith)
+    (search arith)
+    (search arith)
+    (search arith)
+    (search arith)
+    (search arith)
+    (search arith)
+    (search arith)
+    (search arith)
     returns)

@@ -1,6 +1,5 @@
 -- `line::put` meets its contract. The invariant is `Put`, and each turn is `put-next`.
-use native.Mathlib.Omega.{arith}
-use mathlib.Core.Path.{_≡_}
+use Rattle.element.proofs.Names.{arith, _≡_}
 use Rattle.program.proofs.Texts.{Put, put-none, put-next}
 use Rattle.program.proofs.line.put.Statement.{statement}
 use Rattle.program.proofs.line.put.Tie as tie

@@ -1,5 +1,5 @@
 -- `line::put_decimal` meets its contract. The invariant is `Counted`, and each turn is `counted-next`.
-use native.Mathlib.Omega.{arith}
+use Rattle.element.proofs.Names.{arith}
 use Rattle.program.proofs.Texts.{Counted, counted-none, digit-room, counted-next, counted-length, counted-last}
 use Rattle.program.proofs.line.put_decimal.Statement.{statement}
 use Rattle.program.proofs.line.put_decimal.Tie as tie

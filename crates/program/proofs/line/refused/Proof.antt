@@ -1,8 +1,5 @@
 -- `line::refused` meets its contract: the line is put before the place of its own length (`stored-line`), where there is room for it.
-use borrow.Author.Needs.{needs}
-use native.Mathlib.Omega.{arith}
-use mathlib.Core.Path.{refl}
-use denote.Ref.{now}
+use Rattle.element.proofs.Names.{arith, refl, now}
 use Rattle.program.proofs.Texts.{line-length, stored-line, stored-not}
 use Rattle.program.proofs.line.refused.Statement.{statement}
 use Rattle.program.proofs.line.refused.Tie as tie
@@ -29,13 +26,13 @@ pub refused-spec : {M : Type 1} → statement M
 refused-spec =
     tie.close
     (tie.spec
-    (search needs)
-    (search needs)
-    (search needs)
-    (search needs)
-    (search needs)
-    (search needs)
-    (search needs)
-    (search needs)
+    (search arith)
+    (search arith)
+    (search arith)
+    (search arith)
+    (search arith)
+    (search arith)
+    (search arith)
+    (search arith)
     returns
     returns-2)

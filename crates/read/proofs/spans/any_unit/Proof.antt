@@ -1,7 +1,5 @@
 -- `spans::any_unit` meets its contract. Assumes nothing.
-use borrow.Author.Needs.{needs}
-use Rattle.base.proofs.Ladder.{ladder}
-use native.Mathlib.Omega.{arith}
+use Rattle.element.proofs.Names.{ladder, arith}
 use Rattle.read.specs.Spans.{anyOf}
 use Rattle.read.proofs.spans.any_unit.Statement.{statement}
 use Rattle.read.proofs.spans.any_unit.Tie as tie
@@ -10,5 +8,5 @@ pub any-unit-spec : {M : Type 1} → statement M
 any-unit-spec =
     tie.close
     (tie.spec
-    (search needs)
+    (search arith)
     (λ c. rw (c .before .before .advance .ensures)))

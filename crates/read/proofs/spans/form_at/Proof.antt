@@ -1,7 +1,5 @@
 -- `spans::form_at` meets its contract, test by test. Assumes nothing.
-use borrow.Author.Needs.{needs}
-use Rattle.base.proofs.Ladder.{ladder}
-use native.Mathlib.Omega.{arith}
+use Rattle.element.proofs.Names.{ladder, arith}
 use Rattle.read.specs.Spans.{formAt}
 use Rattle.read.proofs.spans.form_at.Statement.{statement}
 use Rattle.read.proofs.spans.form_at.Tie as tie
@@ -11,13 +9,13 @@ unfolding formAt
 form-at-spec =
     tie.close
     (tie.spec
-    (search needs)
+    (search arith)
     (λ c. search ladder depth 9)
-    (search needs)
-    (search needs)
+    (search arith)
+    (search arith)
     (λ c. search ladder depth 9)
     (λ c. search ladder depth 9)
     (λ c. search ladder depth 9)
-    (search needs)
+    (search arith)
     (λ c. search ladder depth 9)
     (λ c. search ladder depth 9))

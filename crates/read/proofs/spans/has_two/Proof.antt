@@ -1,6 +1,5 @@
 -- `spans::has_two` meets its contract, test by test. Assumes nothing.
-use Rattle.base.proofs.Ladder.{ladder}
-use borrow.Author.Needs.{needs}
+use Rattle.element.proofs.Names.{ladder, needs}
 use Rattle.read.specs.Spans.{hasTwo}
 use Rattle.read.proofs.spans.has_two.Statement.{statement}
 use Rattle.read.proofs.spans.has_two.Tie as tie

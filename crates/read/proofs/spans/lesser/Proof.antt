@@ -1,6 +1,5 @@
 -- `spans::lesser` meets its contract, test by test. Assumes nothing.
-use Rattle.base.proofs.Ladder.{ladder}
-use borrow.Author.Needs.{needs}
+use Rattle.element.proofs.Names.{ladder, needs}
 use Rattle.read.specs.Spans.{lesserOf}
 use Rattle.read.proofs.spans.lesser.Statement.{statement}
 use Rattle.read.proofs.spans.lesser.Tie as tie

@@ -1,6 +1,5 @@
 -- `spans::moved` meets its contract, test by test. Assumes nothing.
-use Rattle.base.proofs.Ladder.{ladder}
-use native.Mathlib.Omega.{arith}
+use Rattle.element.proofs.Names.{ladder, arith}
 use Rattle.read.specs.Spans.{movedOf}
 use Rattle.read.proofs.spans.moved.Statement.{statement}
 use Rattle.read.proofs.spans.moved.Tie as tie

@@ -1,9 +1,7 @@
 -- `spans::nth` meets its contract: the unit is in the string (`Within`), and the tests are those of its definition. Assumes nothing.
-use borrow.Author.Needs.{needs}
-use Rattle.base.proofs.Ladder.{ladder}
-use native.Mathlib.Omega.{arith}
+use Rattle.element.proofs.Names.{needs, ladder, arith}
 use Rattle.read.proofs.Within.{one-within, two-within}
-use Rattle.read.specs.Spans.{nthOf}
+use Rattle.read.specs.Spans.{unitAfter}
 use Rattle.read.proofs.spans.nth.Statement.{statement}
 use Rattle.read.proofs.spans.nth.Tie as tie
 
@@ -23,7 +21,7 @@ two-requires-2 c κs =
     omega (arith, h)
 
 pub nth-spec : {M : Type 1} → statement M
-unfolding nthOf
+unfolding unitAfter
 nth-spec =
     tie.close
     (tie.spec

@@ -1,5 +1,5 @@
 -- `spans::one` meets its contract, by what it calls.
-use borrow.Author.Needs.{needs}
+use Rattle.element.proofs.Names.{arith}
 use Rattle.read.proofs.spans.one.Statement.{statement}
 use Rattle.read.proofs.spans.one.Tie as tie
 
@@ -7,4 +7,4 @@ returns : tie.Need-returns
 returns c = cc
 
 pub one-spec : {M : Type 1} → statement M
-one-spec = tie.close (tie.spec (search needs) (search needs) (search needs) returns)
+one-spec = tie.close (tie.spec (search arith) (search arith) (search arith) returns)

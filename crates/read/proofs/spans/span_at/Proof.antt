@@ -1,6 +1,5 @@
 -- `spans::span_at` meets its contract, test by test. Assumes nothing.
-use borrow.Author.Needs.{needs}
-use Rattle.base.proofs.Ladder.{ladder, on-eq, on-ne, on-lt, on-ge, on-gt}
+use Rattle.element.proofs.Names.{arith, ladder, on-eq, on-ne, on-lt, on-ge, on-gt}
 use Rattle.read.specs.Spans.{byForm, spanOf}
 use Rattle.read.proofs.spans.span_at.Statement.{statement}
 use Rattle.read.proofs.spans.span_at.Tie as tie
@@ -38,18 +37,18 @@ unfolding byForm spanOf
 span-at-spec =
     tie.close
     (tie.spec
-    (search needs)
+    (search arith)
     (λ c. search ladder depth 12)
-    (search needs)
-    (search needs)
-    (search needs)
+    (search arith)
+    (search arith)
+    (search arith)
     (λ c. search ladder depth 12)
-    (search needs)
-    (search needs)
-    (search needs)
+    (search arith)
+    (search arith)
+    (search arith)
     returns-3
-    (search needs)
+    (search arith)
     returns-4
-    (search needs)
-    (search needs)
+    (search arith)
+    (search arith)
     returns-5)

@@ -1,9 +1,7 @@
 -- `spans::stands_at` meets its contract: the unit is in the string (`Within`), and the tests are those of its definition. Assumes nothing.
-use borrow.Author.Needs.{needs}
-use Rattle.base.proofs.Ladder.{ladder}
-use native.Mathlib.Omega.{arith}
+use Rattle.element.proofs.Names.{needs, ladder, arith}
 use Rattle.read.proofs.Within.{one-within, two-within}
-use Rattle.read.specs.Spans.{stands}
+use Rattle.read.specs.Spans.{standsAfter}
 use Rattle.read.proofs.spans.stands_at.Statement.{statement}
 use Rattle.read.proofs.spans.stands_at.Tie as tie
 
@@ -23,7 +21,7 @@ right-at-requires c κs =
     omega (arith, h)
 
 pub stands-at-spec : {M : Type 1} → statement M
-unfolding stands
+unfolding standsAfter
 stands-at-spec =
     tie.close
     (tie.spec

@@ -1,8 +1,5 @@
 -- `ends::ones` meets its contract. The invariant: only octets of the span stand from `at` to `i`.
-use Prim.Native.Nat.{_-_}
-use native.Mathlib.Omega.{arith}
-use borrow.Author.Needs.{needs}
-use lib.ListN.{length}
+use Rattle.element.proofs.Names.{_-_, arith, length}
 use Rattle.runs.proofs.Spans.{OnesSoFar, ones-first, ones-more, ones-stop}
 use Rattle.runs.proofs.ends.ones.Statement.{statement}
 use Rattle.runs.proofs.ends.ones.Tie as tie
@@ -35,10 +32,10 @@ ones-spec =
     Inv-loop
     μ-loop
     loop-holds
-    (search needs)
+    (search arith)
     returns
     returns-2
-    (search needs)
-    (search needs)
+    (search arith)
+    (search arith)
     loop-again
     returns-3)

@@ -1,6 +1,5 @@
 -- `ends::right_end` meets its contract: each span is that of the form of the set in GR.
-use mathlib.Core.Path.{sym, _∙_}
-use borrow.Author.Needs.{needs}
+use Rattle.element.proofs.Names.{arith, sym, _∙_}
 use Rattle.runs.specs.Spans.{singly, doubly}
 use Rattle.runs.specs.Spans as spans
 use Rattle.runs.proofs.ends.right_end.Statement.{statement}
@@ -18,4 +17,4 @@ returns-3 c =
     λ k n. singly (spans.right-94 n (λ e. c .before .before .if1 .left (form ∙ e)) (λ e. c .before .if2 .left (form ∙ e))) (c .ones2 .ensures)
 
 pub right-end-spec : {M : Type 1} → statement M
-right-end-spec = tie.close (tie.spec (search needs) (search needs) returns (search needs) returns-2 (search needs) returns-3)
+right-end-spec = tie.close (tie.spec (search arith) (search arith) returns (search arith) returns-2 (search arith) returns-3)

@@ -1,8 +1,5 @@
 -- `ends::twos` meets its contract. The invariant: only octets of the span stand from `at` to `i`, two by two.
-use Prim.Native.Nat.{_-_}
-use native.Mathlib.Omega.{arith}
-use borrow.Author.Needs.{needs}
-use lib.ListN.{length}
+use Rattle.element.proofs.Names.{_-_, arith, length}
 use Rattle.runs.proofs.Spans.{TwosSoFar, twos-first, twos-more, twos-stop}
 use Rattle.runs.proofs.ends.twos.Statement.{statement}
 use Rattle.runs.proofs.ends.twos.Tie as tie
@@ -53,14 +50,14 @@ twos-spec =
     μ-loop
     loop-holds
     sub-loop
-    (search needs)
-    (search needs)
-    (search needs)
+    (search arith)
+    (search arith)
+    (search arith)
     returns
     returns-2
     returns-3
     returns-4
-    (search needs)
-    (search needs)
+    (search arith)
+    (search arith)
     loop-again
     returns-5)

@@ -1,6 +1,5 @@
 -- `listed::end_of` meets its contract: it goes test by test as `endOf` does.
-use borrow.Author.Needs.{needs}
-use Rattle.base.proofs.Ladder.{ladder}
+use Rattle.element.proofs.Names.{arith, ladder}
 use Rattle.runs.specs.Listed.{endOf}
 use Rattle.runs.proofs.listed.end_of.Statement.{statement}
 use Rattle.runs.proofs.listed.end_of.Tie as tie
@@ -9,4 +8,4 @@ pub end-of-spec : {M : Type 1} → statement M
 unfolding endOf
 end-of-spec =
     tie.close
-    (tie.spec (search needs) (λ c. search ladder depth 9) (λ c. search ladder depth 9) (search needs) (λ c. search ladder depth 9))
+    (tie.spec (search arith) (λ c. search ladder depth 9) (λ c. search ladder depth 9) (search arith) (λ c. search ladder depth 9))

@@ -1,5 +1,5 @@
 -- `listed::list_checked` meets its contract, by what the check answers.
-use borrow.Author.Needs.{needs}
+use Rattle.element.proofs.Names.{arith}
 use Rattle.runs.proofs.Lists.{gave-none, gave-same, on-good, on-bad}
 use Rattle.runs.proofs.listed.list_checked.Statement.{statement}
 use Rattle.runs.proofs.listed.list_checked.Tie as tie
@@ -16,4 +16,4 @@ returns-2 : tie.Need-returns-2
 returns-2 c = gave-none _ _ (c .step-to .ensures) (on-bad _ _ _ _ (c .before .before .before .known .ensures) (c .before .if1 .left))
 
 pub list-checked-spec : {M : Type 1} → statement M
-list-checked-spec = tie.close (tie.spec (search needs) list-from-requires (search needs) returns (search needs) returns-2)
+list-checked-spec = tie.close (tie.spec (search arith) list-from-requires (search arith) returns (search arith) returns-2)

@@ -1,9 +1,5 @@
 -- `listed::list_from` meets its contract: each turn goes on from where the list has come to, and the end stays the same.
-use Prim.Native.Nat.{_-_}
-use native.Mathlib.Omega.{arith}
-use mathlib.Core.Path.{ap, _∙_}
-use borrow.Author.Needs.{needs}
-use lib.ListN.{length}
+use Rattle.element.proofs.Names.{_-_, arith, ap, _∙_, length}
 use Rattle.runs.specs.Listed.{runsStep, Onward}
 use Rattle.runs.proofs.Steps.{run-begun}
 use Rattle.runs.proofs.Lists.{on-first, on-join, here, within-text, begins, passes, ends-full, ends-stopped}
@@ -119,28 +115,28 @@ list-from-spec =
     (tie.spec
     Inv-loop
     μ-loop
-    (search needs)
+    (search arith)
     loop-holds
     list-quickly-requires
-    (search needs)
-    (search needs)
+    (search arith)
+    (search arith)
     same-length
     returns
-    (search needs)
+    (search arith)
     text-end-requires
-    (search needs)
+    (search arith)
     word-requires
     mul-out
-    (search needs)
+    (search arith)
     add-stand-at
-    (search needs)
+    (search arith)
     loop-less
     loop-again
-    (search needs)
-    (search needs)
-    (search needs)
+    (search arith)
+    (search arith)
+    (search arith)
     same-length-2
     returns-2
-    (search needs)
+    (search arith)
     loop-less-2
     loop-again-2)

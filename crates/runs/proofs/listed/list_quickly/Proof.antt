@@ -1,6 +1,5 @@
 -- `listed::list_quickly` meets its contract, by what `list_text` ensures; and nothing is done where text would change the state.
-use mathlib.Core.Path.{sym, _∙_}
-use borrow.Author.Needs.{needs}
+use Rattle.element.proofs.Names.{arith, sym, _∙_}
 use Rattle.runs.proofs.Lists.{on-first}
 use Rattle.runs.proofs.listed.list_quickly.Statement.{statement}
 use Rattle.runs.proofs.listed.list_quickly.Tie as tie
@@ -20,4 +19,4 @@ returns-2 : tie.Need-returns-2
 returns-2 c = on-first _ _ _ (c .before .before .before .before .before .before .pre .1)
 
 pub list-quickly-spec : {M : Type 1} → statement M
-list-quickly-spec = tie.close (tie.spec (search needs) (search needs) list-text-requires same-length returns returns-2)
+list-quickly-spec = tie.close (tie.spec (search arith) (search arith) list-text-requires same-length returns returns-2)

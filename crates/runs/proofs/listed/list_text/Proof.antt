@@ -1,8 +1,5 @@
 -- `listed::list_text` meets its contract: each turn shows and stores a run, or passes a designation, and the end stays the same.
-use Prim.Native.Nat.{_-_}
-use native.Mathlib.Omega.{arith}
-use borrow.Author.Needs.{needs}
-use lib.ListN.{length}
+use Rattle.element.proofs.Names.{_-_, arith, length}
 use Rattle.runs.specs.Listed.{stand}
 use Rattle.runs.proofs.Lists.{Texts, words-of, texts-first, texts-end, within-text, left-run, right-run, designates, designates-within}
 use Rattle.runs.proofs.listed.list_text.Statement.{statement}
@@ -101,37 +98,37 @@ list-text-spec =
     (tie.spec
     Inv-loop
     μ-loop
-    (search needs)
-    (search needs)
+    (search arith)
+    (search arith)
     loop-holds
-    (search needs)
+    (search arith)
     same-length
     returns
-    (search needs)
+    (search arith)
     left-end-requires
     joined-requires
-    (search needs)
-    (search needs)
-    (search needs)
+    (search arith)
+    (search arith)
+    (search arith)
     loop-less
     loop-again
     right-end-requires
     joined-requires-2
-    (search needs)
-    (search needs)
-    (search needs)
+    (search arith)
+    (search arith)
+    (search arith)
     loop-less-2
     loop-again-2
-    (search needs)
-    (search needs)
+    (search arith)
+    (search arith)
     same-length-2
     returns-2
     add-at
-    (search needs)
-    (search needs)
-    (search needs)
+    (search arith)
+    (search arith)
+    (search arith)
     loop-less-3
     loop-again-3
-    (search needs)
+    (search arith)
     same-length-3
     returns-3)

@@ -1,6 +1,5 @@
 -- `listed::next_runs` meets its contract, test by test.
-use mathlib.Core.Path.{ap, sym, _∙_}
-use borrow.Author.Needs.{needs}
+use Rattle.element.proofs.Names.{arith, ap, sym, _∙_}
 use Rattle.runs.specs.Listed.{runsStep}
 use Rattle.runs.proofs.Lists.{gave-none, gave-same, on-long, on-may, on-none}
 use Rattle.runs.proofs.listed.next_runs.Statement.{statement}
@@ -26,13 +25,13 @@ pub next-runs-spec : {M : Type 1} → statement M
 next-runs-spec =
     tie.close
     (tie.spec
-    (search needs)
-    (search needs)
+    (search arith)
+    (search arith)
     returns
-    (search needs)
+    (search arith)
     list-checked-requires
-    (search needs)
+    (search arith)
     returns-2
-    (search needs)
-    (search needs)
+    (search arith)
+    (search arith)
     returns-3)

@@ -1,6 +1,5 @@
 -- `listed::word` meets its contract: its parts are the set, width and direction that are shown of the run.
-use mathlib.Core.Path.{refl}
-use borrow.Author.Needs.{needs}
+use Rattle.element.proofs.Names.{arith, refl}
 use Rattle.runs.specs.Runs.{shownOf}
 use Rattle.runs.proofs.listed.word.Statement.{statement}
 use Rattle.runs.proofs.listed.word.Tie as tie
@@ -11,4 +10,4 @@ returns c =
     rw (c .joined .ensures, c .before .upper .ensures .0, c .before .before .in-force .ensures, c .before .before .before .before .before .set-in .ensures) refl
 
 pub word-spec : {M : Type 1} → statement M
-word-spec = tie.close (tie.spec (search needs) (search needs) (search needs) (search needs) returns)
+word-spec = tie.close (tie.spec (search arith) (search arith) (search arith) (search arith) returns)

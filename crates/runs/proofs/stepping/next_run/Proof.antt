@@ -1,8 +1,6 @@
 -- `stepping::next_run` meets its contract, test by test.
-use mathlib.Core.Path.{sym, _∙_}
-use Rattle.base.proofs.Ladder.{ladder}
+use Rattle.element.proofs.Names.{arith, sym, _∙_, ladder}
 use Rattle.runs.specs.Steps.{nextRunOf}
-use borrow.Author.Needs.{needs}
 use Rattle.runs.proofs.stepping.next_run.Statement.{statement}
 use Rattle.runs.proofs.stepping.next_run.Tie as tie
 
@@ -22,12 +20,12 @@ unfolding nextRunOf
 next-run-spec =
     tie.close
     (tie.spec
-    (search needs)
-    (search needs)
+    (search arith)
+    (search arith)
     returns
-    (search needs)
+    (search arith)
     checked-from-requires
     (λ c. search ladder depth 9)
-    (search needs)
-    (search needs)
+    (search arith)
+    (search arith)
     returns-3)

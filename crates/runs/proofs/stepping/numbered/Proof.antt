@@ -1,7 +1,5 @@
 -- `stepping::numbered` meets its contract: the run of the step after k steps is the k-th run.
-use native.Mathlib.Omega.{arith}
-use mathlib.Core.Path.{_∙_}
-use borrow.Author.Needs.{needs}
+use Rattle.element.proofs.Names.{arith, _∙_}
 use Rattle.runs.proofs.InOrder.{Numbered, number-first, number-refused, number-may, at-number, past-number, next-number}
 use Rattle.runs.proofs.stepping.numbered.Statement.{statement}
 use Rattle.runs.proofs.stepping.numbered.Tie as tie
@@ -45,13 +43,13 @@ numbered-spec =
     (tie.spec
     Inv-loop
     μ-loop
-    (search needs)
-    (search needs)
+    (search arith)
+    (search arith)
     returns
     loop-holds
     run-from-requires
     returns-2
     returns-3
-    (search needs)
+    (search arith)
     loop-less
     loop-again)

@@ -1,10 +1,5 @@
 -- `stepping::run_from` meets its contract: at each turn the first run of what is left is that from the place on.
-use Prim.Native.Nat.{_-_}
-use native.Mathlib.Omega.{arith}
-use mathlib.Core.Path.{sym, _∙_}
-use borrow.Author.Needs.{needs}
-use borrow.Author.Tests.{le-ltb}
-use lib.ListN.{length}
+use Rattle.element.proofs.Names.{_-_, arith, sym, _∙_, le-ltb, length}
 use Rattle.runs.proofs.Steps.{Plain, plain-first, side-low, since-text, run-begun}
 use Rattle.runs.proofs.Steps.{turn-designation, turn-quick, turn-begun, turn-past, turn-none, turn-over}
 use Rattle.runs.proofs.stepping.run_from.Statement.{statement}
@@ -102,28 +97,28 @@ run-from-spec =
     Inv-loop
     μ-loop
     loop-holds
-    (search needs)
-    (search needs)
+    (search arith)
+    (search arith)
     add-at
-    (search needs)
+    (search arith)
     loop-less
     loop-again
-    (search needs)
-    (search needs)
+    (search arith)
+    (search arith)
     text-end-requires
-    (search needs)
+    (search arith)
     shown-requires
-    (search needs)
+    (search arith)
     returns
-    (search needs)
+    (search arith)
     text-end-requires-2
-    (search needs)
+    (search arith)
     shown-requires-2
-    (search needs)
+    (search arith)
     returns-2
-    (search needs)
+    (search arith)
     returns-3
     loop-less-2
     loop-again-2
-    (search needs)
+    (search arith)
     returns-4)

@@ -1,7 +1,6 @@
 -- `stepping::stays` meets its contract, by what `no_run` ensures.
-use mathlib.Core.Path.{ap}
+use Rattle.element.proofs.Names.{arith, ap}
 use Rattle.runs.specs.Steps.{runStep}
-use borrow.Author.Needs.{needs}
 use Rattle.runs.proofs.stepping.stays.Statement.{statement}
 use Rattle.runs.proofs.stepping.stays.Tie as tie
 
@@ -9,4 +8,4 @@ returns : tie.Need-returns
 returns c = ap (runStep _) (c .no-run .ensures)
 
 pub stays-spec : {M : Type 1} → statement M
-stays-spec = tie.close (tie.spec (search needs) returns)
+stays-spec = tie.close (tie.spec (search arith) returns)

@@ -1,9 +1,7 @@
 -- `stepping::stop_at` meets its contract, element by element; the place of a refusal lies in the string.
-use native.Mathlib.Omega.{arith}
-use mathlib.Core.Path.{sym, ap, _∙_}
+use Rattle.element.proofs.Names.{arith, sym, ap, _∙_}
 use Rattle.grammar.proofs.Places.{refused-within}
 use Rattle.runs.specs.Steps.{stopAt}
-use borrow.Author.Needs.{needs}
 use Rattle.runs.proofs.stepping.stop_at.Statement.{statement}
 use Rattle.runs.proofs.stepping.stop_at.Tie as tie
 
@@ -40,22 +38,22 @@ pub stop-at-spec : {M : Type 1} → statement M
 stop-at-spec =
     tie.close
     (tie.spec
-    (search needs)
-    (search needs)
-    (search needs)
-    (search needs)
-    (search needs)
-    (search needs)
+    (search arith)
+    (search arith)
+    (search arith)
+    (search arith)
+    (search arith)
+    (search arith)
     add-place
-    (search needs)
-    (search needs)
-    (search needs)
-    (search needs)
-    (search needs)
-    (search needs)
-    (search needs)
-    (search needs)
-    (search needs)
+    (search arith)
+    (search arith)
+    (search arith)
+    (search arith)
+    (search arith)
+    (search arith)
+    (search arith)
+    (search arith)
+    (search arith)
     returns
     returns-2
     returns-3

@@ -1,6 +1,6 @@
 -- `State::designated` meets its contract on each side.
+use native.Mathlib.Omega.{arith}
 use Rattle.state.specs.State.{put}
-use borrow.Author.Needs.{needs}
 use Rattle.state.proofs.State.designated.Statement.{statement}
 use Rattle.state.proofs.State.designated.Tie as tie
 
@@ -13,4 +13,4 @@ unfolding put
 returns-2 c = rw (c .enum-told2 .given .1)
 
 pub designated-spec : {M : Type 1} → statement M
-designated-spec = tie.close (tie.spec (search needs) (search needs) returns returns-2)
+designated-spec = tie.close (tie.spec (search arith) (search arith) returns returns-2)

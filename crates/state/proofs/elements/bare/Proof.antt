@@ -1,5 +1,5 @@
 -- `element::bare` meets its contract, by what `counts_as_text` ensures.
-use borrow.Author.Needs.{needs}
+use native.Mathlib.Omega.{arith}
 use Rattle.state.proofs.elements.bare.Statement.{statement}
 use Rattle.state.proofs.elements.bare.Tie as tie
 
@@ -7,4 +7,4 @@ returns : tie.Need-returns
 returns c = rw (c .counts-as-text .ensures)
 
 pub bare-spec : {M : Type 1} → statement M
-bare-spec = tie.close (tie.spec (search needs) returns)
+bare-spec = tie.close (tie.spec (search arith) returns)

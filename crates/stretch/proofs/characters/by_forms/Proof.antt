@@ -1,6 +1,6 @@
 -- `characters::by_forms` meets its contract: the first kind of stretch that has units.
+use Rattle.element.proofs.Names.{arith}
 use Rattle.stretch.proofs.Stretches.{chosen-left, chosen-right, chosen-ones}
-use borrow.Author.Needs.{needs}
 use Rattle.stretch.proofs.characters.by_forms.Statement.{statement}
 use Rattle.stretch.proofs.characters.by_forms.Tie as tie
 
@@ -15,4 +15,4 @@ returns-3 c = chosen-ones _ _ _ _ _ _ (c .before .before .before .before .before
 
 pub by-forms-spec : {M : Type 1} → statement M
 by-forms-spec =
-    tie.close (tie.spec (search needs) returns (search needs) returns-2 (search needs) returns-3)
+    tie.close (tie.spec (search arith) returns (search arith) returns-2 (search arith) returns-3)

@@ -1,6 +1,5 @@
 -- `characters::four` meets its contract: true only where each of the four tests is.
-use mathlib.Core.Bool.{false≢true}
-use borrow.Author.Needs.{needs}
+use Rattle.element.proofs.Names.{arith, false≢true}
 use Rattle.stretch.proofs.characters.four.Statement.{statement}
 use Rattle.stretch.proofs.characters.four.Tie as tie
 
@@ -26,20 +25,20 @@ pub four-spec : {M : Type 1} → statement M
 four-spec =
     tie.close
     (tie.spec
-    (search needs)
-    (search needs)
-    (search needs)
-    (search needs)
-    (search needs)
-    (search needs)
-    (search needs)
-    (search needs)
-    (search needs)
-    (search needs)
-    (search needs)
-    (search needs)
-    (search needs)
-    (search needs)
+    (search arith)
+    (search arith)
+    (search arith)
+    (search arith)
+    (search arith)
+    (search arith)
+    (search arith)
+    (search arith)
+    (search arith)
+    (search arith)
+    (search arith)
+    (search arith)
+    (search arith)
+    (search arith)
     returns
     returns-2
     returns-3

@@ -1,7 +1,5 @@
 -- `characters::fours` meets its contract. The invariant: only octets of the span stand from `at` to `i`.
-use borrow.Author.Needs.{needs}
-use Prim.Native.Nat.{_-_}
-use lib.ListN.{length}
+use Rattle.element.proofs.Names.{arith, _-_, length}
 use Rattle.stretch.specs.Characters.{Filled}
 use Rattle.stretch.proofs.Loops.{filled-first, filled-four}
 use Rattle.stretch.proofs.characters.fours.Statement.{statement}
@@ -32,10 +30,10 @@ fours-spec =
     Inv-loop
     μ-loop
     loop-holds
-    (search needs)
-    (search needs)
-    (search needs)
-    (search needs)
+    (search arith)
+    (search arith)
+    (search arith)
+    (search arith)
     loop-again
     returns
     returns-2)

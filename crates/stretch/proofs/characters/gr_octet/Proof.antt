@@ -1,7 +1,7 @@
 -- `characters::gr_octet` meets its contract, test by test.
+use Rattle.element.proofs.Names.{arith}
 use Rattle.stretch.proofs.Loops.{testing}
 use Rattle.stretch.specs.Characters.{grOctet}
-use borrow.Author.Needs.{needs}
 use Rattle.stretch.proofs.characters.gr_octet.Statement.{statement}
 use Rattle.stretch.proofs.characters.gr_octet.Tie as tie
 
@@ -12,6 +12,6 @@ gr-octet-spec =
     (tie.spec
     (λ c. search testing depth 9)
     (λ c. search testing depth 9)
-    (search needs)
+    (search arith)
     (λ c. search testing depth 9)
     (λ c. search testing depth 9))

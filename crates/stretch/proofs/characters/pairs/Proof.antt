@@ -1,8 +1,5 @@
 -- `characters::pairs` meets its contract. The invariant: only two-octet characters stand from `at` to `i`.
-use borrow.Author.Needs.{needs}
-use mathlib.Core.Path.{sym, _∙_}
-use Prim.Native.Nat.{_-_}
-use lib.ListN.{length}
+use Rattle.element.proofs.Names.{arith, sym, _∙_, _-_, length}
 use Rattle.stretch.specs.Characters.{twoAt, Along}
 use Rattle.stretch.proofs.Loops.{along-pair, pairs-last, pair-no, pair-not, pair-end}
 use Rattle.stretch.proofs.characters.pairs.Statement.{statement}
@@ -49,20 +46,20 @@ pairs-spec =
     (tie.spec
     Inv-loop
     μ-loop
-    (search needs)
+    (search arith)
     loop-holds
-    (search needs)
-    (search needs)
-    (search needs)
-    (search needs)
-    (search needs)
-    (search needs)
-    (search needs)
-    (search needs)
+    (search arith)
+    (search arith)
+    (search arith)
+    (search arith)
+    (search arith)
+    (search arith)
+    (search arith)
+    (search arith)
     loop-again
-    (search needs)
+    (search arith)
     returns
-    (search needs)
+    (search arith)
     returns-2
-    (search needs)
+    (search arith)
     returns-3)

@@ -1,6 +1,6 @@
 -- `characters::same_side` meets its contract: each span is of units by themselves.
+use Rattle.element.proofs.Names.{arith}
 use Rattle.stretch.proofs.Loops.{gl-span, gr-span-96, gr-span-94}
-use borrow.Author.Needs.{needs}
 use Rattle.stretch.proofs.characters.same_side.Statement.{statement}
 use Rattle.stretch.proofs.characters.same_side.Tie as tie
 
@@ -17,11 +17,11 @@ pub same-side-spec : {M : Type 1} → statement M
 same-side-spec =
     tie.close
     (tie.spec
-    (λ c. search needs)
-    (search needs)
+    (λ c. search arith)
+    (search arith)
     returns-2
-    (search needs)
+    (search arith)
     returns-3
-    (search needs)
+    (search arith)
     returns-4
-    (λ c. search needs))
+    (λ c. search arith))

@@ -1,9 +1,5 @@
 -- `characters::singles` meets its contract. The invariant: only units of one octet stand from `at` to `i`.
-use borrow.Author.Needs.{needs}
-use native.Mathlib.Omega.{arith}
-use mathlib.Core.Path.{sym, _∙_}
-use Prim.Native.Nat.{_-_}
-use lib.ListN.{length}
+use Rattle.element.proofs.Names.{arith, sym, _∙_, _-_, length}
 use Rattle.stretch.specs.Characters.{oneAt, Along}
 use Rattle.stretch.proofs.Loops.{along-first, along-one, along-last, single-no, single-end}
 use Rattle.stretch.proofs.characters.singles.Statement.{statement}
@@ -37,13 +33,13 @@ singles-spec =
     Inv-loop
     μ-loop
     loop-holds
-    (search needs)
-    (search needs)
-    (search needs)
-    (search needs)
+    (search arith)
+    (search arith)
+    (search arith)
+    (search arith)
     loop-less
     loop-again
-    (search needs)
+    (search arith)
     returns
-    (search needs)
+    (search arith)
     returns-2)

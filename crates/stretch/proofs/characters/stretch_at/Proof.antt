@@ -1,9 +1,8 @@
 -- `characters::stretch_at` meets its contract, test by test; at the end of the string no stretch starts.
-use native.Mathlib.Omega.{arith}
+use Rattle.element.proofs.Names.{arith}
 use Rattle.base.proofs.Ladder.{on-yes, on-no}
 use Rattle.stretch.specs.Characters.{stretchAt}
 use Rattle.stretch.proofs.Stretches.{stretch-end}
-use borrow.Author.Needs.{needs}
 use Rattle.stretch.proofs.characters.stretch_at.Statement.{statement}
 use Rattle.stretch.proofs.characters.stretch_at.Tie as tie
 
@@ -22,11 +21,11 @@ pub stretch-at-spec : {M : Type 1} → statement M
 stretch-at-spec =
     tie.close
     (tie.spec
-    (search needs)
-    (search needs)
-    (search needs)
-    (search needs)
+    (search arith)
+    (search arith)
+    (search arith)
+    (search arith)
     returns
-    (search needs)
+    (search arith)
     returns-2
     returns-3)

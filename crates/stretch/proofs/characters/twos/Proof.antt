@@ -1,7 +1,5 @@
 -- `characters::twos` meets its contract, by what `pairs` ensures.
-use Rattle.base.proofs.Ladder.{on-eq, on-ne}
-use mathlib.Core.Path.{refl}
-use borrow.Author.Needs.{needs}
+use Rattle.element.proofs.Names.{arith, on-eq, on-ne, refl}
 use Rattle.stretch.proofs.characters.twos.Statement.{statement}
 use Rattle.stretch.proofs.characters.twos.Tie as tie
 
@@ -12,4 +10,4 @@ returns-2 : tie.Need-returns-2
 returns-2 c = on-ne _ _ _ _ _ (c .if1 .left) refl
 
 pub twos-spec : {M : Type 1} → statement M
-twos-spec = tie.close (tie.spec (search needs) (search needs) returns returns-2)
+twos-spec = tie.close (tie.spec (search arith) (search arith) returns returns-2)

@@ -1,8 +1,5 @@
 -- `characters::within` meets its contract: true only past both tests.
-use mathlib.Core.Bool.{false≢true}
-use native.Mathlib.Omega.{arith}
-use borrow.Author.Tests.{leb-true}
-use borrow.Author.Needs.{needs}
+use Rattle.element.proofs.Names.{false≢true, arith, leb-true, needs}
 use Rattle.stretch.proofs.characters.within.Statement.{statement}
 use Rattle.stretch.proofs.characters.within.Tie as tie
 

@@ -1,5 +1,5 @@
 -- `designation::by_final` meets its contract, by what `set_of` ensures.
-use borrow.Author.Needs.{needs}
+use Rattle.element.proofs.Names.{arith}
 use Rattle.stretch.proofs.designation.by_final.Statement.{statement}
 use Rattle.stretch.proofs.designation.by_final.Tie as tie
 
@@ -7,4 +7,4 @@ returns : tie.Need-returns
 returns c = rw (c .set-of .ensures)
 
 pub by-final-spec : {M : Type 1} → statement M
-by-final-spec = tie.close (tie.spec (search needs) returns)
+by-final-spec = tie.close (tie.spec (search arith) returns)

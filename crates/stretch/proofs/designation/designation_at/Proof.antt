@@ -1,9 +1,6 @@
 -- `designation::designation_at` meets its contract: four octets are there and decide, or they are not.
-use native.Mathlib.Omega.{arith}
-use mathlib.Core.Path.{_∙_}
-use Rattle.base.proofs.Ladder.{ladder}
+use Rattle.element.proofs.Names.{arith, _∙_, ladder}
 use Rattle.stretch.proofs.Designations.{on-four, on-few, placing}
-use borrow.Author.Needs.{needs}
 use Rattle.stretch.proofs.designation.designation_at.Statement.{statement}
 use Rattle.stretch.proofs.designation.designation_at.Tie as tie
 
@@ -23,22 +20,22 @@ pub designation-at-spec : {M : Type 1} → statement M
 designation-at-spec =
     tie.close
     (tie.spec
-    (search needs)
+    (search arith)
     returns
-    (search needs)
-    (search needs)
+    (search arith)
+    (search arith)
     returns-2
-    (search needs)
-    (search needs)
-    (search needs)
-    (search needs)
-    (search needs)
-    (search needs)
-    (search needs)
-    (search needs)
-    (search needs)
-    (search needs)
-    (search needs)
+    (search arith)
+    (search arith)
+    (search arith)
+    (search arith)
+    (search arith)
+    (search arith)
+    (search arith)
+    (search arith)
+    (search arith)
+    (search arith)
+    (search arith)
     returns-3
-    (search needs)
+    (search arith)
     returns-4)

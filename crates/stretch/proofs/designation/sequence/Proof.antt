@@ -1,7 +1,6 @@
 -- `designation::sequence` meets its contract, arm by arm.
-use Rattle.base.proofs.Ladder.{ladder}
+use Rattle.element.proofs.Names.{arith, ladder}
 use Rattle.stretch.specs.Designation.{sequenceOf}
-use borrow.Author.Needs.{needs}
 use Rattle.stretch.proofs.designation.sequence.Statement.{statement}
 use Rattle.stretch.proofs.designation.sequence.Tie as tie
 
@@ -10,11 +9,11 @@ unfolding sequenceOf
 sequence-spec =
     tie.close
     (tie.spec
-    (search needs)
-    (search needs)
-    (search needs)
-    (search needs)
-    (search needs)
+    (search arith)
+    (search arith)
+    (search arith)
+    (search arith)
+    (search arith)
     (λ c. search ladder depth 9)
     (λ c. search ladder depth 9)
     (λ c. search ladder depth 9)

@@ -1,7 +1,7 @@
 -- `Directions::step` meets its contract, kind by kind.
+use native.Mathlib.Omega.{arith}
 use Rattle.base.proofs.Ladder.{ladder}
 use Rattle.state.specs.Directions.{stepOf}
-use borrow.Author.Needs.{needs}
 use Rattle.state.proofs.directions.Directions.step.Statement.{statement}
 use Rattle.state.proofs.directions.Directions.step.Tie as tie
 
@@ -10,11 +10,11 @@ unfolding stepOf
 step-spec =
     tie.close
     (tie.spec
-    (search needs)
+    (search arith)
     (λ c. search ladder depth 9)
-    (search needs)
-    (search needs)
-    (search needs)
+    (search arith)
+    (search arith)
+    (search arith)
     (λ c. search ladder depth 9)
     (λ c. search ladder depth 9)
     (λ c. search ladder depth 9)
