@@ -87,7 +87,8 @@ unfolding from
 from-length s at = length-drop at s
 
 -- a function of the octets from a place on, where there is an octet, and where there is none
-pub octet : {X : Type 0} (f : List ℕ → X) (s : List ℕ) (at : ℕ) (r : X) → at < length s → r ≡ f (getD s at 0 ∷ from (at + 1) s) → r ≡ f (from at s)
+pub octet : {X : Type 0} (f : List ℕ → X) (s : List ℕ) (at : ℕ) (r : X) → at < length s → r ≡ f (getD s at 0 ∷ from (at + 1) s)
+    → r ≡ f (from at s)
 octet f s at r h e = e ∙ ap f (sym (from-octet s at h))
 
 pub ended : {X : Type 0} (f : List ℕ → X) (s : List ℕ) (at : ℕ) (r : X) → length s ≤ at → r ≡ f [] → r ≡ f (from at s)

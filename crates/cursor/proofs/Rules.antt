@@ -19,7 +19,8 @@ module _ (at b : ℕ) (t : List ℕ) (set : ℕ) (st : State) (other r : Turn) w
   on-text h k e = on-true (textOctet b) _ _ _ h (rw (← k) e)
 
 module _ (s : List ℕ) (at b set : ℕ) (st : State) (other r : Turn) where
-  pub on-double : at + 1 < length s → r ≡ doubleOf at b (getD s (at + 1) 0 ∷ from (at + 1 + 1) s) set st other → r ≡ doubleOf at b (from (at + 1) s) set st other
+  pub on-double : at + 1 < length s → r ≡ doubleOf at b (getD s (at + 1) 0 ∷ from (at + 1 + 1) s) set st other
+      → r ≡ doubleOf at b (from (at + 1) s) set st other
   on-double h e = octet (λ (t : List ℕ). doubleOf at b t set st other) s (at + 1) r h e
 
   pub on-double-end : length s ≤ at + 1 → r ≡ doubleOf at b [] set st other → r ≡ doubleOf at b (from (at + 1) s) set st other

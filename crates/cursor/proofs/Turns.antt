@@ -77,7 +77,8 @@ module _ (s : List ℕ) (short : length s ≤ limit.octets) where
   found-by {at} {st} {to} {p = p} {next} h l (as-text k set code octets o) e =
       let m : at % 2 ^ 32 ≡ at + 0 = mod-eq-of-lt h ∙ (let z : at ≡ at + 0 = omega arith in z) in
       let n : at + octets ≡ at + (0 + octets) = omega arith in
-      let a : textAt at to k set code octets ≡ turn (recordOf (textPart k set code octets) at) (cursor (at + size (textPart k set code octets)) to) = rw (m, n) in
+      let a : textAt at to k set code octets ≡ turn (recordOf (textPart k set code octets) at) (cursor (at + size (textPart k set code octets)) to) =
+      rw (m, n) in
       let b = a ∙ ap (λ (q : Part). turn (recordOf q at) (cursor (at + size q) to)) (same-part o .0) in
       let g : Like next to = subst (λ (x : State). Like x to) (same-part o .1) (like-texted l) in
       subst (λ (x : Turn). Turns x (Gives (recordOf p at) (at + size p) next)) (sym b) (turns g)
@@ -87,7 +88,8 @@ module _ (s : List ℕ) (short : length s ≤ limit.octets) where
   silent-by i as-other = refl
   silent-by i (as-text k set code octets o) = absurd (not-silent o i)
 
-  quick : (at : ℕ) {st to : State} (l : Like st to) → Quick at st to (same-sets l) (elementTurn s (cursor at to)) (elementOf (from at s) st) (textTurn s (cursor at to))
+  quick : (at : ℕ) {st to : State} (l : Like st to)
+      → Quick at st to (same-sets l) (elementTurn s (cursor at to)) (elementOf (from at s) st) (textTurn s (cursor at to))
   unfolding textTurn
   quick at {st} like = quick-turn at st (freed (st .sets)) (same-sets like) (elementTurn s (cursor at (freed (st .sets)))) (from at s)
 
@@ -129,7 +131,8 @@ module _ (s : List ℕ) (short : length s ≤ limit.octets) where
     some : 1 ≤ length (recordsFrom es)
     gives : outcomeOf es ≡ o
 
-  here : {at : ℕ} {st to : State} {es : Elements} → Ahead s at st es → Like st to → 1 ≤ length (recordsFrom es) → Onward (cursor at to) (outcomeOf es)
+  here : {at : ℕ} {st to : State} {es : Elements} → Ahead s at st es → Like st to → 1 ≤ length (recordsFrom es)
+      → Onward (cursor at to) (outcomeOf es)
   here {at} {st} {to} {es} a l h =
       record { at = at; st = st; to = to; es = es; from-there = a; same = l; is = refl; some = h; gives = refl }
 
@@ -141,7 +144,8 @@ module _ (s : List ℕ) (short : length s ≤ limit.octets) where
   placed-on (stops f e) l h d i = absurd (omega arith)
   placed-on {at} {st} {to} (passes {k = k} {next = next} t e a) l h d i =
       let j : Silent (d .octets) (designatedOf (d .side) (d .set) st) ≡ Silent k next = i ∙ t .is in
-      let g : Like next (designatedOf (d .side) (d .set) to) = subst (λ (x : State). Like x (designatedOf (d .side) (d .set) to)) (ap (stateIn st) j) (like-designated d l) in
+      let g : Like next (designatedOf (d .side) (d .set) to) =
+      subst (λ (x : State). Like x (designatedOf (d .side) (d .set) to)) (ap (stateIn st) j) (like-designated d l) in
       rw (ap octetsIn j) (here a g h)
   placed-on {at} {st} (reads {p = p} {next = next} t m e a) l h d i =
       let j : Silent (d .octets) (designatedOf (d .side) (d .set) st) ≡ Found p next = i ∙ t .is in
@@ -155,7 +159,8 @@ module _ (s : List ℕ) (short : length s ≤ limit.octets) where
   placed-by {at} {st} a l h d e true k = placed-on a l h d (designation-silent (from at s) st d e (ltb-true (d .set) no-set k))
   placed-by a l h d e false k = here a l h
 
-  passed-on : {at : ℕ} {st to : State} {es : Elements} → Ahead s at st es → Like st to → 1 ≤ length (recordsFrom es) → Onward (passedOf s (cursor at to)) (outcomeOf es)
+  passed-on : {at : ℕ} {st to : State} {es : Elements} → Ahead s at st es → Like st to → 1 ≤ length (recordsFrom es)
+      → Onward (passedOf s (cursor at to)) (outcomeOf es)
   unfolding passedOf placedOf
   passed-on {at} a l h = placed-by a l h (designationAt (from at s)) refl (ltb (designationAt (from at s) .set) no-set) refl
 

@@ -250,7 +250,8 @@ pub data Sized (n : ℕ) (st : State) : Element → Type 0 where
   of-none : n ≡ 0 → Sized n st End
   of-bad : {r o : ℕ} → 1 ≤ r → o ≤ n → Sized n st (Refused r o)
   of-designation : {k : ℕ} {next : State} → 1 ≤ k → k ≤ n → (Fit st → Fit next) → Sized n st (Silent k next)
-  of-unit : {p : Part} {next : State} → 1 ≤ p .skip + p .octets → p .skip + p .octets ≤ n → MeantPart p → (Fit st → Fit next) → Sized n st (Found p next)
+  of-unit : {p : Part} {next : State} → 1 ≤ p .skip + p .octets → p .skip + p .octets ≤ n → MeantPart p → (Fit st → Fit next)
+      → Sized n st (Found p next)
 
 module _ {n : ℕ} {st : State} where
   pub of-end : Sized n st End → n ≡ 0

@@ -33,7 +33,8 @@ pub written-1 : (l : List ℕ) (at a : ℕ) → Written l at (a ∷ []) (at + 1)
 written-1 l at a = record { next = refl; now = refl }
 
 -- one octet more
-written-more : {l m : List ℕ} {at r : ℕ} {xs : List ℕ} (y next : ℕ) → r + 1 ≡ next → Written l at xs r m → Written l at (xs ++ (y ∷ [])) next (set m r y)
+written-more : {l m : List ℕ} {at r : ℕ} {xs : List ℕ} (y next : ℕ) → r + 1 ≡ next → Written l at xs r m
+    → Written l at (xs ++ (y ∷ [])) next (set m r y)
 written-more {m = m} {r = r} y next e p = rw (sym e) (written-both p (written-1 m r y))
 
 pub written-2 : (l : List ℕ) (at a b : ℕ) → Written l at (a ∷ b ∷ []) (at + 2) (set (set l at a) (at + 1) b)

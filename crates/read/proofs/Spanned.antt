@@ -33,7 +33,8 @@ module _ (s : List ℕ) (ys : List UnitRecord) where
         let m : suc (i + j) ≡ i + suc j = omega arith in
         ap (λ (t : Turn). t .cursor) (span-turns s (cur i) n short j h e) ∙ ap (after s) k ∙ sym (iter-suc (unitAt s) (after s) (i + j) first) ∙ ap cur m
 
-    next-list : (j : ℕ) (l : List UnitRecord) → j < r .most → i + j < length ys → standsAfter s r j ≡ true → at j ≡ cur (i + j) → l ≡ got (i + j)
+    next-list : (j : ℕ) (l : List UnitRecord) → j < r .most → i + j < length ys → standsAfter s r j ≡ true → at j ≡ cur (i + j)
+        → l ≡ got (i + j)
         → set l (i + j) (unitAfter s r j) ≡ got (i + suc j)
     next-list j l h in-list e k g =
         let m : suc (i + j) ≡ i + suc j = omega arith in

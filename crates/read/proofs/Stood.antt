@@ -12,7 +12,8 @@ use Rattle.element.specs.Start.{startOf, begunBy}
 use Rattle.element.proofs.Sizes.{found}
 use Rattle.grammar.proofs.Places.{at-passed}
 use Rattle.units.specs.Next.{outcomeOf, nextOf}
-use Rattle.cursor.specs.Cursor.{freed, cursor, stateIn, turn, outcomeTurn, elementTurn, first-double, textOctet, setAt, kindAt, ifGraphic, oneOf, doubleOf, octetOf}
+use Rattle.cursor.specs.Cursor.{freed, cursor, stateIn, turn, outcomeTurn, elementTurn, first-double, textOctet, setAt, kindAt, ifGraphic, oneOf, doubleOf}
+use Rattle.cursor.specs.Cursor.{octetOf}
 use Rattle.cursor.specs.Cursor.{quickOf, textTurn, advanceAt, advanceOf}
 use Rattle.read.specs.Spans.{any, ones, left-twos, right-twos, singleUnder, leftFirst, hasTwo, formAt, lesserOf, anyOf, ofForm, byForm, spanOf, Fits}
 use Rattle.read.specs.Spans.{movedOf, standsAfter, oneUnitAt, twoOctetUnitAt, unitAfter}

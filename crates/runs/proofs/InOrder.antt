@@ -19,7 +19,8 @@ use Rattle.pieces.specs.Partition.{stateFrom}
 use Rattle.pieces.proofs.Laws.{StateAfter, state-after, first-state}
 use Rattle.pieces.proofs.Step.{Step, stops, goes, step, elementAt, rest, noRefusal}
 use Rattle.runs.specs.Runs.{runsIn, runsOf, shownOf, noRun, nthRunOf, runAt}
-use Rattle.runs.specs.Steps.{position, firstPosition, stays, runStepTo, stopAt, lastOf, firstOf, runFrom, knownOf, checkedFrom, nextRunOf, positionAfter}
+use Rattle.runs.specs.Steps.{position, firstPosition, stays, runStepTo, stopAt, lastOf, firstOf, runFrom, knownOf, checkedFrom, nextRunOf}
+use Rattle.runs.specs.Steps.{positionAfter}
 use Rattle.runs.specs.declared.Bounds.{Bounds}
 use Rattle.runs.specs.declared.stepping.RunPosition.{RunPosition}
 use Rattle.runs.specs.declared.stepping.RunStep.{RunStep}

@@ -15,7 +15,8 @@ ends none = omega arith
 ends (more b l r) = let h = ends r in omega arith
 
 module _ (s : List ℕ) (n : ℕ) where
-  first-lies : {e : ℕ} (p : Piece) (ps : List Piece) (k : ℕ) (t : Bool) → p .start < p .end → EndToEnd (p .end) e ps → e ≤ length s → ((j : ℕ) → Lies s (nthRunOf n j (runsIn ps)))
+  first-lies : {e : ℕ} (p : Piece) (ps : List Piece) (k : ℕ) (t : Bool) → p .start < p .end → EndToEnd (p .end) e ps → e ≤ length s
+      → ((j : ℕ) → Lies s (nthRunOf n j (runsIn ps)))
       → Lies s (nthRunOf n k (pick t (p ∷ runsIn ps) (runsIn ps)))
   unfolding nthRunOf shownOf pick
   first-lies p ps zero true l r h f = let m = ends r in (omega arith, omega arith)

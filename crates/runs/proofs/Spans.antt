@@ -243,10 +243,12 @@ module _ {s : List ℕ} {first last at : ℕ} where
   pub ones-first : at ≤ length s → OnesSoFar s first last at at
   ones-first h = record { are = spans.none; within = h }
 
-  pub ones-more : {i : ℕ} → OnesSoFar s first last at i → i < length s → first ≤ getD s i 0 → getD s i 0 ≤ last → OnesSoFar s first last at (i + 1)
+  pub ones-more : {i : ℕ} → OnesSoFar s first last at i → i < length s → first ≤ getD s i 0 → getD s i 0 ≤ last
+      → OnesSoFar s first last at (i + 1)
   ones-more o h l m = record { are = spans.more (o .are) h l m; within = omega arith }
 
-  pub ones-stop : {i : ℕ} → OnesSoFar s first last at i → (i < length s → first ≤ getD s i 0 → getD s i 0 ≤ last → ⊥) → OnesTo s first last at i
+  pub ones-stop : {i : ℕ} → OnesSoFar s first last at i → (i < length s → first ≤ getD s i 0 → getD s i 0 ≤ last → ⊥)
+      → OnesTo s first last at i
   ones-stop o f = record { are = o .are; within = o .within; stop = f }
 
   pub twos-first : at ≤ length s → TwosSoFar s first last at at

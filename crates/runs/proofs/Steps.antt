@@ -35,7 +35,8 @@ use Rattle.runs.proofs.Spans.{left-octet, right-octet, text-settled, si
 -- ---- the first run among pieces
 
 module _ (n : ℕ) (there : ℕ → State) (none : RunStep) where
-  pub first-run : (p : Piece) (ps : List Piece) → isRun (p .kind) ≡ true → firstOf n there none (p ∷ ps) ≡ runStepTo (p .end) (there (p .end)) (shownOf n p)
+  pub first-run : (p : Piece) (ps : List Piece) → isRun (p .kind) ≡ true
+      → firstOf n there none (p ∷ ps) ≡ runStepTo (p .end) (there (p .end)) (shownOf n p)
   unfolding firstOf pick
   first-run p ps e = rw e
 
@@ -84,12 +85,14 @@ module _ (s : List ℕ) (at : ℕ) (st : State) (last : Piece) where
   apart (goes {q} b l u e x) f = rw e (joined-apart last q (rest s (q .end) (q .state)) f)
 
 -- the piece that is read last, once the next is read: it ends where that does, and does not start later
-extends-by : (last q : Piece) (at : ℕ) → last .start ≤ at → q .start ≡ at → at < q .end → Followed (last .kind) (q .kind) → (extendedTo last q .start ≤ q .end) × (extendedTo last q .end ≡ q .end)
+extends-by : (last q : Piece) (at : ℕ) → last .start ≤ at → q .start ≡ at → at < q .end → Followed (last .kind) (q .kind)
+    → (extendedTo last q .start ≤ q .end) × (extendedTo last q .end ≡ q .end)
 extends-by last q at h b l (same r i f g) = rw (extended-same last q f) (omega arith, refl)
 extends-by last q at h b l (over r f g) = rw (extended-apart last q f) (omega arith, refl)
 extends-by last q at h b l (other r f g) = rw (extended-apart last q f) (omega arith, refl)
 
-moves : {s : List ℕ} {at : ℕ} {st : State} {q : Piece} → Step s at st q → (q .end ≡ at → ⊥) → (q .start ≡ at) × ((at < q .end) × (q .end ≤ length s))
+moves : {s : List ℕ} {at : ℕ} {st : State} {q : Piece} → Step s at st q → (q .end ≡ at → ⊥)
+    → (q .start ≡ at) × ((at < q .end) × (q .end ≤ length s))
 moves (stops e x) i = absurd (i refl)
 moves (goes b m u e x) i = (b, (m, u))
 

@@ -35,7 +35,8 @@ abbrev pub bounds : ℕ → ℕ → ℕ → ℕ → ℕ → Answer → Bounds
 bounds start end set width direction a =
     record { start = start; end = end; set = set; width = width; direction = direction; answer = a }
 
--- a run of a string of n octets, with what is in force for it (rule R3) and its answer (rule R5). Text changes neither the sets nor the open directions, so the state after the run's first element has what is in
+-- a run of a string of n octets, with what is in force for it (rule R3) and its answer (rule R5). Text changes neither the sets nor the open
+-- directions, so the state after the run's first element has what is in
 -- force for all of it.
 unfoldable pub shownOf : ℕ → Piece → Bounds
 shownOf n p =

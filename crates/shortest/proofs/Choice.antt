@@ -7,7 +7,8 @@ use Rattle.base.proofs.Bools.{or-none}
 use Rattle.grammar.specs.Units.{TextUnit, char, space, control, ext, octets, good}
 use Rattle.grammar.specs.Grammar.{Shows, Reads, done, designate, show, Legal}
 use Rattle.grammar.proofs.Agrees.{put-legal}
-use Rattle.shortest.specs.Writing.{Need, free, either, stands, met, via, least, choose, after, designated, unitSize, need, placesOf, used, cost, writing}
+use Rattle.shortest.specs.Writing.{Need, free, either, stands, met, via, least, choose, after, designated, unitSize, need, placesOf, used, cost}
+use Rattle.shortest.specs.Writing.{writing}
 use Rattle.shortest.specs.Writing.{Good}
 use Rattle.shortest.specs.Choice.{Serves, MayPrecede, LeftFirst, Lazy, nil, next, Preferred, Before, here, later, Chosen}
 use Rattle.shortest.proofs.Needs.{spent, Chose, nothing, the-first, the-second, chose, chosen-met}

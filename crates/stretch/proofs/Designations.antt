@@ -75,15 +75,19 @@ module _ (t : List ℕ) (s : Sets) where
   unfolding quick.multiOctetAt shapeOf startOf begunBy escapeOf multiOctetOf next pick
   multi-octet c d =
       by (eqb c 0x28) (λ e. rw (eqb-true c 0x28 e) (is {d = quick.byFinalOf 4 form-94x94 GL d} (λ h. four-octets form-94x94 GL d h refl t)))
-      (λ _. by (eqb c 0x29) (λ e. rw (eqb-true c 0x29 e) (is {d = quick.byFinalOf 4 form-94x94 GR d} (λ h. four-octets form-94x94 GR d h refl t))) (λ _. no))
+      (λ _. by (eqb c 0x29) (λ e. rw (eqb-true c 0x29 e)
+      (is {d = quick.byFinalOf 4 form-94x94 GR d} (λ h. four-octets form-94x94 GR d h refl t))) (λ _. no))
 
   sequence : (b c d : ℕ) → Is (0x1B ∷ b ∷ c ∷ d ∷ t) s (quick.sequenceOf b c d)
   unfolding quick.sequenceOf shapeOf startOf begunBy escapeOf next pick
   sequence b c d =
       by (eqb b 0x24) (λ e. rw (eqb-true b 0x24 e) (multi-octet c d))
-      (λ _. by (eqb b 0x28) (λ e. rw (eqb-true b 0x28 e) (is {d = quick.byFinalOf 3 form-94 GL c} (λ h. three-octets form-94 GL c h (λ q. omega arith) (d ∷ t))))
-      (λ _. by (eqb b 0x29) (λ e. rw (eqb-true b 0x29 e) (is {d = quick.byFinalOf 3 form-94 GR c} (λ h. three-octets form-94 GR c h (λ q. omega arith) (d ∷ t))))
-      (λ _. by (eqb b 0x2D) (λ e. rw (eqb-true b 0x2D e) (is {d = quick.byFinalOf 3 form-96 GR c} (λ h. three-octets form-96 GR c h (λ q. omega arith) (d ∷ t)))) (λ _. no))))
+      (λ _. by (eqb b 0x28) (λ e. rw (eqb-true b 0x28 e)
+      (is {d = quick.byFinalOf 3 form-94 GL c} (λ h. three-octets form-94 GL c h (λ q. omega arith) (d ∷ t))))
+      (λ _. by (eqb b 0x29) (λ e. rw (eqb-true b 0x29 e)
+      (is {d = quick.byFinalOf 3 form-94 GR c} (λ h. three-octets form-94 GR c h (λ q. omega arith) (d ∷ t))))
+      (λ _. by (eqb b 0x2D) (λ e. rw (eqb-true b 0x2D e)
+      (is {d = quick.byFinalOf 3 form-96 GR c} (λ h. three-octets form-96 GR c h (λ q. omega arith) (d ∷ t)))) (λ _. no))))
 
 shape : (t : List ℕ) (s : Sets) → Is t s (quick.designationAt t)
 unfolding quick.designationAt

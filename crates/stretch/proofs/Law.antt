@@ -18,7 +18,8 @@ pub data Units (st : State) : ℕ → ℕ → Elements → Elements → Type 0 w
   more : {n at : ℕ} {p : Part} {es after : Elements} → Units st n (at + size p) es after → Units st (suc n) at (found-at at p st es) after
 
 -- what they answer
-pub units-answer : {st : State} {n at : ℕ} {es after : Elements} → Units st n at es after → (count : ℕ) → answerOf count es ≡ answerOf (count + n) after
+pub units-answer : {st : State} {n at : ℕ} {es after : Elements} → Units st n at es after → (count : ℕ)
+    → answerOf count es ≡ answerOf (count + n) after
 unfolding answerOf
 units-answer {es = es} none count =
     let e : count ≡ count + 0 = omega arith in
@@ -33,7 +34,8 @@ pub record One (n : ℕ) (st : State) (e : Element) : Type 0 where
   pub is : e ≡ Found unit st
   pub sized : size unit ≡ n
 
-module _ (f : List ℕ → Bool) (w : ℕ) (st : State) (one : (b : ℕ) (t : List ℕ) → f (b ∷ t) ≡ true → One (suc w) st (elementOf (b ∷ t) st)) where
+module _ (f : List ℕ → Bool) (w : ℕ) (st : State)
+    (one : (b : ℕ) (t : List ℕ) → f (b ∷ t) ≡ true → One (suc w) st (elementOf (b ∷ t) st)) where
   -- the octets and the place after k octets that are passed, and after as many units as pass the test
   abbrev Lead : List ℕ → ℕ → ℕ → ℕ → Type 0
   Lead t k at n = Units st n (at + k) (elements t k at st) (elements t (k + suc w * n) at st)
@@ -53,7 +55,8 @@ module _ (f : List ℕ → Bool) (w : ℕ) (st : State) (one : (b : ℕ) (t : Li
       let y : at + 1 + w ≡ at + size (u .unit) = omega (arith, u .sized) in
       rw (d, u .is, a, z) (more {after = elements t (w + suc w * n) (at + 1) st} (rw y at go))
 
-  by : (b : ℕ) (t : List ℕ) (at : ℕ) (q : Bool) → f (b ∷ t) ≡ q → Lead t w (at + 1) (leadOf f w t w) → Lead (b ∷ t) 0 at (pick q (suc (leadOf f w t w)) 0)
+  by : (b : ℕ) (t : List ℕ) (at : ℕ) (q : Bool) → f (b ∷ t) ≡ q → Lead t w (at + 1) (leadOf f w t w)
+      → Lead (b ∷ t) 0 at (pick q (suc (leadOf f w t w)) 0)
   unfolding pick
   by b t at true e go = some b t at (leadOf f w t w) (one b t e) go
   by b t at false e go = stay (b ∷ t) 0 at
@@ -75,7 +78,8 @@ module _ (f : List ℕ → Bool) (w : ℕ) (st : State) (one : (b : ℕ) (t : Li
   lead-length [] k h = omega arith
   lead-length (b ∷ t) zero h = go (f (b ∷ t)) refl (lead-length t w)
     where
-      go : (q : Bool) → f (b ∷ t) ≡ q → (w ≤ length t → w + suc w * leadOf f w t w ≤ length t) → 0 + suc w * pick q (suc (leadOf f w t w)) 0 ≤ suc (length t)
+      go : (q : Bool) → f (b ∷ t) ≡ q → (w ≤ length t → w + suc w * leadOf f w t w ≤ length t)
+          → 0 + suc w * pick q (suc (leadOf f w t w)) 0 ≤ suc (length t)
       go false e r = omega arith
       go true e r =
           let u = one b t e in
@@ -94,7 +98,8 @@ pub record Ahead (s : List ℕ) (at k n : ℕ) (st : State) : Type 0 where
   pub few : n ≤ k
   pub units : Units st n at (ahead s at st) (ahead s (at + k) st)
 
-module _ (f : List ℕ → Bool) (w : ℕ) (st : State) (one : (b : ℕ) (t : List ℕ) → f (b ∷ t) ≡ true → One (suc w) st (elementOf (b ∷ t) st)) where
+module _ (f : List ℕ → Bool) (w : ℕ) (st : State)
+    (one : (b : ℕ) (t : List ℕ) → f (b ∷ t) ≡ true → One (suc w) st (elementOf (b ∷ t) st)) where
   -- n units of suc w octets each
   pub leads : (s : List ℕ) (at n k : ℕ) → n ≡ leadOf f w (from at s) 0 → k ≡ suc w * n → n ≤ k → at + k ≤ length s → Ahead s at k n st
   leads s at n k e m l fits =

@@ -4,7 +4,8 @@ use Rattle.element.proofs.Names.{length, getD, lt-ltb, le-ltb, pick, from, ladd
 use Rattle.element.proofs.Names.{form-96, form-94x94}
 use Rattle.charset.specs.Charsets.{form-94}
 use Rattle.element.proofs.Starts.{graphic}
-use Rattle.stretch.specs.Characters.{graphicOn, singleOf, leadOf, oneAt, twoAt, singlesOf, pairsOf, Within, Four, Along, Spans, Filled, glOctet, grOctet}
+use Rattle.stretch.specs.Characters.{graphicOn, singleOf, leadOf, oneAt, twoAt, singlesOf, pairsOf, Within, Four, Along, Spans, Filled, glOctet}
+use Rattle.stretch.specs.Characters.{grOctet}
 
 pub flip : (b : Bool) → not b ≡ pick b false true
 unfolding pick
@@ -39,16 +40,19 @@ module _ (f : List ℕ → Bool) (w : ℕ) (s : List ℕ) (at : ℕ) where
   along-more i j a b = record { since = omega (arith, a .since, b .since); within = b .within; same = b .same ∙ a .same }
 
 module _ (left right : ℕ) (s : List ℕ) (at : ℕ) where
-  along-next : (i : ℕ) → Along (oneAt left right) 0 s at i → i < length s → singleOf left right (getD s i 0) ≡ true → Along (oneAt left right) 0 s at (i + 1)
+  along-next : (i : ℕ) → Along (oneAt left right) 0 s at i → i < length s → singleOf left right (getD s i 0) ≡ true
+      → Along (oneAt left right) 0 s at (i + 1)
   along-next i a h e =
       let y = single-yes left right s i h e in
       record { since = omega (arith, a .since); within = omega arith; same = omega (arith, a .same, y) }
 
   -- an octet, and what stands after it
-  pub along-one : (i j : ℕ) → Along (oneAt left right) 0 s at i → i < length s → singleOf left right (getD s i 0) ≡ true → Along (oneAt left right) 0 s (i + 1) j → Along (oneAt left right) 0 s at j
+  pub along-one : (i j : ℕ) → Along (oneAt left right) 0 s at i → i < length s → singleOf left right (getD s i 0) ≡ true
+      → Along (oneAt left right) 0 s (i + 1) j → Along (oneAt left right) 0 s at j
   along-one i j a h e b = along-more _ _ _ _ _ _ (along-next i a h e) b
 
-  pub along-last : (i : ℕ) → Along (oneAt left right) 0 s at i → singlesOf left right (from i s) ≡ 0 → (i - at ≡ singlesOf left right (from at s)) × (at + (i - at) ≤ length s)
+  pub along-last : (i : ℕ) → Along (oneAt left right) 0 s at i → singlesOf left right (from i s) ≡ 0
+      → (i - at ≡ singlesOf left right (from at s)) × (at + (i - at) ≤ length s)
   along-last i a e = (omega (arith, a .since, a .same, e), omega (arith, a .since, a .within))
 
 -- ---- octets of a span
@@ -133,9 +137,11 @@ module _ (side : ℕ) (s : List ℕ) (i : ℕ) where
   two-octets : 1 < length s - i → from i s ≡ getD s i 0 ∷ getD s (i + 1) 0 ∷ from (i + 2) s
   two-octets h =
       let e : i + 1 + 1 ≡ i + 2 = omega arith in
-      from-octet s i (omega arith) ∙ ap (λ (t : List ℕ). getD s i 0 ∷ t) (from-octet s (i + 1) (omega arith) ∙ ap (λ (n : ℕ). getD s (i + 1) 0 ∷ from n s) e)
+      from-octet s i (omega arith) ∙ ap (λ (t : List ℕ). getD s i 0 ∷ t)
+      (from-octet s (i + 1) (omega arith) ∙ ap (λ (n : ℕ). getD s (i + 1) 0 ∷ from n s) e)
 
-  pair-yes : 1 < length s - i → graphicOn side (getD s i 0) ≡ true → graphicOn side (getD s (i + 1) 0) ≡ true → pairsOf side (from i s) ≡ suc (pairsOf side (from (i + 2) s))
+  pair-yes : 1 < length s - i → graphicOn side (getD s i 0) ≡ true → graphicOn side (getD s (i + 1) 0) ≡ true
+      → pairsOf side (from i s) ≡ suc (pairsOf side (from (i + 2) s))
   unfolding leadOf twoAt pick
   pair-yes h a b = rw (two-octets h, a, b)
 
@@ -157,7 +163,8 @@ module _ (side : ℕ) (s : List ℕ) (i : ℕ) where
   pair-end h = pair-one (from i s) (rw (from-length s i) h)
 
 module _ (side : ℕ) (s : List ℕ) (at i : ℕ) (a : Along (twoAt side) 1 s at i) where
-  pub along-pair : 1 < length s - i → graphicOn side (getD s i 0) ≡ true → graphicOn side (getD s (i + 1) 0) ≡ true → Along (twoAt side) 1 s at (i + 2)
+  pub along-pair : 1 < length s - i → graphicOn side (getD s i 0) ≡ true → graphicOn side (getD s (i + 1) 0) ≡ true
+      → Along (twoAt side) 1 s at (i + 2)
   along-pair h g k =
       let y = pair-yes side s i h g k in
       record { since = omega (arith, a .since); within = omega arith; same = omega (arith, a .same, y) }

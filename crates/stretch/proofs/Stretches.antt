@@ -19,13 +19,15 @@ module _ (left right : ℕ) (t : List ℕ) where
   unfolding byFormsOf
   chosen-right a b e h f k = rw (← e, ← f) (on-ge 0 (a .units) _ _ _ h (on-lt 0 (b .units) _ _ _ k refl))
 
-  pub chosen-ones : (a b : Stretch) (n : ℕ) → a ≡ twosOf left 0 t → a .units ≤ 0 → b ≡ twosOf right 1 t → b .units ≤ 0 → n ≡ singlesOf left right t → stretch n n ≡ byFormsOf left right t
+  pub chosen-ones : (a b : Stretch) (n : ℕ) → a ≡ twosOf left 0 t → a .units ≤ 0 → b ≡ twosOf right 1 t → b .units ≤ 0
+      → n ≡ singlesOf left right t → stretch n n ≡ byFormsOf left right t
   unfolding byFormsOf
   chosen-ones a b n e h f k g = rw (← e, ← f, ← g) (on-ge 0 (a .units) _ _ _ h (on-ge 0 (b .units) _ _ _ k refl))
 
 -- no stretch starts at the end of a string
 none : (q a b : Bool) → stretch 0 0
-    ≡ pick q (pick (ltb 0 (pick a (stretch (2 * 0) 0) (stretch 0 0) .units)) (pick a (stretch (2 * 0) 0) (stretch 0 0)) (pick (ltb 0 (pick b (stretch (2 * 0) 0) (stretch 0 0) .units)) (pick b (stretch (2 * 0) 0) (stretch 0 0)) (stretch 0 0))) (stretch 0 0)
+    ≡ pick q (pick (ltb 0 (pick a (stretch (2 * 0) 0) (stretch 0 0) .units)) (pick a (stretch (2 * 0) 0) (stretch 0 0))
+    (pick (ltb 0 (pick b (stretch (2 * 0) 0) (stretch 0 0) .units)) (pick b (stretch (2 * 0) 0) (stretch 0 0)) (stretch 0 0))) (stretch 0 0)
 unfolding pick
 none false a b = refl
 none true true true = refl
@@ -35,7 +37,8 @@ none true false false = refl
 
 pub stretch-end : (s : List ℕ) (at : ℕ) (st : State) → length s ≤ at → stretch 0 0 ≡ stretchAt (from at s) st
 unfolding stretchAt byFormsOf leadOf
-stretch-end s at st h = rw (from-end s at h) (none (settledOf (st .directions)) (eqb (formOf (st .sets .gl)) form-94x94) (eqb (formOf (st .sets .gr)) form-94x94))
+stretch-end s at st h =
+    rw (from-end s at h) (none (settledOf (st .directions)) (eqb (formOf (st .sets .gl)) form-94x94) (eqb (formOf (st .sets .gr)) form-94x94))
 
 -- ---- a stretch is elements
 
@@ -53,7 +56,8 @@ module _ (s : List ℕ) (at : ℕ) (st : State) where
   nothing = passes {r = stretch 0 0} (λ h. absurd (omega arith))
 
   -- units of one octet, by what starts where their test passes
-  singles : at ≤ length s → (left right : ℕ) → ((b : ℕ) (t : List ℕ) → oneAt left right (b ∷ t) ≡ true → One 1 st (elementOf (b ∷ t) st)) → Passes (stretch (singlesOf left right (from at s)) (singlesOf left right (from at s)))
+  singles : at ≤ length s → (left right : ℕ) → ((b : ℕ) (t : List ℕ) → oneAt left right (b ∷ t) ≡ true → One 1 st (elementOf (b ∷ t) st))
+      → Passes (stretch (singlesOf left right (from at s)) (singlesOf left right (from at s)))
   singles inside left right one =
       let n : ℕ = singlesOf left right (from at s) in
       let f : 1 * n ≤ length (from at s) = lead-fits (oneAt left right) 0 st one (from at s) in

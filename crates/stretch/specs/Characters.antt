@@ -94,7 +94,8 @@ pub record Along (f : List ℕ → Bool) (w : ℕ) (s : List ℕ) (at i : ℕ) :
 
 -- four octets of a span are units that pass a test, each of w octets more than one
 pub record Spans (f : List ℕ → Bool) (w first last : ℕ) : Type 0 where
-  pub four : (s : List ℕ) (i : ℕ) → 4 ≤ length s - i → Four first last s i → 4 + (i + suc w * leadOf f w (from (i + 4) s) 0) ≡ i + suc w * leadOf f w (from i s) 0
+  pub four : (s : List ℕ) (i : ℕ) → 4 ≤ length s - i → Four first last s i
+      → 4 + (i + suc w * leadOf f w (from (i + 4) s) 0) ≡ i + suc w * leadOf f w (from i s) 0
 
 -- only octets of a span stand from a place to another, four by four: they are units of every test that such octets pass
 pub record Filled (first last : ℕ) (s : List ℕ) (at i : ℕ) : Type 0 where

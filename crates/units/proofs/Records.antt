@@ -85,7 +85,8 @@ records-count s z = counts-by s (ltb limit.octets (length s)) z
 -- ---- the next of them
 
 -- the next unit of a string that is not too long
-pub next-ahead : (s : List ℕ) → length s ≤ limit.octets → {at : ℕ} {st : State} {es : Elements} → Ahead s at st es → nextOf s at st ≡ outcomeOf es
+pub next-ahead : (s : List ℕ) → length s ≤ limit.octets → {at : ℕ} {st : State} {es : Elements} → Ahead s at st es
+    → nextOf s at st ≡ outcomeOf es
 unfolding nextOf pick
 next-ahead s short a = rw (le-ltb limit.octets (length s) short) (ap outcomeOf (ahead-is s a))
 

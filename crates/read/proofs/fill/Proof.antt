@@ -195,7 +195,8 @@ module _ {M : Type 1} (𝓤 : kit.URA M) (H : kit.Heap 𝓤) (𝓜 : kit.Model �
         (((κ, tt), (q, tt), tt, (s, (r, (g .0, tt))), (vs ∷ [], (R′.lowered r ∷ [], (vint w64 (g .0) ∷ [], tt)))), tt) (the-one W κ q)
         (id⊢ 𝓤 _ & plain W O span r is-r & plain W O number (g .0) (refl, omega (arith, less, most-fits)) & all)
         (kit.factI 𝓤 _ (kit.emp 𝓤) (fits, less))
-        (standsAfter xs r (g .0)) (λ r e. id⊢ 𝓤 _) flag (arg ! 27 refl (arg ! 25 refl (arg ! 17 refl (kit.no-more !)))) (λ is-b ok. lands-in ! 13 refl ok $
+        (standsAfter xs r (g .0)) (λ r e. id⊢ 𝓤 _) flag (arg ! 27 refl (arg ! 25 refl (arg ! 17 refl (kit.no-more !))))
+        (λ is-b ok. lands-in ! 13 refl ok $
         kit.branches ! (var ! 13 refl)
         (λ yes-b.
         -- the unit

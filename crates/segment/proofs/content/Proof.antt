@@ -15,7 +15,9 @@ rem-if2 c = rw (c .before .text-width .ensures) (width-pos _)
 
 returns-2 : tie.Need-returns-2
 unfolding contentOf
-returns-2 c = rw (c .before .before .before .before .before .name .given .1, ← (c .before .before .before .text-width .ensures), c .counts-as-text .ensures) (search steps depth 12)
+returns-2 c =
+    rw (c .before .before .before .before .before .name .given .1, ← (c .before .before .before .text-width .ensures), c .counts-as-text .ensures)
+    (search steps depth 12)
 
 returns-3 : tie.Need-returns-3
 unfolding contentOf

@@ -1,5 +1,5 @@
 -- `check_list::record::stowable` meets its contract.
-use Rattle.element.proofs.Names.{ladder, needs}
+use Rattle.element.proofs.Names.{ladder}
 use Rattle.rows.specs.Stowable.{stowableOf}
 use Rattle.check_list.proofs.record.stowable.Statement.{statement}
 use Rattle.check_list.proofs.record.stowable.Tie as tie

@@ -1,5 +1,5 @@
 -- `octets::if_graphic` meets its contract, test by test. Assumes nothing.
-use Rattle.element.proofs.Names.{ladder, needs}
+use Rattle.element.proofs.Names.{ladder}
 use Rattle.cursor.specs.Cursor.{ifGraphic}
 use Rattle.cursor.proofs.octets.if_graphic.Statement.{statement}
 use Rattle.cursor.proofs.octets.if_graphic.Tie as tie

@@ -1,5 +1,5 @@
 -- `spans::has_two` meets its contract, test by test. Assumes nothing.
-use Rattle.element.proofs.Names.{ladder, needs}
+use Rattle.element.proofs.Names.{ladder}
 use Rattle.read.specs.Spans.{hasTwo}
 use Rattle.read.proofs.spans.has_two.Statement.{statement}
 use Rattle.read.proofs.spans.has_two.Tie as tie

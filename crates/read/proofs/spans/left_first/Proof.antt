@@ -1,5 +1,5 @@
 -- `spans::left_first` meets its contract, test by test. Assumes nothing.
-use Rattle.element.proofs.Names.{ladder, needs}
+use Rattle.element.proofs.Names.{ladder}
 use Rattle.read.specs.Spans.{leftFirst}
 use Rattle.read.proofs.spans.left_first.Statement.{statement}
 use Rattle.read.proofs.spans.left_first.Tie as tie

@@ -1,5 +1,5 @@
 -- `spans::lesser` meets its contract, test by test. Assumes nothing.
-use Rattle.element.proofs.Names.{ladder, needs}
+use Rattle.element.proofs.Names.{ladder}
 use Rattle.read.specs.Spans.{lesserOf}
 use Rattle.read.proofs.spans.lesser.Statement.{statement}
 use Rattle.read.proofs.spans.lesser.Tie as tie

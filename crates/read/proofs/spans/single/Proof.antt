@@ -1,5 +1,5 @@
 -- `spans::single` meets its contract, test by test. Assumes nothing.
-use Rattle.element.proofs.Names.{ladder, needs}
+use Rattle.element.proofs.Names.{ladder}
 use Rattle.read.specs.Spans.{singleUnder}
 use Rattle.read.proofs.spans.single.Statement.{statement}
 use Rattle.read.proofs.spans.single.Tie as tie

@@ -1,5 +1,5 @@
 -- `spans::stands_at` meets its contract: the unit is in the string (`Within`), and the tests are those of its definition. Assumes nothing.
-use Rattle.element.proofs.Names.{needs, ladder, arith}
+use Rattle.element.proofs.Names.{ladder, arith}
 use Rattle.read.proofs.Within.{one-within, two-within}
 use Rattle.read.specs.Spans.{standsAfter}
 use Rattle.read.proofs.spans.stands_at.Statement.{statement}

@@ -8,10 +8,14 @@ returns : tie.Need-returns
 returns c = chosen-left _ _ _ _ (c .before .before .twos .ensures) (c .if1 .taken)
 
 returns-2 : tie.Need-returns-2
-returns-2 c = chosen-right _ _ _ _ _ (c .before .before .before .before .before .twos .ensures) (c .before .before .before .if1 .left) (c .before .before .twos2 .ensures) (c .if2 .taken)
+returns-2 c =
+    chosen-right _ _ _ _ _ (c .before .before .before .before .before .twos .ensures) (c .before .before .before .if1 .left) (c .before .before .twos2 .ensures)
+    (c .if2 .taken)
 
 returns-3 : tie.Need-returns-3
-returns-3 c = chosen-ones _ _ _ _ _ _ (c .before .before .before .before .before .before .twos .ensures) (c .before .before .before .before .if1 .left) (c .before .before .before .twos2 .ensures) (c .before .if2 .left) (c .singles .ensures .0)
+returns-3 c =
+    chosen-ones _ _ _ _ _ _ (c .before .before .before .before .before .before .twos .ensures) (c .before .before .before .before .if1 .left)
+    (c .before .before .before .twos2 .ensures) (c .before .if2 .left) (c .singles .ensures .0)
 
 pub by-forms-spec : {M : Type 1} → statement M
 by-forms-spec =

@@ -18,10 +18,14 @@ loop-less : tie.Need-loop-less Inv-loop μ-loop
 loop-less c = omega (arith, c .same-side .ensures .since, c .same-side .ensures .within)
 
 loop-again : tie.Need-loop-again Inv-loop μ-loop
-loop-again c = along-one _ _ _ _ _ _ (c .before .before .before .before .before .loop .inv) (c .before .before .before .before .loop-test .taken) (sym (c .before .before .single .ensures) ∙ c .before .if1 .taken) (c .same-side .ensures)
+loop-again c =
+    along-one _ _ _ _ _ _ (c .before .before .before .before .before .loop .inv) (c .before .before .before .before .loop-test .taken)
+    (sym (c .before .before .single .ensures) ∙ c .before .if1 .taken) (c .same-side .ensures)
 
 returns : tie.Need-returns Inv-loop μ-loop
-returns c = along-last _ _ _ _ _ (c .before .before .before .before .loop .inv) (single-no _ _ _ _ (c .before .before .before .loop-test .taken) (sym (c .before .single .ensures) ∙ c .if1 .left))
+returns c =
+    along-last _ _ _ _ _ (c .before .before .before .before .loop .inv)
+    (single-no _ _ _ _ (c .before .before .before .loop-test .taken) (sym (c .before .single .ensures) ∙ c .if1 .left))
 
 returns-2 : tie.Need-returns-2 Inv-loop μ-loop
 returns-2 c = along-last _ _ _ _ _ (c .before .loop .inv) (single-end _ _ _ _ (c .loop-test .left))

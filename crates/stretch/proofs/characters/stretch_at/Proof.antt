@@ -8,7 +8,9 @@ use Rattle.stretch.proofs.characters.stretch_at.Tie as tie
 
 returns : tie.Need-returns
 unfolding stretchAt
-returns c = on-yes _ _ _ _ _ (c .before .before .before .before .settled .ensures) (c .before .before .before .if2 .taken) (rw (c .by-forms .ensures, c .before .form-of2 .ensures, c .before .before .form-of .ensures))
+returns c =
+    on-yes _ _ _ _ _ (c .before .before .before .before .settled .ensures) (c .before .before .before .if2 .taken)
+    (rw (c .by-forms .ensures, c .before .form-of2 .ensures, c .before .before .form-of .ensures))
 
 returns-2 : tie.Need-returns-2
 unfolding stretchAt

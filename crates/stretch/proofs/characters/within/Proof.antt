@@ -1,5 +1,5 @@
 -- `characters::within` meets its contract: true only past both tests.
-use Rattle.element.proofs.Names.{false≢true, arith, leb-true, needs}
+use Rattle.element.proofs.Names.{false≢true, arith, leb-true}
 use Rattle.stretch.proofs.characters.within.Statement.{statement}
 use Rattle.stretch.proofs.characters.within.Tie as tie
 
