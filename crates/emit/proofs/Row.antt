@@ -1,10 +1,11 @@
 -- The octets of the unit of a row, by its tag: those of text, of a segment, of a mark. Only the octets of text depend on the side.
-use Rattle.element.proofs.Names.{ℕ, _+_, _≤_, _<_, arith, _≡_, refl, sym, ap, ap₂, _∙_, Bool, true, false, cond, _&&_, List, ltb, leb, eqb, getD}
+use Rattle.element.proofs.Names.{ℕ, _+_, _%_, _≤_, _<_, arith, _≡_, refl, sym, ap, ap₂, _∙_, Bool, true, false, cond, _&&_, List, [], _∷_, ltb, leb, eqb, getD}
 use Rattle.element.proofs.Names.{take, drop, le-ltb, pick, Side, GL}
-use Rattle.grammar.specs.Units.{TextUnit, space, control, tab, newline, ltr, rtl, revert, ext, octets}
+use Rattle.grammar.specs.Units.{TextUnit, space, control, tab, newline, ltr, rtl, revert, ext, octets, top}
 use Rattle.rows.specs.Rows.{highOctet, lowOctet, startFrom, countOf, textTagged, markTagged, unitTagged, unitFrom}
 use Rattle.rows.specs.Tag as tag
 use Rattle.rows.proofs.Units.{unit-text, unit-segment, unit-mark}
+use Rattle.emit.proofs.Stores.{paired, two-octets, single-octet}
 
 -- the octets of a unit that is no character are the same on each side
 mark-free : (t : ℕ) (d e : Side) → octets d (markTagged t) ≡ octets e (markTagged t)
@@ -37,8 +38,16 @@ module _ (o w : List ℕ) (row : ℕ) (d : Side) where
   abbrev t : ℕ
   t = getD w (row + 65) 0
 
-  pub text-octets : t < tag.tab → octets d (unitFrom o w row) ≡ octets d (textTagged t (highOctet w row) (lowOctet w row))
+  text-octets : t < tag.tab → octets d (unitFrom o w row) ≡ octets d (textTagged t (highOctet w row) (lowOctet w row))
   text-octets h = ap (octets d) (unit-text o t (highOctet w row) (lowOctet w row) (startFrom w row) h)
+
+  pub row-two : (x y : ℕ) → x ≡ top d + highOctet w row % 128 → y ≡ top d + lowOctet w row % 128
+      → pick (ltb t tag.double) false (ltb t tag.space) ≡ true → octets d (unitFrom o w row) ≡ x ∷ y ∷ []
+  row-two x y ex ey n = text-octets (omega (arith, paired t n)) ∙ two-octets d t (highOctet w row) (lowOctet w row) x y ex ey n
+
+  pub row-one : (y : ℕ) → y ≡ pick (eqb t tag.space) 0x20 (top d + lowOctet w row % 128)
+      → pick (ltb t tag.double) false (ltb t tag.space) ≡ false → t < tag.tab → octets d (unitFrom o w row) ≡ y ∷ []
+  row-one y ey n h = text-octets h ∙ single-octet d t (highOctet w row) (lowOctet w row) y ey n h
 
   pub segment-octets : (n s : ℕ) → n ≡ countOf (highOctet w row) (lowOctet w row) → s ≡ startFrom w row → tag.segment ≤ t → t < tag.spare
       → octets d (unitFrom o w row) ≡ octets GL (ext (tag.d + t) (take n (drop s o)))

@@ -121,7 +121,7 @@ broad t h k =
     subst (λ (m : ℕ). wide m ≡ true) e (up-to 3 (λ m. wide (12 + m)) refl (t - 12) (omega arith))
 
 -- the tag of a character of two octets, by its test
-paired : (t : ℕ) → pick (ltb t 12) false (ltb t 15) ≡ true → (12 ≤ t) × (t < 15)
+pub paired : (t : ℕ) → pick (ltb t 12) false (ltb t 15) ≡ true → (12 ≤ t) × (t < 15)
 paired t e = let p = pick-last (ltb t 12) (ltb t 15) e in (ltb-false t 12 (p .0), ltb-true t 15 (p .1))
 
 -- a character of one octet, or a space; and a character of two

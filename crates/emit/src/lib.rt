@@ -98,15 +98,15 @@ fn put_row(work: &[u8], row: usize, left: bool, segments: &[u8], out: &mut [u8],
         (now (out .exit)) ⌝ }
 {
     let tag = work[row + layout::TAG];
+    // two octets first: the compiler makes one comparison of the test
+    if octets::two_octets(tag) {
+        let high = octets::on_side(left, work[row + layout::HIGH]);
+        let low = octets::on_side(left, work[row + layout::LOW]);
+        return octets::put_two(high, low, out, at);
+    }
     if tag < tag::TAB {
-        return octets::put_text(
-            tag,
-            work[row + layout::HIGH],
-            work[row + layout::LOW],
-            left,
-            out,
-            at,
-        );
+        let octet = octets::single(tag, left, work[row + layout::LOW]);
+        return octets::put_one(octet, out, at);
     }
     if tag::SEGMENT <= tag {
         if tag < tag::SPARE {

@@ -10,7 +10,7 @@ ghost use Rattle.charset.specs.Charsets.{rowOf};
 ghost use Rattle.state.specs.State.{on};
 ghost use Rattle.charset.specs.declared.Side.the-variants.{GL};
 ghost use Rattle.grammar.specs.Units.{octets, designation, top, ext};
-ghost use Rattle.rows.specs.Rows.{partOf, textTagged, markTagged};
+ghost use Rattle.rows.specs.Rows.{partOf, markTagged};
 ghost use Rattle.rows.specs.Tag as tags;
 ghost use Rattle.emit.specs.Octets.{Written, sideOf, signOf};
 use rows::tag;
@@ -60,14 +60,14 @@ pub fn put_designation(left: bool, set: usize, out: &mut [u8], at: usize) -> usi
 }
 
 // A code's octet on a side.
-fn on_side(left: bool, b: u8) -> u8
+pub fn on_side(left: bool, b: u8) -> u8
     ensures { λ r. ⌜ r ≡ top (sideOf left) + b % 128 ⌝ }
 {
     if left { b % 128 } else { 128 + b % 128 }
 }
 
 // Whether a tag is that of a character of two octets.
-fn two_octets(tag: u8) -> bool
+pub fn two_octets(tag: u8) -> bool
     ensures { λ r. ⌜ r ≡ pick (ltb tag tags.double) false (ltb tag tags.space) ⌝ }
 {
     if tag < tag::DOUBLE {
@@ -77,7 +77,7 @@ fn two_octets(tag: u8) -> bool
 }
 
 // The octet of a space, or of a character of one octet on a side: the two in one, since words and spaces alternate.
-fn single(tag: u8, left: bool, b: u8) -> u8
+pub fn single(tag: u8, left: bool, b: u8) -> u8
     ensures { λ r. ⌜ r ≡ pick (eqb tag tags.space) 0x20 (top (sideOf left) + b % 128) ⌝ }
 {
     if tag == tag::SPACE {
@@ -85,20 +85,6 @@ fn single(tag: u8, left: bool, b: u8) -> u8
     } else {
         on_side(left, b)
     }
-}
-
-// Writes a character, of which high and low are the octets of its code, or a space, on a side, and answers the next place.
-pub fn put_text(tag: u8, high: u8, low: u8, left: bool, out: &mut [u8], at: usize) -> usize
-    requires { ⌜ (tag < tags.tab) × (at + length (octets (sideOf left) (textTagged tag high low)) ≤ length (now out)) ⌝ }
-    ensures { λ r. ⌜ Written (now (out .entry)) at (octets (sideOf left) (textTagged tag high low)) r (now (out .exit)) ⌝ }
-{
-    if two_octets(tag) {
-        out[at] = on_side(left, high);
-        out[at + 1] = on_side(left, low);
-        return at + 2;
-    }
-    out[at] = single(tag, left, low);
-    at + 1
 }
 
 // Copies n octets of src, from a place on, and answers the next place.
@@ -120,12 +106,10 @@ pub fn put_mark(tag: u8, out: &mut [u8], at: usize) -> usize
     ensures { λ r. ⌜ Written (now (out .entry)) at (octets GL (markTagged tag)) r (now (out .exit)) ⌝ }
 {
     if tag == tag::TAB {
-        out[at] = 0x09;
-        return at + 1;
+        return put_one(0x09, out, at);
     }
     if tag == tag::NEWLINE {
-        out[at] = 0x0A;
-        return at + 1;
+        return put_one(0x0A, out, at);
     }
     if tag == tag::LEFT_TO_RIGHT {
         return put_three(0x9B, 0x31, 0x5D, out, at);
@@ -133,8 +117,24 @@ pub fn put_mark(tag: u8, out: &mut [u8], at: usize) -> usize
     if tag == tag::RIGHT_TO_LEFT {
         return put_three(0x9B, 0x32, 0x5D, out, at);
     }
-    out[at] = 0x9B;
-    out[at + 1] = 0x5D;
+    put_two(0x9B, 0x5D, out, at)
+}
+
+// These write one octet, two and three, and answer the next place.
+pub fn put_one(a: u8, out: &mut [u8], at: usize) -> usize
+    requires { ⌜ at + 1 ≤ length (now out) ⌝ }
+    ensures { λ r. ⌜ Written (now (out .entry)) at (a ∷ []) r (now (out .exit)) ⌝ }
+{
+    out[at] = a;
+    at + 1
+}
+
+pub fn put_two(a: u8, b: u8, out: &mut [u8], at: usize) -> usize
+    requires { ⌜ at + 2 ≤ length (now out) ⌝ }
+    ensures { λ r. ⌜ Written (now (out .entry)) at (a ∷ b ∷ []) r (now (out .exit)) ⌝ }
+{
+    out[at] = a;
+    out[at + 1] = b;
     at + 2
 }
 

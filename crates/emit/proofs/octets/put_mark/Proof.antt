@@ -1,8 +1,8 @@
 -- `octets::put_mark` meets its contract, tag by tag.
-use Rattle.element.proofs.Names.{arith, length-set, ladder}
+use Rattle.element.proofs.Names.{arith, ladder}
 use Rattle.grammar.specs.Units.{tab, newline, ltr, rtl, revert, octets}
 use Rattle.rows.specs.Rows.{markTagged}
-use Rattle.emit.proofs.Stores.{written-1, written-2, mark-room, mark-written}
+use Rattle.emit.proofs.Stores.{mark-room, mark-written}
 use Rattle.emit.proofs.octets.put_mark.Statement.{statement}
 use Rattle.emit.proofs.octets.put_mark.Tie as tie
 
@@ -11,14 +11,13 @@ unfolding octets markTagged
 put-mark-spec =
     tie.close
     (tie.spec
-    (λ c. let s = c .before .before in omega (arith, mark-room tab (s .args .tag) _ (search ladder depth 9) (s .pre)))
+    (λ c κs. let s = c .before .before .before in mark-room tab (s .args .tag) _ (search ladder depth 9) (s .pre))
     (search arith)
-    (search (length-set, arith))
-    (λ c. mark-written tab (c .before .before .args .tag) (search ladder depth 9) (written-1 _ _ _))
-    (λ c. let s = c .before .before .before in omega (arith, mark-room newline (s .args .tag) _ (search ladder depth 9) (s .pre)))
+    (λ c. mark-written tab (c .before .before .before .before .before .before .args .tag) (search ladder depth 9) (c .before .before .put-one .ensures))
+    (λ c κs. let s = c .before .before .before .before in mark-room newline (s .args .tag) _ (search ladder depth 9) (s .pre))
     (search arith)
-    (search (length-set, arith))
-    (λ c. mark-written newline (c .before .before .before .args .tag) (search ladder depth 9) (written-1 _ _ _))
+    (λ c. mark-written newline (c .before .before .before .before .before .before .before .args .tag) (search ladder depth 9)
+    (c .before .before .put-one2 .ensures))
     (λ c κs. let s = c .before .before .before .before .before in mark-room ltr (s .args .tag) _ (search ladder depth 9) (s .pre))
     (search arith)
     (λ c. mark-written ltr (c .before .before .before .before .before .before .before .before .args .tag) (search ladder depth 9)
@@ -27,10 +26,7 @@ put-mark-spec =
     (search arith)
     (λ c. mark-written rtl (c .before .before .before .before .before .before .before .before .before .args .tag) (search ladder depth 9)
     (c .before .before .put-three2 .ensures))
-    (λ c. let s = c .before .before .before .before .before in omega (arith, mark-room revert (s .args .tag) _ (search ladder depth 9) (s .pre)))
+    (λ c κs. let s = c .before .before .before .before .before .before in mark-room revert (s .args .tag) _ (search ladder depth 9) (s .pre))
     (search arith)
-    (λ c. let s = c .before .before .before .before .before in
-    simp length-set (omega (arith, mark-room revert (s .args .tag) _ (search ladder depth 9) (s .pre))))
-    (search arith)
-    (search (length-set, arith))
-    (λ c. mark-written revert (c .before .before .before .before .before .args .tag) (search ladder depth 9) (written-2 _ _ _ _)))
+    (λ c. mark-written revert (c .before .before .before .before .before .before .before .before .before .args .tag) (search ladder depth 9)
+    (c .before .before .put-two .ensures)))
