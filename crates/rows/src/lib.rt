@@ -1,6 +1,6 @@
 // The rows of the work room: where the units stand while their writing is planned.
 ghost use mathlib.Core.Path.{_≡_};
-ghost use Prim.Native.Nat.{_+_, _≤_};
+ghost use Prim.Native.Nat.{_+_, _-_, _≤_};
 ghost use lib.ListN.{getD};
 ghost use Rattle.rows.specs.Rows.{startFrom, highOctet, lowOctet, countOf, partOf};
 
@@ -14,15 +14,20 @@ pub fn wide(x: u8) -> usize
     x as usize
 }
 
-// The octet at a place of the row that starts at a place of the room, 0 beyond the room's end.
+// The octets from a place on, of m.
+fn rest(m: usize, place: usize) -> usize
+    ensures { λ r. ⌜ r ≡ m - place ⌝ }
+{
+    if place < m { m - place } else { 0 }
+}
+
+// The octet at a place of the row that starts at a place of the room, 0 beyond the room's end. One test, for the rest is the same for all places of
+// a row.
 fn octet_at(work: &[u8], row: usize, place: usize) -> u8
     ensures { λ r. ⌜ r ≡ getD (now (work .entry)) (row + place) 0 ⌝ }
 {
-    let m = work.len();
-    if row < m {
-        if place < m - row {
-            return work[row + place];
-        }
+    if place < rest(work.len(), row) {
+        return work[row + place];
     }
     0
 }
@@ -51,9 +56,6 @@ pub fn start_at(work: &[u8], row: usize) -> usize
 pub fn part_of(n: usize, start: usize, m: usize) -> usize
     ensures { λ r. ⌜ r ≡ partOf n start m ⌝ }
 {
-    if m <= start {
-        return 0;
-    }
-    let left = m - start;
+    let left = rest(m, start);
     if n <= left { n } else { left }
 }

@@ -11,5 +11,4 @@ octet-at-spec =
     (search arith)
     (search arith)
     (λ c. search arith)
-    (λ c. let args = c .before .before .args in sym (List·getD-eq-default (args .work .now) 0 {n = args .row + args .place} (omega arith)))
-    (λ c. let args = c .before .args in sym (List·getD-eq-default (args .work .now) 0 {n = args .row + args .place} (omega arith))))
+    (λ c. let args = c .before .before .before .args in sym (List·getD-eq-default (args .work .now) 0 {n = args .row + args .place} (omega arith))))
