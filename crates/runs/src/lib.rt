@@ -9,8 +9,6 @@ use base::refusal;
 use charset::FORM_94X94;
 use pieces::Piece;
 
-mod ends;
-pub mod listed;
 pub mod stepping;
 pub mod view;
 

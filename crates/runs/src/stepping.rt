@@ -1,15 +1,12 @@
 // The runs of a string one after the other, in one pass: a step from run to run.
 ghost use mathlib.Core.Path.{_≡_};
-ghost use mathlib.Core.Bool.{true};
-ghost use lib.ListN.{length};
 ghost use Rattle.base.specs.Choice.{from};
 ghost use Rattle.element.specs.Element.{elementOf};
 ghost use Rattle.pieces.specs.Pieces.{piece};
-ghost use Rattle.reader.specs.Step.{mayStand};
 ghost use Rattle.runs.specs.Runs.{runAt};
 ghost use Rattle.runs.specs.Steps.{firstPosition, stays, runStepTo, stopAt, runFrom, knownOf, checkedFrom, nextRunOf};
 use crate::Bounds;
-use crate::ends::text_end;
+use run_ends::text_end;
 use base::Answer;
 use base::limit;
 use base::refusal;
@@ -100,7 +97,6 @@ pub fn stop_at(s: &[u8], at: usize, st: State) -> RunStep
 // The first run from a place and a state on. Designations, and text that leaves the state as it is, are passed by their octets, and any other
 // element by itself.
 fn run_from(s: &[u8], place: usize, state: State) -> RunStep
-    requires { ⌜ mayStand (length (now s)) place state ≡ true ⌝ }
     ensures { λ r. ⌜ r ≡ runFrom (now (s .entry)) place state ⌝ }
 {
     let mut at = place;
@@ -150,9 +146,8 @@ pub fn known(s: &[u8], checked: bool) -> Answer
     check_string::answer(s)
 }
 
-// The first run from a position on, which may stand in the string; the string is checked where that is not done yet.
+// The first run from a position on; the string is checked where that is not done yet.
 fn checked_from(s: &[u8], p: RunPosition) -> RunStep
-    requires { ⌜ mayStand (length (now s)) (p .place) (p .state) ≡ true ⌝ }
     ensures { λ r. ⌜ r ≡ checkedFrom (now (s .entry)) p ⌝ }
 {
     let answer = known(s, p.checked);

@@ -1,6 +1,6 @@
 -- `stepping::numbered` meets its contract: the run of the step after k steps is the k-th run.
 use Rattle.element.proofs.Names.{arith, _∙_}
-use Rattle.runs.proofs.InOrder.{Numbered, number-first, number-refused, number-may, at-number, past-number, next-number}
+use Rattle.runs.proofs.InOrder.{Numbered, number-first, number-refused, at-number, past-number, next-number}
 use Rattle.runs.proofs.stepping.numbered.Statement.{statement}
 use Rattle.runs.proofs.stepping.numbered.Tie as tie
 
@@ -15,9 +15,6 @@ returns c = c .no-run .ensures ∙ number-refused _ _ _ (c .before .before .befo
 
 loop-holds : tie.Need-loop-holds Inv-loop μ-loop
 loop-holds c = number-first _ _ _ (c .before .before .answer .ensures) (c .if1 .left)
-
-run-from-requires : tie.Need-run-from-requires Inv-loop μ-loop
-run-from-requires c κs = number-may (c .loop .inv)
 
 returns-2 : tie.Need-returns-2 Inv-loop μ-loop
 returns-2 c =
@@ -47,7 +44,7 @@ numbered-spec =
     (search arith)
     returns
     loop-holds
-    run-from-requires
+    (search arith)
     returns-2
     returns-3
     (search arith)
