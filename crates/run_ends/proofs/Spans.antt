@@ -1,24 +1,22 @@
 -- In a state that text leaves as it is, the end that the code finds is where the pieces of the run end (`left-grows`, `right-grows`, `text-grows`). An
 -- octet of the span of a side, or two, is a piece of a run of that side and leaves the state, by what such an octet starts; and a piece of a run
 -- starts with octets of the span, by where an octet lies that starts text.
-use Rattle.element.proofs.Names.{ℕ, zero, suc, _+_, _-_, _/_, _%_, _≤_, _<_, arith, not-suc-le-zero, _≡_, refl, ap, sym, _∙_, true, false, List, [], _∷_}
-use Rattle.element.proofs.Names.{Bool, eqb, ltb, length, getD, eqb-true, eqb-false, eq-eqb, ltb-true, ltb-false, pick, from, off, test, tested, pick-by}
-use Rattle.element.proofs.Names.{on-true, on-lt, on-ge, from-octet, from-end, from-length, form-96, formOf, Side, GL, GR, get, writtenOf, stepOf, next}
+use Rattle.element.proofs.Names.{ℕ, zero, suc, _+_, _-_, _/_, _%_, _≤_, _<_, arith, not-suc-le-zero, _≡_, refl, ap, sym, _∙_, true, List, [], _∷_}
+use Rattle.element.proofs.Names.{Bool, eqb, ltb, length, getD, eqb-true, eqb-false, ltb-true, ltb-false, pick, from, off, test, tested, pick-by}
+use Rattle.element.proofs.Names.{on-true, on-lt, on-ge, from-octet, from-end, from-length, form-96, formOf, Side, GL, GR, writtenOf, stepOf, next}
 use Rattle.element.proofs.Names.{State, Sets, Directions, Step, Goes, Stops, Shape, Refuses, Designates, Gives}
-use Rattle.base.specs.Refusal as refusal
 use Rattle.element.specs.Element.{shapeOf, steppedOf, directedOf}
 use Rattle.element.specs.Start.{Start, startIn, begunBy}
 use Rattle.element.proofs.Sizes.{kindIn, escape-kind, mark-kind}
 use Rattle.element.proofs.Starts.{On, wideIn, Starts, starts, graphic-low, graphic, used-graphic, graphic-used, all-used}
 use Rattle.element.proofs.Starts as start
 use Rattle.grammar.specs.Reading.{Octets}
-use Rattle.state.specs.Elements.{refused}
 use Rattle.state.specs.declared.elements.Shape.the-variants.{Ends}
 use Rattle.stretch.specs.Characters.{settledOf}
 use Rattle.stretch.proofs.Loops.{two-octets}
 use Rattle.stretch.proofs.Starts.{Written, number, one-start, left-start, written-one, written-two, written-found}
 use Rattle.stretch.proofs.Starts as stretched
-use Rattle.text.specs.Text.{graphicOf, twoOctetsOf, secondOctetOf}
+use Rattle.text.specs.Text.{graphicOf, secondOctetOf}
 use Rattle.pieces.specs.Pieces.{piece, noPiece, sideKindOf, pieceKindOf, pieceOf, isRun}
 use Rattle.pieces.specs.declared.Piece.{Piece}
 use Rattle.pieces.proofs.Laws.{run-kind}

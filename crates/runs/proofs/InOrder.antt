@@ -17,7 +17,7 @@ use Rattle.pieces.specs.Pieces.{isRun, sameRunOf, longer, joined, piecesOf}
 use Rattle.pieces.specs.declared.Piece.{Piece}
 use Rattle.pieces.proofs.Step.{elementAt, pieceAt, rest, noRefusal}
 use Rattle.runs.specs.Runs.{runsIn, runsOf, shownOf, noRun, nthRunOf, runAt}
-use Rattle.runs.specs.Steps.{position, firstPosition, stays, runStepTo, stopAt, runFrom, knownOf, checkedFrom, nextRunOf, positionAfter}
+use Rattle.runs.specs.Steps.{firstPosition, stays, runStepTo, stopAt, runFrom, knownOf, checkedFrom, nextRunOf, positionAfter}
 use Rattle.runs.specs.declared.Bounds.{Bounds}
 use Rattle.runs.specs.declared.stepping.RunPosition.{RunPosition}
 use Rattle.runs.specs.declared.stepping.RunStep.{RunStep}

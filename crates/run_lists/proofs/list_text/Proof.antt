@@ -1,7 +1,6 @@
 -- `run_lists::list_text` meets its contract: each turn shows and stores a run, or passes a designation, and the end stays the same.
-use Rattle.element.proofs.Names.{_-_, arith, refl, length}
+use Rattle.element.proofs.Names.{_-_, arith, length, pick}
 use Rattle.pieces.specs.Pieces.{setIn}
-use Rattle.element.proofs.Names.{pick}
 use Rattle.run_lists.specs.Listed.{stand}
 use Rattle.runs.proofs.Steps.{designation-fits}
 use Rattle.run_lists.proofs.Lists.{Texts, on-first, left-cut, right-cut, text-run, designates}

@@ -1,16 +1,16 @@
 -- `runs::run` meets its contract: its code is followed by hand, for it makes a struct that holds a reference. `run_at` gives the bounds and the
 -- numbers, `part` the part of the string, and the struct is made of them.
-use Rattle.walks.proofs.Names.{_≡_, refl, ℕ, _-_, _<_, _^_, [], _∷_, List, length, named, w64, w8, Val, vint, SProp, Sq, prop, id⊢, ftrue, flft, ‵, raw, _⊛_}
-use Rattle.walks.proofs.Names.{_$_, !, by, move, let-go, use1, use2, split, join, frame, done, and-then, no-more, Is, uint-makes, u8, usize, RefT, nothing, says}
+use Rattle.walks.proofs.Names.{_≡_, refl, ℕ, _-_, _<_, _^_, [], _∷_, List, length, named, w64, w8, Val, vint, SProp, Sq, prop, id⊢, flft, ‵, _⊛_}
+use Rattle.walks.proofs.Names.{_$_, !, by, move, let-go, split, join, frame, and-then, no-more, Is, uint-makes, u8, RefT, nothing, says}
 use Rattle.walks.proofs.Names as kit
 use Rattle.element.proofs.Names.{now}
 use denote.Struct.Laws as LL
 use Rattle.walks.proofs.Body.{𝓣of}
 use Rattle.walks.proofs.Data.{Data, number, struct, Params, shared, by-value, stays}
 use Rattle.walks.proofs.Entry.{Bound, End, Walk, walk-in, cites}
-use Rattle.walks.proofs.Calls.{calls, calls-some, plain, all, _&_, the-one}
+use Rattle.walks.proofs.Calls.{calls, gets, plain, all, _&_, the-one}
 use Rattle.walks.proofs.Frame.{leaves}
-use Rattle.walks.proofs.Steps.{arg, part, lands-in, copies, beside, number as beside-number, joins, fjoins}
+use Rattle.walks.proofs.Steps.{arg, part, lands-in, beside, number as beside-number, joins, fjoins}
 use Rattle.base.proofs.Answer as N
 use Rattle.base.proofs.Answer.Laws as N′
 use Rattle.runs.specs.Runs.{runAt, startsAt}
@@ -67,59 +67,50 @@ module _ {M : Type 1} (𝓤 : kit.URA M) (H : kit.Heap 𝓤) (𝓜 : kit.Model �
   abbrev O : SProp 𝓤
   O = kit.sem 𝓤 H A (Own s)
 
-  -- what `part` ensures of its result, and asks
+  -- what `part` ensures of its result
   abbrev Is-part : RefT (List ℕ) → Type 0
   Is-part r = (now r ≡ kit.take (g .end - g .start) (kit.drop (g .start) (now s))) × startsAt r s (g .start)
 
-  abbrev Part : kit.Contract 𝓤
-  Part = kit.tripleOf 𝓤 H A part-of.signature (part-of.spec 𝓤 H A (𝓜 .mem) (𝓡 .run))
+  exits : Is B.the-row g (B′.lowered g ∷ []) → (r : RefT (List ℕ)) → Is-part r → Sq W (‵ (Own r) ∷ (‵ (flft κ q) ⊛ ‵ (Own s)) ∷ [])
+      (prop (End 𝓤 H A this.ended params clauses y (T′.lowered (made r))))
+  exits is r e =
+      let owed = LL.owed B.the-type B′.the-laws g _ is in
+      kit.suffices ! _ (kit.ends-at 𝓤 H A this.ended (stays (this.signature .params) (this.ended .kept) params) clauses W y (T′.lowered (made r))
+      (made r) (tt, (tt, tt)) (tt, (tt, tt))) $
+      says ! (record { part = e .0; place = e .1; answer = refl; set = refl; width = refl; direction = refl }) $
+      move ! (1 ∷ []) $ split ! $ nothing ! $ joins ! 0 refl $ frame ! $
+      nothing ! $ beside-number ! k k-fits $ fjoins ! 0 refl $ frame ! $
+      -- [what the part owns]: with the numbers' facts it is what the struct owns
+      nothing ! $ beside ! u8 (uint-makes 𝓤 H A W w8) (g .direction) _ (owed .1 .1 .1 .1 .1 .0) $
+      beside ! u8 (uint-makes 𝓤 H A W w8) (g .width) _ (owed .1 .1 .1 .1 .0) $
+      beside ! u8 (uint-makes 𝓤 H A W w8) (g .set) _ (owed .1 .1 .1 .0) $
+      beside ! N.the-row (LL.makes N.the-type N′.the-plain 𝓤 H A) (g .answer) _ (owed .1 .1 .0) $ fjoins ! 0 refl $
+      by ! (kit.own-shut 𝓤 H A W (T.the-type α) (T′.the-laws α) (r, (g .answer, (g .set, (g .width, (g .direction, tt))))))
 
-  abbrev to-part : Part .Ghost
-  to-part = (((κ, tt), (q, tt), tt, (s, (g .start, (g .end, tt))), (v ∷ [], (vint w64 (g .start) ∷ [], (vint w64 (g .end) ∷ [], tt)))), tt)
-
-  module _ (is : Is B.the-row g (B′.lowered g ∷ [])) where
-    asks-part : Sq W (‵ (flft κ q) ∷ ‵ (Own s) ∷ []) (prop (Part .pre to-part))
-    asks-part =
-        let owed = LL.owed B.the-type B′.the-laws g _ is in
-        says ! (run-lies (s .now) k) $ nothing ! $ joins ! 0 refl $ frame ! $ nothing ! $
-        beside ! usize (uint-makes 𝓤 H A W w64) (g .end) _ (owed .1 .0) $ beside ! usize (uint-makes 𝓤 H A W w64) (g .start) _ (owed .0) $
-        fjoins ! 0 refl $ done !
-
-    exits : (r : RefT (List ℕ)) → Is-part r → Sq W ((‵ (flft κ q) ⊛ ‵ ftrue) ∷ ‵ (Own r) ∷ ‵ (Own s) ∷ [])
-        (prop (End 𝓤 H A this.ended params clauses y (T′.lowered (made r))))
-    exits r e =
-        let owed = LL.owed B.the-type B′.the-laws g _ is in
-        kit.suffices ! _ (kit.ends-at 𝓤 H A this.ended (stays (this.signature .params) (this.ended .kept) params) clauses W y (T′.lowered (made r))
-        (made r) (tt, (tt, tt)) (tt, (tt, tt))) $
-        says ! (record { part = e .0; place = e .1; answer = refl; set = refl; width = refl; direction = refl }) $ frame ! $
-        nothing ! $ beside-number ! k k-fits $ fjoins ! 1 refl $ frame ! $
-        -- [what the part owns]: with the numbers' facts it is what the struct owns
-        nothing ! $ beside ! u8 (uint-makes 𝓤 H A W w8) (g .direction) _ (owed .1 .1 .1 .1 .1 .0) $
-        beside ! u8 (uint-makes 𝓤 H A W w8) (g .width) _ (owed .1 .1 .1 .1 .0) $
-        beside ! u8 (uint-makes 𝓤 H A W w8) (g .set) _ (owed .1 .1 .1 .0) $
-        beside ! N.the-row (LL.makes N.the-type N′.the-plain 𝓤 H A) (g .answer) _ (owed .1 .1 .0) $ fjoins ! 0 refl $
-        by ! (kit.own-shut 𝓤 H A W (T.the-type α) (T′.the-laws α) (r, (g .answer, (g .set, (g .width, (g .direction, tt))))))
+  twice : kit.ent 𝓤 O (kit.sep 𝓤 O O)
+  twice = kit.shr-slice-copy 𝓤 H A W (named 0) κ u8 .twice s (v ∷ [])
 
   walk : Walk 𝓤 H 𝓜 𝓖 𝓡 code.env code.function this.ended params clauses y
   walk bs =
       -- [the token; what s owns; what the number owns; the locals]
       move ! (2 ∷ []) $ let-go ! $ join ! $
-      calls ! 𝓣 0 refl (kit.shr-slice-copy 𝓤 H A W (named 0) κ u8 .twice s (v ∷ [])) run-at.ended (run-at.clauses 𝓤 H A (𝓜 .mem) (𝓡 .run))
+      calls ! 𝓣 0 refl twice run-at.ended (run-at.clauses 𝓤 H A (𝓜 .mem) (𝓡 .run))
       (cites 𝓤 H 𝓜 𝓖 𝓡 code.env code.calls-runs·run-at (run-at.Met.met 𝓤 H 𝓜 𝓖 𝓡)) y (the-one W κ q)
       (id⊢ 𝓤 _ & plain W O number k (refl, k-fits) & all) (id⊢ 𝓤 _) g (λ r e. id⊢ 𝓤 _) bounds (arg ! 7 refl (arg ! 5 refl (no-more !))) (λ is ok.
-      lands-in ! 3 refl ok $ split ! $ move ! (1 ∷ []) $ copies ! (named 0) κ u8 s (v ∷ []) $ move ! (2 ∷ 0 ∷ []) $
-      use2 W (raw (Part .pre to-part)) (asks-part is .prf) $
-      calls-some ! (kit.fmOf 𝓤 H (W .laws) 𝓣) part-of.ended (part-of.clauses 𝓤 H A (𝓜 .mem) (𝓡 .run))
-      (cites 𝓤 H 𝓜 𝓖 𝓡 code.env code.calls-runs·part (part-of.Met.met 𝓤 H 𝓜 𝓖 𝓡)) to-part Is-part (λ r e.
-      id⊢ 𝓤 _) kit.slice-vals (kit.shr-slice-tells (named 0) κ u8)
-      (arg ! 8 refl (and-then ! (part ! 4 0 refl refl refl) (and-then ! (part ! 4 1 refl refl refl) (no-more !)))) (λ r e is-r.
-      -- [the token; what the part owns; what s owns; the locals]
-      let typed = kit.shr-slice-lawful 𝓤 H A W (named 0) κ u8 .typed r _ is-r .0 .1 in
-      use1 W (‵ (flft κ q) ⊛ ‵ ftrue) (id⊢ 𝓤 _) $ lands-in ! 3 refl (tt, typed) $
-      kit.assigns ! (kit.agg ! (arg ! 3 refl (and-then ! (part ! 5 2 refl refl refl) (and-then ! (part ! 5 3 refl refl refl)
-      (and-then ! (part ! 5 4 refl refl refl) (and-then ! (part ! 5 5 refl refl refl) (no-more !))))))) (kit.from ! (kit.stop !))
-      (kit.init ! 11 refl (tt, (typed, ok .1 .1 .1))) $
-      kit.returns ! (kit.look ! 11 refl) $ leaves ! 3 refl refl $ exits is r e))
+      let owed = LL.owed B.the-type B′.the-laws g _ is in
+      lands-in ! 3 refl ok $
+      gets ! 𝓣 0 refl twice part-of.ended (part-of.clauses 𝓤 H A (𝓜 .mem) (𝓡 .run))
+      (cites 𝓤 H 𝓜 𝓖 𝓡 code.env code.calls-runs·part (part-of.Met.met 𝓤 H 𝓜 𝓖 𝓡))
+      (((κ, tt), (q, tt), tt, (s, (g .start, (g .end, tt))), (v ∷ [], (vint w64 (g .start) ∷ [], (vint w64 (g .end) ∷ [], tt)))), tt) (the-one W κ q)
+      (id⊢ 𝓤 _ & plain W O number (g .start) (owed .0) & plain W O number (g .end) (owed .1 .0) & all)
+      (kit.factI 𝓤 _ (kit.emp 𝓤) (run-lies (s .now) k)) Is-part (λ r e. id⊢ 𝓤 _) kit.slice-vals (kit.shr-slice-tells (named 0) κ u8)
+      (arg ! 7 refl (and-then ! (part ! 3 0 refl refl refl) (and-then ! (part ! 3 1 refl refl refl) (no-more !)))) (λ r e is-r.
+      -- [what the part owns; the string; the locals]
+      lands-in ! 2 refl (tt, kit.shr-slice-lawful 𝓤 H A W (named 0) κ u8 .typed r _ is-r .0 .1) $
+      kit.assigns ! (kit.agg ! (arg ! 2 refl (and-then ! (part ! 4 2 refl refl refl) (and-then ! (part ! 4 3 refl refl refl)
+      (and-then ! (part ! 4 4 refl refl refl) (and-then ! (part ! 4 5 refl refl refl) (no-more !))))))) (kit.from ! (kit.stop !))
+      (kit.init ! 10 refl (tt, (kit.shr-slice-lawful 𝓤 H A W (named 0) κ u8 .typed r _ is-r .0 .1, ok .1 .1 .1))) $
+      kit.returns ! (kit.look ! 10 refl) $ leaves ! 2 refl refl $ exits is r e))
 
 pub run-spec : {M : Type 1} → this.Statement.statement M
 unfolding code.routine
