@@ -1,4 +1,3 @@
 pub mod Steps
 pub mod InOrder
-pub mod Lies
 pub mod Table

@@ -3,7 +3,6 @@ ghost use mathlib.Core.Path.{_≡_};
 ghost use Rattle.base.specs.Choice.{from};
 ghost use Rattle.element.specs.Element.{elementOf};
 ghost use Rattle.pieces.specs.Pieces.{piece};
-ghost use Rattle.runs.specs.Runs.{runAt};
 ghost use Rattle.runs.specs.Steps.{firstPosition, stays, runStepTo, stopAt, runFrom, knownOf, checkedFrom, nextRunOf};
 use crate::Bounds;
 use run_ends::text_end;
@@ -96,7 +95,7 @@ pub fn stop_at(s: &[u8], at: usize, st: State) -> RunStep
 
 // The first run from a place and a state on. Designations, and text that leaves the state as it is, are passed by their octets, and any other
 // element by itself.
-fn run_from(s: &[u8], place: usize, state: State) -> RunStep
+pub fn run_from(s: &[u8], place: usize, state: State) -> RunStep
     ensures { λ r. ⌜ r ≡ runFrom (now (s .entry)) place state ⌝ }
 {
     let mut at = place;
@@ -169,33 +168,4 @@ pub fn next_run(s: &[u8], p: RunPosition) -> RunStep
         return checked_from(s, p);
     }
     stays(p, Answer::refused(refusal::BAD_UNIT, 0))
-}
-
-// The run of a number, by as many steps. Where a step shows none, all after it answer the same.
-pub fn numbered(s: &[u8], k: usize) -> Bounds
-    ensures { λ r. ⌜ r ≡ runAt (now (s .entry)) k ⌝ }
-{
-    let checked = check_string::answer(s);
-    if checked.number != refusal::ACCEPTED {
-        return crate::no_run(checked);
-    }
-    let mut at: usize = 0;
-    let mut st = State::FRESH;
-    let mut left = k;
-    loop {
-        let t = run_from(s, at, st);
-        let run = t.run;
-        let answer = run.answer;
-        if left == 0 {
-            return run;
-        }
-        if answer.number != refusal::ACCEPTED {
-            return run;
-        }
-        let p = t.position;
-        let next = p.state;
-        at = p.place;
-        st = next;
-        left -= 1;
-    }
 }

@@ -1,8 +1,8 @@
--- `runs::run_octet` meets its contract, by what it calls; the run lies in the string.
+-- `run_parts::run_octet` meets its contract, by what it calls; the run lies in the string.
 use Rattle.element.proofs.Names.{arith}
-use Rattle.runs.proofs.Lies.{lies-as}
-use Rattle.runs.proofs.run_octet.Statement.{statement}
-use Rattle.runs.proofs.run_octet.Tie as tie
+use Rattle.run_parts.proofs.Lies.{lies-as}
+use Rattle.run_parts.proofs.run_octet.Statement.{statement}
+use Rattle.run_parts.proofs.run_octet.Tie as tie
 
 part-requires : tie.Need-part-requires
 part-requires c κs = lies-as _ _ (c .run-at .ensures)

@@ -1,4 +1,4 @@
--- `runs::run` meets its contract: its code is followed by hand, for it makes a struct that holds a reference. `run_at` gives the bounds and the
+-- `run_parts::run` meets its contract: its code is followed by hand, for it makes a struct that holds a reference. `run_at` gives the bounds and the
 -- numbers, `part` the part of the string, and the struct is made of them.
 use Rattle.walks.proofs.Names.{_≡_, refl, ℕ, _-_, _<_, _^_, [], _∷_, List, length, named, w64, w8, Val, vint, SProp, Sq, prop, id⊢, flft, ‵, _⊛_}
 use Rattle.walks.proofs.Names.{_$_, !, by, move, let-go, split, join, frame, and-then, no-more, Is, uint-makes, u8, RefT, nothing, says}
@@ -13,18 +13,19 @@ use Rattle.walks.proofs.Frame.{leaves}
 use Rattle.walks.proofs.Steps.{arg, part, lands-in, beside, number as beside-number, joins, fjoins}
 use Rattle.base.proofs.Answer as N
 use Rattle.base.proofs.Answer.Laws as N′
-use Rattle.runs.specs.Runs.{runAt, startsAt}
+use Rattle.runs.specs.Runs.{runAt}
+use Rattle.run_parts.specs.Parts.{startsAt}
 use Rattle.runs.specs.declared.Bounds.{Bounds}
-use Rattle.runs.specs.declared.view.Run.{Run}
+use Rattle.run_parts.specs.declared.view.Run.{Run}
 use Rattle.runs.proofs.Bounds as B
 use Rattle.runs.proofs.Bounds.Laws as B′
-use Rattle.runs.proofs.view.Run as T
-use Rattle.runs.proofs.view.Run.Laws as T′
-use Rattle.runs.proofs.Lies.{run-lies}
-use Rattle.runs.proofs.run_at as run-at
-use Rattle.runs.proofs.part as part-of
-use Rattle.runs.proofs.run as this
-use Rattle.runs.proofs.run.Code as code
+use Rattle.run_parts.proofs.view.Run as T
+use Rattle.run_parts.proofs.view.Run.Laws as T′
+use Rattle.run_parts.proofs.Lies.{run-lies}
+use Rattle.run_parts.proofs.run_at as run-at
+use Rattle.run_parts.proofs.part as part-of
+use Rattle.run_parts.proofs.run as this
+use Rattle.run_parts.proofs.run.Code as code
 
 abbrev bounds : Data B.the-row
 bounds = struct B.the-type B′.the-laws B′.the-plain
@@ -95,12 +96,12 @@ module _ {M : Type 1} (𝓤 : kit.URA M) (H : kit.Heap 𝓤) (𝓜 : kit.Model �
       -- [the token; what s owns; what the number owns; the locals]
       move ! (2 ∷ []) $ let-go ! $ join ! $
       calls ! 𝓣 0 refl twice run-at.ended (run-at.clauses 𝓤 H A (𝓜 .mem) (𝓡 .run))
-      (cites 𝓤 H 𝓜 𝓖 𝓡 code.env code.calls-runs·run-at (run-at.Met.met 𝓤 H 𝓜 𝓖 𝓡)) y (the-one W κ q)
+      (cites 𝓤 H 𝓜 𝓖 𝓡 code.env code.calls-run-parts·run-at (run-at.Met.met 𝓤 H 𝓜 𝓖 𝓡)) y (the-one W κ q)
       (id⊢ 𝓤 _ & plain W O number k (refl, k-fits) & all) (id⊢ 𝓤 _) g (λ r e. id⊢ 𝓤 _) bounds (arg ! 7 refl (arg ! 5 refl (no-more !))) (λ is ok.
       let owed = LL.owed B.the-type B′.the-laws g _ is in
       lands-in ! 3 refl ok $
       gets ! 𝓣 0 refl twice part-of.ended (part-of.clauses 𝓤 H A (𝓜 .mem) (𝓡 .run))
-      (cites 𝓤 H 𝓜 𝓖 𝓡 code.env code.calls-runs·part (part-of.Met.met 𝓤 H 𝓜 𝓖 𝓡))
+      (cites 𝓤 H 𝓜 𝓖 𝓡 code.env code.calls-run-parts·part (part-of.Met.met 𝓤 H 𝓜 𝓖 𝓡))
       (((κ, tt), (q, tt), tt, (s, (g .start, (g .end, tt))), (v ∷ [], (vint w64 (g .start) ∷ [], (vint w64 (g .end) ∷ [], tt)))), tt) (the-one W κ q)
       (id⊢ 𝓤 _ & plain W O number (g .start) (owed .0) & plain W O number (g .end) (owed .1 .0) & all)
       (kit.factI 𝓤 _ (kit.emp 𝓤) (run-lies (s .now) k)) Is-part (λ r e. id⊢ 𝓤 _) kit.slice-vals (kit.shr-slice-tells (named 0) κ u8)

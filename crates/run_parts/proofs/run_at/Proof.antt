@@ -1,8 +1,8 @@
--- `stepping::numbered` meets its contract: the run of the step after k steps is the k-th run.
+-- `run_parts::run_at` meets its contract: the run of the step after k steps is the k-th run.
 use Rattle.element.proofs.Names.{arith, _∙_}
 use Rattle.runs.proofs.InOrder.{Numbered, number-first, number-refused, at-number, past-number, next-number}
-use Rattle.runs.proofs.stepping.numbered.Statement.{statement}
-use Rattle.runs.proofs.stepping.numbered.Tie as tie
+use Rattle.run_parts.proofs.run_at.Statement.{statement}
+use Rattle.run_parts.proofs.run_at.Tie as tie
 
 abbrev Inv-loop : tie.InvT-loop
 Inv-loop s k at₀ st₀ left₀ at st left = Numbered s k at st left
@@ -34,8 +34,8 @@ loop-again c =
     let turn = c .before .before .before .before .before .before .before in
     next-number (turn .before .loop .inv) _ (turn .run-from .ensures) (c .before .before .before .before .if2 .left)
 
-pub numbered-spec : {M : Type 1} → statement M
-numbered-spec =
+pub run-at-spec : {M : Type 1} → statement M
+run-at-spec =
     tie.close
     (tie.spec
     Inv-loop
