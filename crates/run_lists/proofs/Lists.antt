@@ -151,15 +151,15 @@ module _ {s : List ℕ} {l : Stand} {o : List ℕ} {at k : ℕ} {st : State} {ou
     unfolding givenFrom
     ends-full room e = ends-by (finish-full s at k st out room ∙ ap (λ (x : RunsStep). (x, out)) (sym e))
 
-    pub ends-stopped : (q : Piece) (t : RunStep) → k < length out → q ≡ pieceAt s at st → q .end ≡ at → t ≡ stopAt at st (elementAt s at st)
-        → r ≡ runsStep (position at st true) (endOf (length s) k (t .run .answer)) → Ends place state r
-    ends-stopped q t room is i e f =
+    pub ends-stopped : (q : Piece) (a : Answer) → k < length out → q ≡ pieceAt s at st → q .end ≡ at
+        → a ≡ stopAt at st (elementAt s at st) .run .answer → r ≡ runsStep (position at st true) (endOf (length s) k a) → Ends place state r
+    ends-stopped q a room is i e f =
         let b = stop-by s at st (elementAt s at st) refl in
-        let there : t .position ≡ position at st true = ap (λ (x : RunStep). x .position) e ∙ b .0 in
         ends-by
-        (finish-none s at k st out t room (turn-none s at st q is i e)
-        (λ z. b .1 (ap (λ (x : RunStep). x .run .answer .number) (sym e) ∙ z)) ∙
-        ap (λ (x : RunsStep). (x, out)) (ap (λ (x : RunPosition). runsStep x (endOf (length s) k (t .run .answer))) there ∙ sym f))
+        (finish-none s at k st out (stopAt at st (elementAt s at st)) room (turn-none s at st q is i refl) (b .1) ∙
+        ap (λ (x : RunsStep). (x, out))
+        (ap (λ (x : RunPosition). runsStep x (endOf (length s) k (stopAt at st (elementAt s at st) .run .answer))) (b .0) ∙
+        (ap (λ (x : Answer). runsStep (position at st true) (endOf (length s) k x)) (sym e) ∙ sym f)))
 
 -- ---- text and designations
 

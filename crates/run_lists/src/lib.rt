@@ -15,7 +15,7 @@ use run_ends::text_end;
 use runs::stepping::RunPosition;
 use runs::stepping::known;
 use runs::stepping::run_of;
-use runs::stepping::stop_at;
+use runs::stepping::stopped;
 use base::Answer;
 use base::limit;
 use base::refusal;
@@ -39,11 +39,26 @@ struct Stand {
     state: State,
 }
 
-fn step_to(position: RunPosition, answer: Answer) -> RunsStep
+// A refusal, and the position stays.
+fn stays(position: RunPosition, answer: Answer) -> RunsStep
     ensures { λ r. ⌜ r ≡ runsStep position answer ⌝ }
 {
     RunsStep {
         position: position,
+        answer: answer,
+    }
+}
+
+// A step to a place of a string that is taken for accepted.
+fn step_to(place: usize, state: State, answer: Answer) -> RunsStep
+    ensures { λ r. ⌜ r ≡ runsStep (position place state true) answer ⌝ }
+{
+    RunsStep {
+        position: RunPosition {
+            place: place,
+            state: state,
+            checked: true,
+        },
         answer: answer,
     }
 }
@@ -171,13 +186,8 @@ fn list_from(s: &[u8], place: usize, state: State, out: &mut [u64]) -> RunsStep
         let at = l.place;
         let k = l.count;
         let st = l.state;
-        let here = RunPosition {
-            place: at,
-            state: st,
-            checked: true,
-        };
         if out.len() <= k {
-            return step_to(here, Answer::accepted(s.len(), k));
+            return step_to(at, st, Answer::accepted(s.len(), k));
         }
         let next = pieces::piece_at(s, at, st);
         let after = next.state;
@@ -188,10 +198,7 @@ fn list_from(s: &[u8], place: usize, state: State, out: &mut [u64]) -> RunsStep
             continue;
         }
         if next.end == at {
-            let last = stop_at(s, at, st);
-            let run = last.run;
-            let answer = run.answer;
-            return step_to(here, end_of(s.len(), k, answer));
+            return step_to(at, st, end_of(s.len(), k, stopped(s, at, st)));
         }
         l = stand_at(next.end, k, after);
     }
@@ -207,7 +214,7 @@ fn list_checked(s: &[u8], p: RunPosition, out: &mut [u64]) -> RunsStep
     if answer.number == refusal::ACCEPTED {
         return list_from(s, p.place, p.state, out);
     }
-    step_to(p, answer)
+    stays(p, answer)
 }
 
 // The next runs from a position, as many as the list has room for, and the position after them. The rest of the list stays.
@@ -216,10 +223,10 @@ pub fn next_runs(s: &[u8], p: RunPosition, out: &mut [u64]) -> RunsStep
         × (now (out .exit) ≡ wordsAfter (nextRunsOf (now (s .entry)) p (length (now (out .entry))) .runs) (now (out .entry))) ⌝ }
 {
     if limit::OCTETS < s.len() {
-        return step_to(p, Answer::refused(refusal::TOO_LONG, 0));
+        return stays(p, Answer::refused(refusal::TOO_LONG, 0));
     }
     if reader::may_stand(s.len(), p.place, p.state) {
         return list_checked(s, p, out);
     }
-    step_to(p, Answer::refused(refusal::BAD_UNIT, 0))
+    stays(p, Answer::refused(refusal::BAD_UNIT, 0))
 }

@@ -2,7 +2,7 @@
 -- (`run-shown`), and else the first run is the one after it (`run-later`); where none stands, no run is left (`run-none`). What the code passes at once
 -- is such a piece: a run that grows by pieces of its kind (`cut-run`), a designation, or any other element (`cut-other`).
 use Rattle.element.proofs.Names.{ℕ, suc, _+_, _≤_, _<_, arith, _≡_, refl, ap, sym, _∙_, true, false, List, [], _∷_, ltb, length, eq-eqb, lt-ltb, pick, from}
-use Rattle.element.proofs.Names.{test, pick-by, no-set, designatedOf, fresh, State, Element, End, Refused, Silent, Found}
+use Rattle.element.proofs.Names.{Answer, test, pick-by, no-set, designatedOf, fresh, State, Element, End, Refused, Silent, Found}
 use Rattle.element.proofs.Sizes.{Fit, silent, found}
 use Rattle.grammar.specs.Reading.{Octets, noneRefused}
 use Rattle.grammar.proofs.Places.{ahead, at-end, at-refused, at-passed, step-passed}
@@ -21,7 +21,7 @@ use Rattle.pieces.proofs.Laws.{state-after, first-state}
 use Rattle.pieces.proofs.Step.{Step, stops, goes, step, elementAt, pieceAt, rest, noRefusal, fits, on-past}
 use Rattle.run_ends.specs.Ends.{textTo}
 use Rattle.run_ends.proofs.Spans.{Grows, none, more, text-settled, text-grows}
-use Rattle.runs.specs.Runs.{shownOf}
+use Rattle.runs.specs.Runs.{shownOf, noRun}
 use Rattle.runs.specs.Steps.{runStepTo, stopAt, lastOf, firstOf, runFrom}
 use Rattle.runs.specs.declared.Bounds.{Bounds}
 use Rattle.runs.specs.declared.stepping.RunStep.{RunStep}
@@ -50,6 +50,19 @@ joined-other : (p : Piece) (ps : List Piece) → isRun (p .kind) ≡ false → j
 unfolding joined sameRunOf pick
 joined-other p [] e = refl
 joined-other p (q ∷ qs) e = rw e
+
+-- ---- where no run is left
+
+pub stopped-as : (s : List ℕ) (at : ℕ) (st : State) (r : Answer) (e x : Element) → e ≡ elementAt s at st → e ≡ x → r ≡ stopAt at st x .run .answer
+    → r ≡ stopAt at st (elementAt s at st) .run .answer
+stopped-as s at st r e x is k h = h ∙ ap (λ (z : Element). stopAt at st z .run .answer) (sym k ∙ is)
+
+pub stop-as : (at : ℕ) (st : State) (e : Element) → runStepTo at st (noRun (stopAt at st e .run .answer)) ≡ stopAt at st e
+unfolding stopAt
+stop-as at st End = refl
+stop-as at st (Refused n o) = refl
+stop-as at st (Silent k next) = refl
+stop-as at st (Found p next) = refl
 
 module _ (s : List ℕ) where
   abbrev lastFrom : ℕ → State → RunStep

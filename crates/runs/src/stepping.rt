@@ -76,21 +76,24 @@ pub fn run_of(start: usize, end: usize, kind: u8, state: State) -> Piece
     }
 }
 
-// No run is left where an element is reached.
-pub fn stop_at(s: &[u8], at: usize, st: State) -> RunStep
-    ensures { λ r. ⌜ r ≡ stopAt at st (elementOf (from at (now (s .entry))) st) ⌝ }
+// The answer where an element is reached and no run is left.
+pub fn stopped(s: &[u8], at: usize, st: State) -> Answer
+    ensures { λ r. ⌜ r ≡ stopAt at st (elementOf (from at (now (s .entry))) st) .run .answer ⌝ }
 {
     let none = Answer::refused(refusal::BAD_UNIT, 0);
-    let e = element::element(s, at, st);
-    match e {
-        Element::End => step_to(at, st, crate::no_run(none)),
-        Element::Refused(number, offset) => {
-            let place = at + offset;
-            step_to(at, st, crate::no_run(Answer::refused(number, place)))
-        }
-        Element::Silent(octets, next) => step_to(at, st, crate::no_run(none)),
-        Element::Found(part, next) => step_to(at, st, crate::no_run(none)),
+    match element::element(s, at, st) {
+        Element::End => none,
+        Element::Refused(number, offset) => Answer::refused(number, at + offset),
+        Element::Silent(octets, next) => none,
+        Element::Found(part, next) => none,
     }
+}
+
+// No run is left where an element is reached.
+fn stop_at(s: &[u8], at: usize, st: State) -> RunStep
+    ensures { λ r. ⌜ r ≡ stopAt at st (elementOf (from at (now (s .entry))) st) ⌝ }
+{
+    step_to(at, st, crate::no_run(stopped(s, at, st)))
 }
 
 // The first run from a place and a state on. Designations, and text that leaves the state as it is, are passed by their octets, and any other

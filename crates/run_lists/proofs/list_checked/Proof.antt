@@ -13,7 +13,7 @@ returns c =
     (c .before .before .list-from .ensures)
 
 returns-2 : tie.Need-returns-2
-returns-2 c = gave-none _ _ (c .step-to .ensures) (on-bad _ _ _ _ (c .before .before .before .known .ensures) (c .before .if1 .left))
+returns-2 c = gave-none _ _ (c .stays .ensures) (on-bad _ _ _ _ (c .before .before .before .known .ensures) (c .before .if1 .left))
 
 pub list-checked-spec : {M : Type 1} → statement M
 list-checked-spec = tie.close (tie.spec (search arith) list-from-requires (search arith) returns (search arith) returns-2)

@@ -70,16 +70,16 @@ loop-again c =
 
 same-length-2 : tie.Need-same-length-2 Inv-loop μ-loop
 same-length-2 c =
-    let quick = c .before .before .before .before .before .before .before .before .before .before .before .before .before .before .before in
+    let quick = c .before .before .before .before .before .before .before .before .before .before .before .before .before in
     on-join (quick .before .before .loop .inv) (quick .list-quickly .ensures) .long
 
 returns-2 : tie.Need-returns-2 Inv-loop μ-loop
 returns-2 c =
-    let piece = c .before .before .before .before .before .before .before .before .before .before in
+    let piece = c .before .before .before .before .before .before .before .before in
     let quick = piece .before .before .before .before .before in
     ends-stopped (on-join (quick .before .before .loop .inv) (quick .list-quickly .ensures)) _ _ (quick .before .before .before .stand-at .ensures) _ _ _
-    (piece .before .if1 .left) (piece .piece-at .ensures) (c .before .before .before .before .before .if3 .taken)
-    (c .before .before .before .before .stop-at .ensures) (c .step-to2 .ensures ∙ ap (runsStep _) (c .before .end-of .ensures))
+    (piece .before .if1 .left) (piece .piece-at .ensures) (c .before .before .before .if3 .taken)
+    (c .before .before .stopped .ensures) (c .step-to2 .ensures ∙ ap (runsStep _) (c .before .end-of .ensures))
 
 loop-less-2 : tie.Need-loop-less-2 Inv-loop μ-loop
 loop-less-2 c =

@@ -6,7 +6,7 @@ use Rattle.run_lists.proofs.next_runs.Statement.{statement}
 use Rattle.run_lists.proofs.next_runs.Tie as tie
 
 returns : tie.Need-returns
-returns c = gave-none _ _ (c .step-to .ensures ∙ ap (runsStep _) (c .before .refused .ensures)) (on-long _ _ _ (c .before .before .if1 .taken))
+returns c = gave-none _ _ (c .stays .ensures ∙ ap (runsStep _) (c .before .refused .ensures)) (on-long _ _ _ (c .before .before .if1 .taken))
 
 list-checked-requires : tie.Need-list-checked-requires
 list-checked-requires c κs = c .before .before .before .if1 .left
@@ -19,7 +19,7 @@ returns-2 c =
 returns-3 : tie.Need-returns-3
 returns-3 c =
     let may = sym (c .before .before .before .may-stand .ensures) ∙ c .before .before .if2 .left in
-    gave-none _ _ (c .step-to2 .ensures ∙ ap (runsStep _) (c .before .refused2 .ensures)) (on-none _ _ _ (c .before .before .before .before .if1 .left) may)
+    gave-none _ _ (c .stays2 .ensures ∙ ap (runsStep _) (c .before .refused2 .ensures)) (on-none _ _ _ (c .before .before .before .before .if1 .left) may)
 
 pub next-runs-spec : {M : Type 1} → statement M
 next-runs-spec =
