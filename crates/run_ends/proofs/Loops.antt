@@ -1,6 +1,6 @@
 -- A turn of the loops over a span, as rules of the ladder: what the octets at a place make of the end, and the end of the string.
-use Rattle.element.proofs.Names.{ℕ, _+_, _-_, _≤_, _<_, arith, _≡_, refl, ap, sym, _∙_, List, [], _∷_, ltb, length, getD, pick, from, ladder, from-end}
-use Rattle.element.proofs.Names.{from-octet, from-length}
+use Rattle.element.proofs.Names.{ℕ, _+_, _-_, _≤_, _<_, arith, _≡_, refl, ap, sym, _∙_, List, [], _∷_, ltb, length, getD, pick, from, ladder}
+use Rattle.element.proofs.Names.{from-octet, from-end, from-length}
 use Rattle.stretch.proofs.Loops.{two-octets}
 use Rattle.run_ends.specs.Ends.{onesTo, twosTo}
 

@@ -196,10 +196,12 @@ module _ (s : List ℕ) (st : State) where
         (λ l. rw (from-octet s at (ltb-true _ _ l))
         (pick-by (Grows s st k at) (ltb (getD s at 0) first) (λ e. none (λ x. omega (tested, in-span at x .1)))
         (λ e. pick-by (Grows s st k at) (ltb last (getD s at 0)) (λ f. none (λ x. omega (tested, in-span at x .2)))
-        (λ f. more 1 (from-span at (ltb-true _ _ l) (ltb-false _ _ e) (ltb-false _ _ f)) (ones from-span in-span n (at + 1) (omega tested))))))
+        (λ f. more 1 (from-span at (ltb-true _ _ l) (ltb-false _ _ e) (ltb-false _ _ f))
+        (ones from-span in-span n (at + 1) (omega tested))))))
         (λ l. rw (from-end s at (ltb-false _ _ l)) (none {at = at} (λ x. omega (tested, in-span at x .0))))
 
-    twos : ((i : ℕ) → Pair s first last i → pieceAt s i st ≡ piece i (i + 2) k st) → ((i : ℕ) → pieceAt s i st .kind ≡ k → Pair s first last i)
+    twos : ((i : ℕ) → Pair s first last i → pieceAt s i st ≡ piece i (i + 2) k st)
+        → ((i : ℕ) → pieceAt s i st .kind ≡ k → Pair s first last i)
         → (n at : ℕ) → length s - at < n → Grows s st k at (twosTo first last at (from at s))
     unfolding twosTo
     twos from-span in-span zero at h = absurd (not-suc-le-zero h)
@@ -219,12 +221,14 @@ module _ (s : List ℕ) (st : State) where
           high-2 = ltb-false _ _ m;
         }))
         (twos from-span in-span n (at + 2) (omega tested))))))))
-        (λ l. rw (twos-short first last at (from at s) (rw (from-length s at) (ltb-false _ _ l))) (none {at = at} (λ x. omega (tested, in-span at x .inside))))
+        (λ l. rw (twos-short first last at (from at s) (rw (from-length s at) (ltb-false _ _ l)))
+        (none {at = at} (λ x. omega (tested, in-span at x .inside))))
 
   -- ---- the octets of a span are pieces
 
   module _ (settled : settledOf (st .directions) ≡ true) (o : Octets s) where
-    text-piece : (i : ℕ) {n : ℕ} (k : ℕ) → i < length s → sideKindOf (getD s i 0) ≡ k → Written n (shapeOf (getD s i 0 ∷ from (i + 1) s) (st .sets))
+    text-piece : (i : ℕ) {n : ℕ} (k : ℕ) → i < length s → sideKindOf (getD s i 0) ≡ k
+        → Written n (shapeOf (getD s i 0 ∷ from (i + 1) s) (st .sets))
         → pieceAt s i st ≡ piece i (i + n) k st
     unfolding pieceOf
     text-piece i k h e w =
@@ -247,7 +251,8 @@ module _ (s : List ℕ) (st : State) where
         (written-two (st .sets) (getD s i 0) d (getD s (i + 1) 0) (from (i + 1 + 1) s) w (p .1) (graphic _ (p .3) (p .4)) (q .2 ∙ sym (p .2))
         (graphic _ (q .3) (q .4))))
 
-    right-one : (i : ℕ) → i < length s → 0xA0 ≤ getD s i 0 → stretched.Text (startIn (st .sets) (getD s i 0)) → pieceAt s i st ≡ piece i (i + 1) 1 st
+    right-one : (i : ℕ) → i < length s → 0xA0 ≤ getD s i 0 → stretched.Text (startIn (st .sets) (getD s i 0))
+        → pieceAt s i st ≡ piece i (i + 1) 1 st
     right-one i h l x = one-piece i 1 h (right-octet (getD s i 0) (omega arith)) x
 
     -- ---- where a run ends

@@ -1,9 +1,9 @@
 -- The runs one after the other, from the first position on, are those by number (`in-order`). At each place there is no piece, or one that the
 -- others follow (`cuts`); so a step from a position of an accepted string shows the first of the runs that are left, and the runs that are left after
 -- it are the others (`one-step`). Of a refused string each step answers the refusal and stays.
-use Rattle.element.proofs.Names.{ℕ, zero, suc, _+_, _-_, _≤_, _<_, zero-le, arith, not-suc-le-zero, _≡_, refl, ap, sym, _∙_, true, false, Bool, List, [], _∷_}
-use Rattle.element.proofs.Names.{eqb, ltb, length, eq-eqb, eqb-true, eqb-false, ltb-false, le-ltb, refusedAt, pick, from, off, clash, test, Answer, on-true}
-use Rattle.element.proofs.Names.{on-false, on-ne, fresh, State}
+use Rattle.element.proofs.Names.{ℕ, zero, suc, _+_, _-_, _≤_, _<_, zero-le, arith, not-suc-le-zero, _≡_, refl, ap, sym, _∙_, true, false, Bool, List}
+use Rattle.element.proofs.Names.{[], _∷_, eqb, ltb, length, eq-eqb, eqb-true, eqb-false, ltb-false, le-ltb, refusedAt, pick, from, off, clash, test}
+use Rattle.element.proofs.Names.{Answer, on-true, on-false, on-ne, fresh, State}
 use Rattle.element.proofs.Names.{Element, End, Refused, Silent, Found}
 use Rattle.base.specs.Limit as limit
 use Rattle.base.specs.Refusal as refusal
@@ -45,7 +45,8 @@ module _ (s : List ℕ) where
   cuts-by : (at : ℕ) (st : State) (q : Piece) → Moved s at st q → Cuts (q .end) (q .state) → Cuts at st
   unfolding joined
   cuts-by at st q m (over n e) =
-      cut {p = q} (record { is = m .is ∙ (ap (joined q) e ∙ ap (λ (ps : List Piece). q ∷ ps) (sym e)); more = m .more; within = m .within; leads = m .leads })
+      cut {p = q} (record { is = m .is ∙ (ap (joined q) e ∙ ap (λ (ps : List Piece). q ∷ ps) (sym e));
+      more = m .more; within = m .within; leads = m .leads })
   cuts-by at st q m (cut {p} {next} c) =
       test (sameRunOf (q .kind) (p .kind))
       (λ e. cut {p = longer q p} (record {
@@ -242,7 +243,9 @@ nth-past n (suc k) j (p ∷ ps) h = let z : suc k + j ≡ suc (k + j) = omega ar
 
 pub runs-past : (s : List ℕ) → Good s → (k j : ℕ) → (runAt s k .answer .number ≡ refusal.accepted → ⊥)
     → runAt s (k + j) ≡ noRun (refusedAt refusal.bad-unit 0)
-runs-past s g k j h = sym (by-number s g (k + j)) ∙ nth-past (length s) k j (runsOf s) (λ z. h (sym (ap (λ (x : Bounds). x .answer .number) (by-number s g k)) ∙ z))
+runs-past s g k j h =
+    sym (by-number s g (k + j)) ∙
+    nth-past (length s) k j (runsOf s) (λ z. h (sym (ap (λ (x : Bounds). x .answer .number) (by-number s g k)) ∙ z))
 
 -- the invariant of `numbered`: so many steps are left to the run that is asked for
 pub record Numbered (s : List ℕ) (k at : ℕ) (st : State) (left : ℕ) : Type 0 where

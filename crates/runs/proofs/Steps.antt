@@ -1,8 +1,8 @@
 -- The first run from a place and a state on, by the pieces there. Where a piece stands with others after it (`Cut`), it is shown if it is a run
 -- (`run-shown`), and else the first run is the one after it (`run-later`); where none stands, no run is left (`run-none`). What the code passes at once
 -- is such a piece: a run that grows by pieces of its kind (`cut-run`), a designation, or any other element (`cut-other`).
-use Rattle.element.proofs.Names.{ℕ, suc, _+_, _≤_, _<_, arith, _≡_, refl, ap, sym, _∙_, true, false, List, [], _∷_, ltb, length, eq-eqb, lt-ltb, pick, from}
-use Rattle.element.proofs.Names.{Answer, test, pick-by, no-set, designatedOf, fresh, State, Element, End, Refused, Silent, Found}
+use Rattle.element.proofs.Names.{ℕ, suc, _+_, _≤_, _<_, arith, _≡_, refl, ap, sym, _∙_, true, false, List, [], _∷_, ltb, length, eq-eqb, lt-ltb}
+use Rattle.element.proofs.Names.{pick, from, Answer, test, pick-by, no-set, designatedOf, fresh, State, Element, End, Refused, Silent, Found}
 use Rattle.element.proofs.Sizes.{Fit, silent, found}
 use Rattle.grammar.specs.Reading.{Octets, noneRefused}
 use Rattle.grammar.proofs.Places.{ahead, at-end, at-refused, at-passed, step-passed}
@@ -53,8 +53,8 @@ joined-other p (q ∷ qs) e = rw e
 
 -- ---- where no run is left
 
-pub stopped-as : (s : List ℕ) (at : ℕ) (st : State) (r : Answer) (e x : Element) → e ≡ elementAt s at st → e ≡ x → r ≡ stopAt at st x .run .answer
-    → r ≡ stopAt at st (elementAt s at st) .run .answer
+pub stopped-as : (s : List ℕ) (at : ℕ) (st : State) (r : Answer) (e x : Element) → e ≡ elementAt s at st → e ≡ x
+    → r ≡ stopAt at st x .run .answer → r ≡ stopAt at st (elementAt s at st) .run .answer
 stopped-as s at st r e x is k h = h ∙ ap (λ (z : Element). stopAt at st z .run .answer) (sym k ∙ is)
 
 pub stop-as : (at : ℕ) (st : State) (e : Element) → runStepTo at st (noRun (stopAt at st e .run .answer)) ≡ stopAt at st e
@@ -172,7 +172,8 @@ module _ (s : List ℕ) where
     moved-run q is h = moved q is (run-moves {q = q} (rw is (step s at st)) h)
 
     -- a piece of another kind is not joined
-    apart : (a k : ℕ) {q : Piece} → Step s at st q → (q .kind ≡ k → ⊥) → joined (piece a at k st) (rest s at st) ≡ piece a at k st ∷ rest s at st
+    apart : (a k : ℕ) {q : Piece} → Step s at st q → (q .kind ≡ k → ⊥)
+        → joined (piece a at k st) (rest s at st) ≡ piece a at k st ∷ rest s at st
     unfolding joined
     apart a k (stops e x) n = rw e
     apart a k (goes {q} b l u e x) n =

@@ -224,8 +224,9 @@ module _ {M : Type 1} (𝓤 : kit.URA M) (H : kit.Heap 𝓤) (𝓜 : kit.Model �
       -- [the token; what s owns; what the number owns; the locals]
       move ! (2 ∷ []) $ let-go ! $ kit.join ! $
       gets ! 𝓣 0 refl (kit.shr-slice-copy 𝓤 H A W (named 0) κ u8 .twice s (v ∷ [])) opn.ended (opn.clauses 𝓤 H A (𝓜 .mem) (𝓡 .run))
-      (cites 𝓤 H 𝓜 𝓖 𝓡 code.env code.calls-reader·open (opn.Met.met 𝓤 H 𝓜 𝓖 𝓡)) (((κ, tt), (q, tt), tt, (s, tt), (v ∷ [], tt)), tt) (the-one W κ q)
-      (id⊢ 𝓤 _ & all) (id⊢ 𝓤 _) (λ r. r ≡ opened s) (λ r e. id⊢ 𝓤 _) (LL.vals D L) (LL.tells D L) (arg ! 17 refl (no-more !)) (λ r e is.
+      (cites 𝓤 H 𝓜 𝓖 𝓡 code.env code.calls-reader·open (opn.Met.met 𝓤 H 𝓜 𝓖 𝓡))
+      (((κ, tt), (q, tt), tt, (s, tt), (v ∷ [], tt)), tt) (the-one W κ q) (id⊢ 𝓤 _ & all) (id⊢ 𝓤 _)
+      (λ r. r ≡ opened s) (λ r e. id⊢ 𝓤 _) (LL.vals D L) (LL.tells D L) (arg ! 17 refl (no-more !)) (λ r e is.
       -- [what the reader owns; the string; the locals]
       lands-in ! 10 refl (LL.lawful D L 𝓤 H A W .typed r _ is .0) $ recasts ! 10 T′.lowered e refl $
       rewrite ! 0 (λ (z : Reader). ‵ (R .own z (T′.lowered z ∷ []))) e refl $

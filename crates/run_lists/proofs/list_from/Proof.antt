@@ -66,7 +66,8 @@ loop-again c =
     (c .before .before .before .before .before .before .before .piece-at .ensures) low (c .before .before .before .text-end .ensures) in
     rw (c .stand-at2 .ensures)
     (on-shown (on-join (quick .before .before .loop .inv) (quick .list-quickly .ensures))
-    (c .before .before .before .before .before .before .before .before .if1 .left) cut _ low (rw (← (c .before .before .run-of .ensures)) (c .before .word .ensures)))
+    (c .before .before .before .before .before .before .before .before .if1 .left) cut _ low
+    (rw (← (c .before .before .run-of .ensures)) (c .before .word .ensures)))
 
 same-length-2 : tie.Need-same-length-2 Inv-loop μ-loop
 same-length-2 c =

@@ -97,7 +97,8 @@ module _ {M : Type 1} (𝓤 : kit.URA M) (H : kit.Heap 𝓤) (𝓜 : kit.Model �
       move ! (2 ∷ []) $ let-go ! $ join ! $
       calls ! 𝓣 0 refl twice run-at.ended (run-at.clauses 𝓤 H A (𝓜 .mem) (𝓡 .run))
       (cites 𝓤 H 𝓜 𝓖 𝓡 code.env code.calls-run-parts·run-at (run-at.Met.met 𝓤 H 𝓜 𝓖 𝓡)) y (the-one W κ q)
-      (id⊢ 𝓤 _ & plain W O number k (refl, k-fits) & all) (id⊢ 𝓤 _) g (λ r e. id⊢ 𝓤 _) bounds (arg ! 7 refl (arg ! 5 refl (no-more !))) (λ is ok.
+      (id⊢ 𝓤 _ & plain W O number k (refl, k-fits) & all) (id⊢ 𝓤 _) g (λ r e. id⊢ 𝓤 _) bounds
+      (arg ! 7 refl (arg ! 5 refl (no-more !))) (λ is ok.
       let owed = LL.owed B.the-type B′.the-laws g _ is in
       lands-in ! 3 refl ok $
       gets ! 𝓣 0 refl twice part-of.ended (part-of.clauses 𝓤 H A (𝓜 .mem) (𝓡 .run))
