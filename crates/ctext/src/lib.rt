@@ -24,5 +24,5 @@ pub extern "C" fn ctext_check(s: &[u8]) -> Answer
 pub extern "C" fn ctext_run(s: &[u8], k: usize) -> Bounds
     ensures { λ r. ⌜ r ≡ runAt (now (s .entry)) k ⌝ }
 {
-    runs::run_at(s, k)
+    run_parts::run_at(s, k)
 }

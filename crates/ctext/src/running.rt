@@ -1,7 +1,7 @@
 // The runs of a string one after the other, for C: the caller keeps the string, and this value beside it.
 ghost use mathlib.Core.Path.{_≡_};
 ghost use lib.ListN.{length};
-ghost use Rattle.runs.specs.Listed.{wordsAfter, nextRunsOf};
+ghost use Rattle.run_lists.specs.Listed.{wordsAfter, nextRunsOf};
 ghost use Rattle.ctext.specs.Running.{positionIn, packedRuns, openedRuns, nextRunHanded, handedOf};
 use crate::stepping::flag;
 use base::Answer;
@@ -104,7 +104,7 @@ pub extern "C" fn ctext_next_runs(s: &[u8], p: RunReader, out: &mut [u64]) -> Ru
     ensures { λ r. ⌜ (r ≡ handedOf (nextRunsOf (now (s .entry)) (positionIn p) (length (now (out .entry))) .step))
         × (now (out .exit) ≡ wordsAfter (nextRunsOf (now (s .entry)) (positionIn p) (length (now (out .entry))) .runs) (now (out .entry))) ⌝ }
 {
-    let t = runs::listed::next_runs(s, position_in(p), out);
+    let t = run_lists::next_runs(s, position_in(p), out);
     let position = t.position;
     let answer = t.answer;
     RunsHanded {

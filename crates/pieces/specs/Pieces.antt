@@ -88,13 +88,3 @@ stateAt st (end-at at) i = st
 stateAt st (refused-at at n o) i = st
 stateAt st (silent-at at k next es) i = pick (ltb i (at + k)) st (stateAt next es i)
 stateAt st (found-at at p next es) i = pick (ltb i (at + size p)) st (stateAt next es i)
-
--- ---- what is asked of two neighbours, and `joined` answers for a list
-
--- a piece with its neighbour where they are of one run, and else the neighbour
-unfoldable pub extendedTo : Piece → Piece → Piece
-extendedTo p q = pick (sameRunOf (p .kind) (q .kind)) (longer p q) q
-
--- how many runs end where a piece of a kind is followed by one of another
-unfoldable pub endingOf : ℕ → ℕ → ℕ
-endingOf j k = pick (isRun j) (pick (eqb j k) 0 1) 0

@@ -50,7 +50,7 @@ fn print_run(s: &[u8], k: usize, b: Bounds) {
     print_number(b.direction as u64);
     let mut i: usize = 0;
     while i < a.count {
-        print_octet(runs::run_octet(s, k, i));
+        print_octet(run_parts::run_octet(s, k, i));
         i += 1;
     }
     io::write_all(1, b"\n");
@@ -60,7 +60,7 @@ fn print_run(s: &[u8], k: usize, b: Bounds) {
 fn print_runs(s: &[u8]) {
     let mut k: usize = 0;
     while k < s.len() {
-        let b = runs::run_at(s, k);
+        let b = run_parts::run_at(s, k);
         let a = b.answer;
         if a.number == refusal::ACCEPTED {
             print_run(s, k, b);
@@ -72,7 +72,7 @@ fn print_runs(s: &[u8]) {
 fn show(s: &[u8]) {
     print_octets(s);
     print_runs(s);
-    let b = runs::run_at(s, s.len());
+    let b = run_parts::run_at(s, s.len());
     let a = b.answer;
     print_refusal(a);
 }

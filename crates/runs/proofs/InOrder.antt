@@ -1,137 +1,137 @@
--- The runs one after the other, from the first position on, are those by number (`in-order`). Each piece of a string is followed by the pieces
--- from its end on, read with the state there (`cuts`); so a step from a position of an accepted string shows the first of the runs that are
--- left, and the runs that are left after it are the others (`one-step`). Of a refused string each step answers the refusal and stays.
-use Rattle.element.proofs.Names.{ℕ, zero, suc, _+_, _-_, _≤_, _<_, zero-le, arith, not-suc-le-zero, _≡_, refl, ap, sym, _∙_, Bool, true, false}
-use Rattle.element.proofs.Names.{false≢true, List, [], _∷_, eqb, ltb, length, eq-eqb, eqb-true, ltb-false, le-ltb, refusedAt, pick, from, Answer, on-ne}
-use Rattle.element.proofs.Names.{fresh, State}
+-- The runs one after the other, from the first position on, are those by number (`in-order`). At each place there is no piece, or one that the
+-- others follow (`cuts`); so a step from a position of an accepted string shows the first of the runs that are left, and the runs that are left after
+-- it are the others (`one-step`). Of a refused string each step answers the refusal and stays.
+use Rattle.element.proofs.Names.{ℕ, zero, suc, _+_, _-_, _≤_, _<_, zero-le, arith, not-suc-le-zero, _≡_, refl, ap, sym, _∙_, true, false, Bool, List}
+use Rattle.element.proofs.Names.{[], _∷_, eqb, ltb, length, eq-eqb, eqb-true, eqb-false, ltb-false, le-ltb, refusedAt, pick, from, off, clash, test}
+use Rattle.element.proofs.Names.{Answer, on-true, on-false, on-ne, fresh, State}
+use Rattle.element.proofs.Names.{Element, End, Refused, Silent, Found}
 use Rattle.base.specs.Limit as limit
 use Rattle.base.specs.Refusal as refusal
 use Rattle.element.proofs.Sizes.{Fit}
-use Rattle.grammar.specs.Reading.{Elements, checkOf, noneRefused}
-use Rattle.grammar.proofs.Places.{Ahead, ends, passes, reads, ahead-from, from-start}
+use Rattle.grammar.specs.Reading.{checkOf, noneRefused}
+use Rattle.grammar.proofs.Places.{from-start, at-refused}
 use Rattle.grammar.proofs.Agrees.{zero-none}
-use Rattle.grammar.proofs.Places as places
 use Rattle.reader.specs.Step.{mayStand}
 use Rattle.reader.proofs.Whole.{may-stand, fresh-fit}
-use Rattle.pieces.specs.Pieces.{isRun, sameRunOf, longer, joined, piecesFrom, piecesOf}
+use Rattle.pieces.specs.Pieces.{isRun, sameRunOf, longer, joined, piecesOf}
 use Rattle.pieces.specs.declared.Piece.{Piece}
-use Rattle.pieces.specs.Partition.{stateFrom}
-use Rattle.pieces.proofs.Laws.{StateAfter, state-after, first-state}
-use Rattle.pieces.proofs.Step.{Step, stops, goes, step, elementAt, rest, noRefusal}
+use Rattle.pieces.proofs.Step.{elementAt, pieceAt, rest, noRefusal}
 use Rattle.runs.specs.Runs.{runsIn, runsOf, shownOf, noRun, nthRunOf, runAt}
-use Rattle.runs.specs.Steps.{position, firstPosition, stays, runStepTo, stopAt, lastOf, firstOf, runFrom, knownOf, checkedFrom, nextRunOf}
-use Rattle.runs.specs.Steps.{positionAfter}
+use Rattle.runs.specs.Steps.{firstPosition, stays, runStepTo, stopAt, runFrom, knownOf, checkedFrom, nextRunOf, positionAfter}
 use Rattle.runs.specs.declared.Bounds.{Bounds}
 use Rattle.runs.specs.declared.stepping.RunPosition.{RunPosition}
 use Rattle.runs.specs.declared.stepping.RunStep.{RunStep}
-use Rattle.runs.proofs.Steps.{first-run, first-other, lastFrom, fit-piece}
+use Rattle.runs.proofs.Steps.{Leads, leads-here, leads-on, Cut, Moved, moved, none-by, run-none, run-shown, run-later}
 
 -- ---- the runs among pieces
 
-runs-first : (p : Piece) (ps : List Piece) → isRun (p .kind) ≡ true → runsIn (p ∷ ps) ≡ p ∷ runsIn ps
-unfolding runsIn pick
-runs-first p ps e = rw e
+module _ (p : Piece) (ps : List Piece) where
+  runs-first : isRun (p .kind) ≡ true → runsIn (p ∷ ps) ≡ p ∷ runsIn ps
+  unfolding runsIn pick
+  runs-first e = rw e
 
-runs-other : (p : Piece) (ps : List Piece) → isRun (p .kind) ≡ false → runsIn (p ∷ ps) ≡ runsIn ps
-unfolding runsIn pick
-runs-other p ps e = rw e
+  runs-other : isRun (p .kind) ≡ false → runsIn (p ∷ ps) ≡ runsIn ps
+  unfolding runsIn pick
+  runs-other e = rw e
 
--- ---- the pieces that follow a piece
+module _ (s : List ℕ) where
+  -- ---- the first piece at a place
 
--- pieces are those from a place on, in the state there; ok says whether no element is refused from there on
-record Cut (s : List ℕ) (there : ℕ → State) (ok : Bool) (at : ℕ) (ps : List Piece) : Type 0 where
-  follows : ps ≡ rest s at (there at)
-  clear : noRefusal s at (there at) ≡ ok
-  within : at ≤ length s
-  fit : Fit (there at)
+  data Cuts (at : ℕ) (st : State) : Type 0 where
+    over : pieceAt s at st .end ≡ at → rest s at st ≡ [] → Cuts at st
+    cut : {p : Piece} {next : State} → Cut s at st p next → Cuts at st
 
-data Cuts (s : List ℕ) (there : ℕ → State) (ok : Bool) : List Piece → Type 0 where
-  nil : Cuts s there ok []
-  cut : {p : Piece} {ps : List Piece} → Cut s there ok (p .end) ps → Cuts s there ok ps → Cuts s there ok (p ∷ ps)
-
-module _ (s : List ℕ) (there : ℕ → State) (ok : Bool) where
-  cuts-by : (t : Bool) (q r : Piece) (rs : List Piece) → Cut s there ok (q .end) (r ∷ rs) → Cut s there ok (r .end) rs → Cuts s there ok rs
-      → Cuts s there ok (pick t (longer q r ∷ rs) (q ∷ r ∷ rs))
-  unfolding pick
-  cuts-by true q r rs c d h = cut {p = longer q r} d h
-  cuts-by false q r rs c d h = cut c (cut d h)
-
-  cuts-joined : (q : Piece) (ps : List Piece) → Cut s there ok (q .end) ps → Cuts s there ok ps → Cuts s there ok (joined q ps)
+  -- a piece before those that follow it
+  cuts-by : (at : ℕ) (st : State) (q : Piece) → Moved s at st q → Cuts (q .end) (q .state) → Cuts at st
   unfolding joined
-  cuts-joined q [] c nil = cut c nil
-  cuts-joined q (r ∷ rs) c (cut d h) = cuts-by (sameRunOf (q .kind) (r .kind)) q r rs c d h
+  cuts-by at st q m (over n e) =
+      cut {p = q} (record { is = m .is ∙ (ap (joined q) e ∙ ap (λ (ps : List Piece). q ∷ ps) (sym e));
+      more = m .more; within = m .within; leads = m .leads })
+  cuts-by at st q m (cut {p} {next} c) =
+      test (sameRunOf (q .kind) (p .kind))
+      (λ e. cut {p = longer q p} (record {
+        is = m .is ∙ (ap (joined q) (c .is) ∙ sym (on-true _ _ _ _ e refl));
+        more = omega (arith, m .more, c .more);
+        within = c .within;
+        leads = leads-on s (m .leads) (c .leads);
+      }))
+      (λ e. cut {p = q} (record {
+        is = m .is ∙ (ap (joined q) (c .is) ∙ (sym (on-false _ _ _ _ e refl) ∙ ap (λ (ps : List Piece). q ∷ ps) (sym (c .is))));
+        more = m .more;
+        within = m .within;
+        leads = m .leads;
+      }))
 
-  -- the states from a place on
-  abbrev Agrees : ℕ → State → Type 0
-  Agrees at st = (i : ℕ) → at ≤ i → there i ≡ stateFrom s at st i
+  cuts : (n at : ℕ) (st : State) → length s - at < n → Cuts at st
+  cuts zero at st h = absurd (not-suc-le-zero h)
+  cuts (suc n) at st h =
+      test (eqb (pieceAt s at st .end) at) (λ e. over (eqb-true _ _ e) (none-by s at st (elementAt s at st) refl (eqb-true _ _ e) .1))
+      (λ e.
+      let m = moved s at st (pieceAt s at st) refl (eqb-false _ _ e) in
+      cuts-by at st (pieceAt s at st) m (cuts n (pieceAt s at st .end) (pieceAt s at st .state) (omega (arith, m .more, m .within))))
 
-  cuts-step : (n at : ℕ) (st : State) {q : Piece} → Step s at st q → Fit (q .state) → StateAfter s at st q → length s - at < suc n → Agrees at st
-      → noRefusal s at st ≡ ok
-      → ((b : ℕ) (next : State) → Fit next → length s - b < n → Agrees b next → noRefusal s b next ≡ ok → Cuts s there ok (rest s b next))
-      → Cuts s there ok (rest s at st)
-  cuts-step n at st (stops e x) f after k a o go = rw e nil
-  cuts-step n at st (goes {q} b l u e x) f after k a o go =
-      let later : Agrees (q .end) (q .state) = λ i h. a i (omega arith) ∙ after i (λ z. absurd (omega arith)) .1 h in
-      let is : there (q .end) ≡ q .state = later (q .end) (omega arith) ∙ first-state s (q .end) (q .state) (elementAt s (q .end) (q .state)) refl in
-      let clear : noRefusal s (q .end) (q .state) ≡ ok = sym x ∙ o in
-      rw e (cuts-joined q (rest s (q .end) (q .state))
-      (record {
-        follows = ap (rest s (q .end)) (sym is);
-        clear = ap (noRefusal s (q .end)) is ∙ clear;
-        within = u;
-        fit = rw is f;
+  -- ---- a step from a place: the first run is shown, and the others are left
+
+  record Shows (at : ℕ) (st : State) : Type 0 where
+    place : ℕ
+    state : State
+    leads : Leads s at st place state
+    within : at ≤ length s → place ≤ length s
+    step : runFrom s at st ≡ runStepTo place state (nthRunOf (length s) 0 (runsIn (rest s at st)))
+    left : (j : ℕ) → nthRunOf (length s) j (runsIn (rest s place state)) ≡ nthRunOf (length s) (suc j) (runsIn (rest s at st))
+
+  -- no element is refused, so where no piece is left the string ends
+  none-left : (at : ℕ) (st : State) (e : Element) → elementAt s at st ≡ e → noRefusal s at st ≡ true
+      → stopAt at st e ≡ runStepTo at st (noRun (refusedAt refusal.bad-unit 0))
+  unfolding stopAt noneRefused
+  none-left at st End is h = refl
+  none-left at st (Refused n o) is h = off (sym (ap noneRefused (at-refused s at st _ refl is)) ∙ h)
+  none-left at st (Silent k next) is h = refl
+  none-left at st (Found p next) is h = refl
+
+  -- a piece that is no run is passed
+  shows-on : {at b : ℕ} {st next : State} → Leads s at st b next → b ≤ length s → runFrom s b next ≡ runFrom s at st
+      → runsIn (rest s at st) ≡ runsIn (rest s b next) → Shows b next → Shows at st
+  shows-on l w e f x =
+      record {
+        place = x .place;
+        state = x .state;
+        leads = leads-on s l (x .leads);
+        within = λ h. x .within w;
+        step = rw (← e, f) (x .step);
+        left = λ j. rw f (x .left j);
+      }
+
+  shows-by : (n at : ℕ) (st : State) → Cuts at st → length s - at < suc n → noRefusal s at st ≡ true
+      → ((b : ℕ) (next : State) → length s - b < n → noRefusal s b next ≡ true → Shows b next) → Shows at st
+  unfolding nthRunOf runsIn
+  shows-by n at st (over e f) k h go =
+      record {
+        place = at;
+        state = st;
+        leads = leads-here s at st;
+        within = λ l. l;
+        step = sym (run-none s at st e) ∙ (none-left at st (elementAt s at st) refl h ∙ rw f);
+        left = λ j. rw f;
+      }
+  shows-by n at st (cut {p} {next} c) k h go =
+      test (isRun (p .kind))
+      (λ r.
+      let is = ap runsIn (c .is) ∙ runs-first p (rest s (p .end) next) r in
+      record {
+        place = p .end;
+        state = next;
+        leads = c .leads;
+        within = λ l. c .within;
+        step = sym (run-shown s at st c r) ∙ ap (λ (ps : List Piece). runStepTo (p .end) next (nthRunOf (length s) 0 ps)) (sym is);
+        left = λ j. sym (ap (nthRunOf (length s) (suc j)) is);
       })
-      (go (q .end) (q .state) f (omega arith) later clear))
+      (λ r. shows-on (c .leads) (c .within) (run-later s at st c r) (ap runsIn (c .is) ∙ runs-other p (rest s (p .end) next) r)
+      (go (p .end) next (omega (arith, c .more, c .within)) (sym (c .leads .clear) ∙ h)))
 
-  cuts : (n at : ℕ) (st : State) → Fit st → length s - at < n → Agrees at st → noRefusal s at st ≡ ok → Cuts s there ok (rest s at st)
-  cuts zero at st f k a o = absurd (not-suc-le-zero k)
-  cuts (suc n) at st f k a o =
-      cuts-step n at st (step s at st) (fit-piece s at st (elementAt s at st) refl f) (state-after s at st (elementAt s at st) refl) k a o
-      (λ b next g h i j. cuts n b next g h i j)
-
--- ---- a step among pieces: no run is left, or the first is shown
-
-data Walked (s : List ℕ) (there : ℕ → State) (ok : Bool) (none : RunStep) (ps : List Piece) (r : RunStep) : Type 0 where
-  over : runsIn ps ≡ [] → r ≡ none → Walked s there ok none ps r
-  shows : {p : Piece} {rest-of : List Piece} → runsIn ps ≡ p ∷ runsIn rest-of → Cut s there ok (p .end) rest-of
-      → r ≡ runStepTo (p .end) (there (p .end)) (shownOf (length s) p) → Walked s there ok none ps r
-
-module _ (s : List ℕ) (there : ℕ → State) (ok : Bool) (none : RunStep) where
-  passed : (p : Piece) (ps : List Piece) → isRun (p .kind) ≡ false → Walked s there ok none ps (firstOf (length s) there none ps)
-      → Walked s there ok none (p ∷ ps) (firstOf (length s) there none (p ∷ ps))
-  passed p ps e (over x y) = over (runs-other p ps e ∙ x) (first-other (length s) there none p ps e ∙ y)
-  passed p ps e (shows x c y) = shows (runs-other p ps e ∙ x) c (first-other (length s) there none p ps e ∙ y)
-
-  walked : (ps : List Piece) → Cuts s there ok ps → Walked s there ok none ps (firstOf (length s) there none ps)
-  unfolding firstOf runsIn
-  walked [] nil = over refl refl
-  walked (p ∷ ps) (cut c h) = by (isRun (p .kind)) refl (walked ps h)
-    where
-      by : (t : Bool) → isRun (p .kind) ≡ t → Walked s there ok none ps (firstOf (length s) there none ps)
-          → Walked s there ok none (p ∷ ps) (firstOf (length s) there none (p ∷ ps))
-      by true e w = shows (runs-first p ps e) c (first-run (length s) there none p ps e)
-      by false e w = passed p ps e w
-
--- ---- the end of an accepted string
-
--- a step that answers 11 at 0, to a place from which no run follows
-record Done (s : List ℕ) (r : RunStep) : Type 0 where
-  place : ℕ
-  state : State
-  is : r ≡ runStepTo place state (noRun (refusedAt refusal.bad-unit 0))
-  within : place ≤ length s
-  fit : Fit state
-  empty : rest s place state ≡ []
-  clear : noRefusal s place state ≡ true
-
-last-done : (s : List ℕ) {at : ℕ} {st : State} {es : Elements} → Ahead s at st es → at ≤ length s → Fit st → noneRefused es ≡ true
-    → Done s (lastOf st es)
-unfolding lastOf stopAt noneRefused piecesFrom
-last-done s {at} {st} (ends e) h f n =
-    record { place = at; state = st; is = refl; within = h; fit = f; empty = ap (piecesFrom s) e; clear = ap noneRefused e }
-last-done s (places.stops g e) h f n = absurd (false≢true n)
-last-done s (passes t e a) h f n = last-done s a (t .fits) (t .fit f) n
-last-done s (reads t m e a) h f n = last-done s a (t .fits) (t .fit f) n
+  shows : (n at : ℕ) (st : State) → length s - at < n → noRefusal s at st ≡ true → Shows at st
+  shows zero at st k h = absurd (not-suc-le-zero k)
+  shows (suc n) at st k h = shows-by n at st (cuts (suc (length s)) at st (omega arith)) k h (shows n)
 
 -- ---- the steps of an accepted string
 
@@ -143,204 +143,144 @@ pub record Good (s : List ℕ) : Type 0 where
 
 pub good : (s : List ℕ) → eqb (checkOf s .number) refusal.accepted ≡ true → Good s
 unfolding checkOf pick from
-good s e = by (ltb limit.octets (length s)) refl
-  where
-    by : (b : Bool) → ltb limit.octets (length s) ≡ b → Good s
-    by true l = absurd (let z : _≡_ {A = ℕ} 1 0 = rw l at (eqb-true (checkOf s .number) refusal.accepted e) in omega arith)
-    by false l =
-        let z = rw l at (eqb-true (checkOf s .number) refusal.accepted e) in
-        record { accepted = e; short = ltb-false limit.octets (length s) l; clear = zero-none s 0 (from-start s) z }
+good s e =
+    test (ltb limit.octets (length s))
+    (λ l. clash (sym (rw l at (eqb-true (checkOf s .number) refusal.accepted e))))
+    (λ l.
+    let z = rw l at (eqb-true (checkOf s .number) refusal.accepted e) in
+    record { accepted = e; short = ltb-false limit.octets (length s) l; clear = zero-none s 0 (from-start s) z })
 
--- a position from which the runs are those of the string from number k on
-pub record Stands (s : List ℕ) (k : ℕ) (p : RunPosition) : Type 0 where
-  pub within : p .place ≤ length s
-  pub fit : Fit (p .state)
-  pub clear : noRefusal s (p .place) (p .state) ≡ true
-  pub runs : (j : ℕ) → nthRunOf (length s) j (runsIn (rest s (p .place) (p .state))) ≡ nthRunOf (length s) (k + j) (runsOf s)
+-- a place and a state from which the runs are those of the string from number k on
+pub record Stands (s : List ℕ) (k place : ℕ) (st : State) : Type 0 where
+  pub within : place ≤ length s
+  pub fit : Fit st
+  pub clear : noRefusal s place st ≡ true
+  pub runs : (j : ℕ) → nthRunOf (length s) j (runsIn (rest s place st)) ≡ nthRunOf (length s) (k + j) (runsOf s)
 
 -- the k-th run is shown, and the position then stands before the next
 pub record Stepped (s : List ℕ) (k : ℕ) (r : RunStep) : Type 0 where
-  pub shown : r .run ≡ nthRunOf (length s) k (runsOf s)
-  pub after : Stands s (suc k) (r .position)
-
-module _ (s : List ℕ) (g : Good s) (k : ℕ) (p : RunPosition) (h : Stands s k p) where
-  pub is-known : knownOf s (p .checked) .number ≡ refusal.accepted
-  unfolding knownOf pick
-  is-known = by (p .checked) refl
-    where
-      by : (b : Bool) → p .checked ≡ b → knownOf s (p .checked) .number ≡ refusal.accepted
-      by true e = rw e
-      by false e = rw e (eqb-true _ _ (g .accepted))
-
-  pub is-may : mayStand (length s) (p .place) (p .state) ≡ true
-  is-may = may-stand (length s) (p .place) (p .state) (h .within) (h .fit)
-
-  is-run : nextRunOf s p ≡ runFrom s (p .place) (p .state)
-  unfolding nextRunOf checkedFrom pick
-  is-run = rw (le-ltb limit.octets (length s) (g .short), is-may, is-known)
-
-  abbrev left : List Piece
-  left = rest s (p .place) (p .state)
-
-  abbrev there : ℕ → State
-  there = stateFrom s (p .place) (p .state)
-
-  one-by : {r : RunStep} → Done s (lastFrom s (p .place) (p .state)) → Walked s there true (lastFrom s (p .place) (p .state)) left r → Stepped s k r
-  unfolding nthRunOf runsIn
-  one-by d (over x y) =
-      let none : (j : ℕ) → nthRunOf (length s) (k + j) (runsOf s) ≡ noRun (refusedAt refusal.bad-unit 0) = λ j. sym (h .runs j) ∙
-      ap (nthRunOf (length s) j) x in
-      let is = y ∙ d .is in
-      let n : k + 0 ≡ k = omega arith in
-      rw is (record {
-        shown = sym (rw n at (none 0));
-        after = record {
-          within = d .within;
-          fit = d .fit;
-          clear = d .clear;
-          runs = λ j. let m : k + suc j ≡ suc k + j = omega arith in rw (d .empty) (sym (rw m at (none (suc j))));
-        };
-      })
-  one-by d (shows x c y) =
-      let n : k + 0 ≡ k = omega arith in
-      let first : nthRunOf (length s) 0 (runsIn left) ≡ nthRunOf (length s) k (runsOf s) = rw n at (h .runs 0) in
-      rw y (record {
-        shown = sym (ap (nthRunOf (length s) 0) x) ∙ first;
-        after = record {
-          within = c .within;
-          fit = c .fit;
-          clear = c .clear;
-          runs = λ j.
-              let m : k + suc j ≡ suc k + j = omega arith in
-              ap (λ (ps : List Piece). nthRunOf (length s) j (runsIn ps)) (sym (c .follows)) ∙
-              (sym (ap (nthRunOf (length s) (suc j)) x) ∙ rw m at (h .runs (suc j)));
-        };
-      })
-
-  pub from-step : Stepped s k (runFrom s (p .place) (p .state))
-  from-step =
-      one-by (last-done s (ahead-from s (p .place) (p .state)) (h .within) (h .fit) (h .clear))
-      (walked s there true (lastFrom s (p .place) (p .state)) left
-      (cuts s there true (suc (length s)) (p .place) (p .state) (h .fit) (omega arith) (λ i l. refl) (h .clear)))
-
-  one-step : Stepped s k (nextRunOf s p)
-  one-step = rw is-run from-step
+  pub shown : r .run ≡ runAt s k
+  pub after : Stands s (suc k) (r .position .place) (r .position .state)
 
 module _ (s : List ℕ) (g : Good s) where
-  pub stands-first : Stands s 0 firstPosition
+  pub by-number : (k : ℕ) → nthRunOf (length s) k (runsOf s) ≡ runAt s k
+  unfolding runAt pick
+  by-number k = rw (g .accepted)
+
+  pub stands-first : Stands s 0 0 fresh
   unfolding runsOf piecesOf from
   stands-first = record { within = zero-le; fit = fresh-fit; clear = g .clear; runs = λ j. let n : 0 + j ≡ j = omega arith in rw n }
 
-  stands : (k : ℕ) → Stands s k (positionAfter s k)
+  pub is-known : (checked : Bool) → knownOf s checked .number ≡ refusal.accepted
+  unfolding knownOf pick
+  is-known true = refl
+  is-known false = eqb-true _ _ (g .accepted)
+
+  module _ (k place : ℕ) (st : State) (h : Stands s k place st) where
+    pub is-may : mayStand (length s) place st ≡ true
+    is-may = may-stand (length s) place st (h .within) (h .fit)
+
+    pub from-step : Stepped s k (runFrom s place st)
+    from-step =
+        let x = shows s (suc (length s)) place st (omega arith) (h .clear) in
+        let n : k + 0 ≡ k = omega arith in
+        rw (x .step) (record {
+          shown = rw n at (h .runs 0) ∙ by-number k;
+          after = record {
+            within = x .within (h .within);
+            fit = x .leads .fit (h .fit);
+            clear = sym (x .leads .clear) ∙ h .clear;
+            runs = λ j. let m : k + suc j ≡ suc k + j = omega arith in x .left j ∙ rw m at (h .runs (suc j));
+          };
+        })
+
+  one-step : (k : ℕ) (p : RunPosition) → Stands s k (p .place) (p .state) → Stepped s k (nextRunOf s p)
+  unfolding nextRunOf checkedFrom pick
+  one-step k p h =
+      rw (le-ltb limit.octets (length s) (g .short), is-may k (p .place) (p .state) h, is-known (p .checked)) (from-step k (p .place) (p .state) h)
+
+  stands : (k : ℕ) → Stands s k (positionAfter s k .place) (positionAfter s k .state)
   unfolding positionAfter
   stands zero = stands-first
-  stands (suc k) = one-step s g k (positionAfter s k) (stands k) .after
+  stands (suc k) = one-step k (positionAfter s k) (stands k) .after
 
-  accepted-runs : (k : ℕ) → nextRunOf s (positionAfter s k) .run ≡ nthRunOf (length s) k (runsOf s)
-  accepted-runs k = one-step s g k (positionAfter s k) (stands k) .shown
+  accepted-runs : (k : ℕ) → nextRunOf s (positionAfter s k) .run ≡ runAt s k
+  accepted-runs k = one-step k (positionAfter s k) (stands k) .shown
 
 -- ---- a refused string: each step from the first position on stays
 
 module _ (s : List ℕ) (no : eqb (checkOf s .number) refusal.accepted ≡ false) where
-  refused-by : (b : Bool) → ltb limit.octets (length s) ≡ b → nextRunOf s firstPosition ≡ stays firstPosition (checkOf s)
-  unfolding nextRunOf checkedFrom knownOf checkOf pick
-  refused-by true l = rw l
-  refused-by false l =
-      let m : mayStand (length s) 0 fresh ≡ true = may-stand (length s) 0 fresh zero-le fresh-fit in
-      let n = rw l at no in
-      rw (l, m, n)
-
   refused-first : nextRunOf s firstPosition ≡ stays firstPosition (checkOf s)
-  refused-first = refused-by (ltb limit.octets (length s)) refl
+  unfolding nextRunOf checkedFrom knownOf checkOf pick
+  refused-first =
+      test (ltb limit.octets (length s)) (λ l. rw l)
+      (λ l. let n = rw l at no in rw (l, may-stand (length s) 0 fresh zero-le fresh-fit, n))
 
   refused-stays : (k : ℕ) → positionAfter s k ≡ firstPosition
   unfolding positionAfter
   refused-stays zero = refl
   refused-stays (suc k) = ap (λ (p : RunPosition). nextRunOf s p .position) (refused-stays k) ∙ ap (λ (r : RunStep). r .position) refused-first
 
-  refused-runs : (k : ℕ) → nextRunOf s (positionAfter s k) .run ≡ noRun (checkOf s)
-  refused-runs k = ap (λ (p : RunPosition). nextRunOf s p .run) (refused-stays k) ∙ ap (λ (r : RunStep). r .run) refused-first
+  refused-runs : (k : ℕ) → nextRunOf s (positionAfter s k) .run ≡ runAt s k
+  unfolding runAt pick
+  refused-runs k = ap (λ (p : RunPosition). nextRunOf s p .run) (refused-stays k) ∙ (ap (λ (r : RunStep). r .run) refused-first ∙ rw no)
 
 -- ---- every string
 
-by-check : (s : List ℕ) (k : ℕ) (b : Bool) → eqb (checkOf s .number) refusal.accepted ≡ b → nextRunOf s (positionAfter s k) .run ≡ runAt s k
-unfolding runAt pick
-by-check s k true e = rw e (accepted-runs s (good s e) k)
-by-check s k false e = rw e (refused-runs s e k)
-
 -- the run of the step after k steps is the k-th run; past the last run, and of a refused string, each step repeats the answer
 pub in-order : (s : List ℕ) (k : ℕ) → nextRunOf s (positionAfter s k) .run ≡ runAt s k
-in-order s k = by-check s k (eqb (checkOf s .number) refusal.accepted) refl
+in-order s k = test (eqb (checkOf s .number) refusal.accepted) (λ e. accepted-runs s (good s e) k) (λ e. refused-runs s e k)
 
 -- ---- the run of a number, by steps
 
 -- where a number shows no run, it and all after it are answered 11
-pub nth-past : (n k j : ℕ) (ps : List Piece) → (nthRunOf n k ps .answer .number ≡ refusal.accepted → ⊥)
+nth-past : (n k j : ℕ) (ps : List Piece) → (nthRunOf n k ps .answer .number ≡ refusal.accepted → ⊥)
     → nthRunOf n (k + j) ps ≡ noRun (refusedAt refusal.bad-unit 0)
 unfolding nthRunOf shownOf
 nth-past n k j [] h = refl
 nth-past n zero j (p ∷ ps) h = absurd (h refl)
 nth-past n (suc k) j (p ∷ ps) h = let z : suc k + j ≡ suc (k + j) = omega arith in rw z (nth-past n k j ps h)
 
--- and so of a string, refused or not
-runs-past : (s : List ℕ) (k j : ℕ) → (runAt s k .answer .number ≡ refusal.accepted → ⊥) → runAt s (k + j) ≡ runAt s k
-unfolding runAt pick
-runs-past s k j = by (eqb (checkOf s .number) refusal.accepted) refl
-  where
-    by : (b : Bool) → eqb (checkOf s .number) refusal.accepted ≡ b → (runAt s k .answer .number ≡ refusal.accepted → ⊥)
-        → runAt s (k + j) ≡ runAt s k
-    by true e h =
-        let n = rw e at h in
-        let z : k + 0 ≡ k = omega arith in
-        rw e (nth-past (length s) k j (runsOf s) n ∙ sym (rw z at (nth-past (length s) k 0 (runsOf s) n)))
-    by false e h = rw e
+pub runs-past : (s : List ℕ) → Good s → (k j : ℕ) → (runAt s k .answer .number ≡ refusal.accepted → ⊥)
+    → runAt s (k + j) ≡ noRun (refusedAt refusal.bad-unit 0)
+runs-past s g k j h =
+    sym (by-number s g (k + j)) ∙
+    nth-past (length s) k j (runsOf s) (λ z. h (sym (ap (λ (x : Bounds). x .answer .number) (by-number s g k)) ∙ z))
 
 -- the invariant of `numbered`: so many steps are left to the run that is asked for
 pub record Numbered (s : List ℕ) (k at : ℕ) (st : State) (left : ℕ) : Type 0 where
   pub fits : left ≤ k
   pub accepts : Good s
-  pub stands : Stands s (k - left) (position at st true)
+  pub stands : Stands s (k - left) at st
 
 pub number-first : (s : List ℕ) (k : ℕ) (a : Answer) → a ≡ checkOf s → a .number ≡ refusal.accepted → Numbered s k 0 fresh k
 number-first s k a is e =
     let z : k - k ≡ 0 = omega arith in
     let g = good s (eq-eqb _ _ (sym (ap (λ (x : Answer). x .number) is) ∙ e)) in
-    let h = stands-first s g in
-    record { fits = omega arith; accepts = g; stands = rw z (record { within = h .within; fit = h .fit; clear = h .clear; runs = h .runs }) }
+    record { fits = omega arith; accepts = g; stands = rw z (stands-first s g) }
 
 -- a refused string
 pub number-refused : (s : List ℕ) (k : ℕ) (a : Answer) → a ≡ checkOf s → (a .number ≡ refusal.accepted → ⊥) → noRun a ≡ runAt s k
 unfolding runAt
 number-refused s k a is n = on-ne _ _ _ _ _ (λ z. n (ap (λ (x : Answer). x .number) is ∙ z)) (ap noRun is)
 
-module _ {s : List ℕ} {k at : ℕ} {st : State} {left : ℕ} (h : Numbered s k at st left) where
-  pub number-may : mayStand (length s) at st ≡ true
-  number-may = may-stand (length s) at st (h .stands .within) (h .stands .fit)
+module _ {s : List ℕ} {k at : ℕ} {st : State} {left : ℕ} (h : Numbered s k at st left) (t : RunStep) (e : t ≡ runFrom s at st) where
+  at-step : Stepped s (k - left) t
+  at-step = rw e (from-step s (h .accepts) (k - left) at st (h .stands))
 
-  module _ (t : RunStep) (e : t ≡ runFrom s at st) where
-    at-step : Stepped s (k - left) t
-    at-step = rw e (from-step s (h .accepts) (k - left) (position at st true) (h .stands))
+  pub at-number : left ≡ 0 → t .run ≡ runAt s k
+  at-number n = let z : k - left ≡ k = omega arith in rw z at (at-step .shown)
 
-    numbered : t .run ≡ runAt s (k - left)
-    unfolding runAt pick
-    numbered = at-step .shown ∙ rw (h .accepts .accepted)
+  pub past-number : (t .run .answer .number ≡ refusal.accepted → ⊥) → t .run ≡ runAt s k
+  past-number n =
+      let z : k - left + left ≡ k = omega (arith, h .fits) in
+      let y : k - left + 0 ≡ k - left = omega arith in
+      let past = runs-past s (h .accepts) (k - left) in
+      let no : runAt s (k - left) .answer .number ≡ refusal.accepted → ⊥ = λ x. n (ap (λ (r : Bounds). r .answer .number) (at-step .shown) ∙ x) in
+      at-step .shown ∙ (rw y at (past 0 no) ∙ sym (rw z at (past left no)))
 
-    pub at-number : left ≡ 0 → t .run ≡ runAt s k
-    at-number n = let z : k - left ≡ k = omega arith in rw z at numbered
-
-    pub past-number : (t .run .answer .number ≡ refusal.accepted → ⊥) → t .run ≡ runAt s k
-    past-number n =
-        let f = h .fits in
-        let z : k - left + left ≡ k = omega arith in
-        numbered ∙ sym (rw z at (runs-past s (k - left) left (λ y. n (ap (λ (x : Bounds). x .answer .number) numbered ∙ y))))
-
-    pub next-number : (left ≡ 0 → ⊥) → Numbered s k (t .position .place) (t .position .state) (left - 1)
-    next-number n =
-        let f = h .fits in
-        let z : k - (left - 1) ≡ suc (k - left) = omega arith in
-        let x = at-step .after in
-        record {
-          fits = omega arith;
-          accepts = h .accepts;
-          stands = rw z (record { within = x .within; fit = x .fit; clear = x .clear; runs = x .runs });
-        }
+  pub next-number : (left ≡ 0 → ⊥) → Numbered s k (t .position .place) (t .position .state) (left - 1)
+  next-number n =
+      let f = h .fits in
+      let z : k - (left - 1) ≡ suc (k - left) = omega arith in
+      record { fits = omega arith; accepts = h .accepts; stands = rw z (at-step .after) }

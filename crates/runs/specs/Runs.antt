@@ -1,10 +1,8 @@
--- The runs of a string, and what is answered of each (rules R1 to R5).
-use Prim.Native.Nat.{ℕ, zero, suc, _+_, _-_}
-use mathlib.Core.Path.{_≡_}
+-- The runs of a string, and what is answered of each (rules R1, R3 to R5).
+use Prim.Native.Nat.{ℕ, zero, suc, _-_}
 use mathlib.Core.List.{List, [], _∷_}
 use lib.Dec.{eqb}
-use lib.ListN.{length, take, drop}
-use denote.Ref.{RefT, ptr, now}
+use lib.ListN.{length}
 use Rattle.base.specs.Answers.{answer, refusedAt}
 use Rattle.base.specs.Choice.{pick}
 use Rattle.base.specs.Direction as direction
@@ -16,7 +14,6 @@ use Rattle.state.specs.Directions.{inForceOf}
 use Rattle.pieces.specs.Pieces.{isRun, piecesOf, setIn}
 use Rattle.runs.specs.declared.Bounds.{Bounds}
 use Rattle.pieces.specs.declared.Piece.{Piece}
-use Rattle.runs.specs.declared.view.Run.{Run}
 
 -- the runs among pieces
 unfoldable pub runsIn : List Piece → List Piece
@@ -56,20 +53,3 @@ nthRunOf n (suc k) (p ∷ ps) = nthRunOf n k ps
 -- the k-th run of a string, where it is accepted, and else its refusal (rule R4)
 unfoldable pub runAt : List ℕ → ℕ → Bounds
 runAt s k = pick (eqb (checkOf s .number) refusal.accepted) (nthRunOf (length s) k (runsOf s)) (noRun (checkOf s))
-
--- the octets of the k-th run, none where there is no such run
-abbrev pub runOctets : List ℕ → ℕ → List ℕ
-runOctets s k = take (runAt s k .end - runAt s k .start) (drop (runAt s k .start) s)
-
--- a reference points into what s refers to, so many octets from its start
-abbrev pub startsAt : RefT (List ℕ) → RefT (List ℕ) → ℕ → Type 0
-startsAt r s start = (ptr r .0 ≡ ptr s .0) × (ptr r .1 ≡ start + ptr s .1)
-
--- a value is the k-th run of what s refers to, as that part of it: what it holds, and where it starts (rule R2).
-pub record Shown (s : RefT (List ℕ)) (k : ℕ) (r : Run) : Type 0 where
-  pub part : now (r .part) ≡ runOctets (now s) k
-  pub place : startsAt (r .part) s (runAt (now s) k .start)
-  pub answer : r .answer ≡ runAt (now s) k .answer
-  pub set : r .set ≡ runAt (now s) k .set
-  pub width : r .width ≡ runAt (now s) k .width
-  pub direction : r .direction ≡ runAt (now s) k .direction

@@ -1,20 +1,14 @@
-// Runs: the stretches of text of one side, asked for by number; `stepping` has them one after the other, and `listed` several at once.
+// Runs: the stretches of text of one side, and what is shown of each; `stepping` has them one after the other.
 ghost use mathlib.Core.Path.{_≡_};
-ghost use Prim.Native.Nat.{_-_, _≤_};
-ghost use lib.ListN.{length, getD, take, drop};
-ghost use Rattle.runs.specs.Runs.{widthOf, shownOf, noRun, runAt, runOctets, startsAt, Shown};
+ghost use Prim.Native.Nat.{_≤_};
+ghost use Rattle.runs.specs.Runs.{widthOf, shownOf, noRun};
 use base::Answer;
 use base::direction;
 use base::refusal;
 use charset::FORM_94X94;
 use pieces::Piece;
 
-mod ends;
-pub mod listed;
 pub mod stepping;
-pub mod view;
-
-use crate::view::Run;
 
 // Where a run starts and ends in the string, the answer, and the set, octet width and direction in force.
 #[repr(C)]
@@ -73,54 +67,4 @@ fn shown(n: usize, run: Piece) -> Bounds
         width: width,
         direction: direction,
     }
-}
-
-// The k-th run of a string: where it lies, and its numbers. Each call checks the string and steps to the run that is asked for; for all runs of a
-// string there are `stepping::next_run` and `listed::next_runs`.
-pub fn run_at(s: &[u8], k: usize) -> Bounds
-    ensures { λ r. ⌜ r ≡ runAt (now (s .entry)) k ⌝ }
-{
-    stepping::numbered(s, k)
-}
-
-// That very part of the string.
-fn part<'a>(s: &'a [u8], start: usize, end: usize) -> &'a [u8]
-    requires { ⌜ (start ≤ end) × (end ≤ length (now s)) ⌝ }
-    ensures { λ r. ⌜ (now r ≡ take (end - start) (drop start (now (s .entry)))) × startsAt r (s .entry) start ⌝ }
-{
-    &s[start..end]
-}
-
-// The k-th run of a string, as that very part of it.
-pub fn run<'a>(s: &'a [u8], k: usize) -> Run<'a>
-    ensures { λ r. ⌜ Shown (s .entry) k r ⌝ }
-{
-    let b = run_at(s, k);
-    let p = part(s, b.start, b.end);
-    Run {
-        part: p,
-        answer: b.answer,
-        set: b.set,
-        width: b.width,
-        direction: b.direction,
-    }
-}
-
-// The octet at a place of a part, and 0 past its end.
-fn octet(part: &[u8], i: usize) -> u8
-    ensures { λ r. ⌜ r ≡ getD (now (part .entry)) i 0 ⌝ }
-{
-    if i < part.len() {
-        return part[i];
-    }
-    0
-}
-
-// The i-th octet of the k-th run, and 0 past its end, for callers that hold no run.
-pub fn run_octet(s: &[u8], k: usize, i: usize) -> u8
-    ensures { λ r. ⌜ r ≡ getD (runOctets (now (s .entry)) k) i 0 ⌝ }
-{
-    let b = run_at(s, k);
-    let p = part(s, b.start, b.end);
-    octet(p, i)
 }

@@ -1,21 +1,17 @@
 // The runs of a string one after the other, in one pass: a step from run to run.
 ghost use mathlib.Core.Path.{_≡_};
-ghost use mathlib.Core.Bool.{true};
-ghost use lib.ListN.{length};
 ghost use Rattle.base.specs.Choice.{from};
 ghost use Rattle.element.specs.Element.{elementOf};
 ghost use Rattle.pieces.specs.Pieces.{piece};
-ghost use Rattle.reader.specs.Step.{mayStand};
-ghost use Rattle.runs.specs.Runs.{runAt};
 ghost use Rattle.runs.specs.Steps.{firstPosition, stays, runStepTo, stopAt, runFrom, knownOf, checkedFrom, nextRunOf};
 use crate::Bounds;
-use crate::ends::text_end;
 use base::Answer;
 use base::limit;
 use base::refusal;
 use charset::NO_SET;
 use pieces::Piece;
 use pieces::TAB;
+use run_ends::text_end;
 use state::State;
 use state::elements::Element;
 use stretch::characters::settled;
@@ -80,27 +76,29 @@ pub fn run_of(start: usize, end: usize, kind: u8, state: State) -> Piece
     }
 }
 
-// No run is left where an element is reached.
-pub fn stop_at(s: &[u8], at: usize, st: State) -> RunStep
-    ensures { λ r. ⌜ r ≡ stopAt at st (elementOf (from at (now (s .entry))) st) ⌝ }
+// The answer where an element is reached and no run is left.
+pub fn stopped(s: &[u8], at: usize, st: State) -> Answer
+    ensures { λ r. ⌜ r ≡ stopAt at st (elementOf (from at (now (s .entry))) st) .run .answer ⌝ }
 {
     let none = Answer::refused(refusal::BAD_UNIT, 0);
-    let e = element::element(s, at, st);
-    match e {
-        Element::End => step_to(at, st, crate::no_run(none)),
-        Element::Refused(number, offset) => {
-            let place = at + offset;
-            step_to(at, st, crate::no_run(Answer::refused(number, place)))
-        }
-        Element::Silent(octets, next) => step_to(at, st, crate::no_run(none)),
-        Element::Found(part, next) => step_to(at, st, crate::no_run(none)),
+    match element::element(s, at, st) {
+        Element::End => none,
+        Element::Refused(number, offset) => Answer::refused(number, at + offset),
+        Element::Silent(octets, next) => none,
+        Element::Found(part, next) => none,
     }
+}
+
+// No run is left where an element is reached.
+fn stop_at(s: &[u8], at: usize, st: State) -> RunStep
+    ensures { λ r. ⌜ r ≡ stopAt at st (elementOf (from at (now (s .entry))) st) ⌝ }
+{
+    step_to(at, st, crate::no_run(stopped(s, at, st)))
 }
 
 // The first run from a place and a state on. Designations, and text that leaves the state as it is, are passed by their octets, and any other
 // element by itself.
-fn run_from(s: &[u8], place: usize, state: State) -> RunStep
-    requires { ⌜ mayStand (length (now s)) place state ≡ true ⌝ }
+pub fn run_from(s: &[u8], place: usize, state: State) -> RunStep
     ensures { λ r. ⌜ r ≡ runFrom (now (s .entry)) place state ⌝ }
 {
     let mut at = place;
@@ -150,9 +148,8 @@ pub fn known(s: &[u8], checked: bool) -> Answer
     check_string::answer(s)
 }
 
-// The first run from a position on, which may stand in the string; the string is checked where that is not done yet.
+// The first run from a position on; the string is checked where that is not done yet.
 fn checked_from(s: &[u8], p: RunPosition) -> RunStep
-    requires { ⌜ mayStand (length (now s)) (p .place) (p .state) ≡ true ⌝ }
     ensures { λ r. ⌜ r ≡ checkedFrom (now (s .entry)) p ⌝ }
 {
     let answer = known(s, p.checked);
@@ -174,33 +171,4 @@ pub fn next_run(s: &[u8], p: RunPosition) -> RunStep
         return checked_from(s, p);
     }
     stays(p, Answer::refused(refusal::BAD_UNIT, 0))
-}
-
-// The run of a number, by as many steps. Where a step shows none, all after it answer the same.
-pub fn numbered(s: &[u8], k: usize) -> Bounds
-    ensures { λ r. ⌜ r ≡ runAt (now (s .entry)) k ⌝ }
-{
-    let checked = check_string::answer(s);
-    if checked.number != refusal::ACCEPTED {
-        return crate::no_run(checked);
-    }
-    let mut at: usize = 0;
-    let mut st = State::FRESH;
-    let mut left = k;
-    loop {
-        let t = run_from(s, at, st);
-        let run = t.run;
-        let answer = run.answer;
-        if left == 0 {
-            return run;
-        }
-        if answer.number != refusal::ACCEPTED {
-            return run;
-        }
-        let p = t.position;
-        let next = p.state;
-        at = p.place;
-        st = next;
-        left -= 1;
-    }
 }

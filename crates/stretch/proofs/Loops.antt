@@ -133,25 +133,25 @@ module _ (left right : ℕ) where
 
 -- ---- characters of two octets
 
-module _ (side : ℕ) (s : List ℕ) (i : ℕ) where
-  two-octets : 1 < length s - i → from i s ≡ getD s i 0 ∷ getD s (i + 1) 0 ∷ from (i + 2) s
-  two-octets h =
-      let e : i + 1 + 1 ≡ i + 2 = omega arith in
-      from-octet s i (omega arith) ∙ ap (λ (t : List ℕ). getD s i 0 ∷ t)
-      (from-octet s (i + 1) (omega arith) ∙ ap (λ (n : ℕ). getD s (i + 1) 0 ∷ from n s) e)
+pub two-octets : (s : List ℕ) (i : ℕ) → 1 < length s - i → from i s ≡ getD s i 0 ∷ getD s (i + 1) 0 ∷ from (i + 2) s
+two-octets s i h =
+    let e : i + 1 + 1 ≡ i + 2 = omega arith in
+    from-octet s i (omega arith) ∙ ap (λ (t : List ℕ). getD s i 0 ∷ t)
+    (from-octet s (i + 1) (omega arith) ∙ ap (λ (n : ℕ). getD s (i + 1) 0 ∷ from n s) e)
 
+module _ (side : ℕ) (s : List ℕ) (i : ℕ) where
   pair-yes : 1 < length s - i → graphicOn side (getD s i 0) ≡ true → graphicOn side (getD s (i + 1) 0) ≡ true
       → pairsOf side (from i s) ≡ suc (pairsOf side (from (i + 2) s))
   unfolding leadOf twoAt pick
-  pair-yes h a b = rw (two-octets h, a, b)
+  pair-yes h a b = rw (two-octets s i h, a, b)
 
   pub pair-no : 1 < length s - i → graphicOn side (getD s i 0) ≡ false → pairsOf side (from i s) ≡ 0
   unfolding leadOf twoAt pick
-  pair-no h a = rw (two-octets h, a)
+  pair-no h a = rw (two-octets s i h, a)
 
   pub pair-not : 1 < length s - i → graphicOn side (getD s i 0) ≡ true → graphicOn side (getD s (i + 1) 0) ≡ false → pairsOf side (from i s) ≡ 0
   unfolding leadOf twoAt pick
-  pair-not h a b = rw (two-octets h, a, b)
+  pair-not h a b = rw (two-octets s i h, a, b)
 
   pair-one : (t : List ℕ) → length t ≤ 1 → pairsOf side t ≡ 0
   unfolding leadOf twoAt pick

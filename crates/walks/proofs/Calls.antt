@@ -3,9 +3,8 @@
 --                             what it was lent for good, or with those values
 --     ends-some, gave-one     what a contract says of the last values, where its `ensures` is a fact of the result and of one of them; and
 --                             what the call leaves
---     calls-value             a call whose contract gives its result whole, as a value x: what lands is the machine value of x
---     calls-ends              the same, with something said of some last values of what it was lent for good
---     calls-some              a call whose contract says something of its result, which owns something, as a part of a slice does
+--     calls-ends              a call whose contract gives its result whole, as a value x, and says something of some last values of what it was
+--                             lent for good: what lands is the machine value of x
 --     calls-whole             a call that is passed all that the function was: of the machine value that comes back it is known that it is of
 --                             the result's type
 --     Open                    what the holder of a `&mut` slice has while that is lent to a call, for a lifetime that ends with the call: the
@@ -15,7 +14,8 @@
 --     Parts, PartsBut         each part of a formula X ∗ (Y ∗ .. ∗ true), as what the arguments own is, had from P; but one of them from Q
 --     plain                   a part that is plain data, and so had from anything
 --     Spares                  the tokens that a call asks, out of those there are, and back
---     calls                   a call whose parameters are plain data and `&`s
+--     gets                    a call whose parameters are plain data and `&`s, and whose result owns something, as a part of a slice does
+--     calls                   the same, with a result that is plain data
 --     Loan, lends             a call that is lent a `&mut [T]` beside these: what it leaves is some list with φ
 --     ends                    a return, of a function that was itself lent a `&mut [T]` beside these
 use mathlib.Core.Path.{_≡_, refl, ap, subst, sym, _∙_}
@@ -170,42 +170,6 @@ module _ {M : Type 1} {𝓤 : URA M} {H : Heap 𝓤} {A : Atoms 𝓤} {K : Type 
       (raw (Tok 𝓤 H A W D c y) ⊛ ‵ (Q z)))))
       (gave-some 𝓤 H A W D c y x φ Q w vals tl u) $ await t tt $ pick t (λ z. learn t (λ e.
       split t $ regoal t (λ (v : Val). lands C Λ E d v rest q) (e .0 .0) refl $ k z (e .1) (e .0 .1))))
-
-  -- a call that is given none
-  pub calls-value : K → FmC 𝓤 H (W .laws) C → (D : Ended) (c : Clauses 𝓤 D) → Triple 𝓤 (C f) (Meant 𝓤 H A W D c)
-      → (y : Binds 𝓤 H A W D c) (x : Result 𝓤 H A W D c y) → Whole 𝓤 H A W D c y x
-      → (vals : Result 𝓤 H A W D c y → List Val) → Tells (Row 𝓤 H A W D c y) (Is (Row 𝓤 H A W D c y)) vals
-      → Opds K W (raw (Meant 𝓤 H A W D c .pre y) ∷ Γ) E xs (Meant 𝓤 H A W D c .args y)
-      → (Is (Row 𝓤 H A W D c y) x (only (vals x) ∷ []) → Seq K W (raw (Tok 𝓤 H A W D c y) ∷ Γ) (lands C Λ E d (only (vals x)) rest q))
-      → Seq K W (raw (Meant 𝓤 H A W D c .pre y) ∷ Γ) (runs C Λ E (seq (call f xs d) rest) q)
-  calls-value t fm D c known y x w vals tl os k =
-      calls-ends t fm D c known y x {Z = Unit {0}} (λ _. Unit {0}) (λ _. ftrue)
-      (λ r ws. qed W (‵ (last 𝓤 H A W D c y ws) ∷ raw (says-of 𝓤 H A W D c y r ws) ∷ []) ∵ move ! (1 ∷ []) $
-      use1 W (raw (fact 𝓤 (r ≡ x))) (w r (atExit D (y .0 .0) (y .0 .3) ws)) $ heard ! (r ≡ x) (λ e. let-go ! $
-      show ! (λ (_ : Unit {0}). guard 𝓤 ((r ≡ x) × Unit {0}) (sem 𝓤 H A ftrue)) tt $ check ! (e, tt) $ done !)) vals tl os
-      (λ _ _ is. move t (1 ∷ []) $ let-go t $ k is)
-
-  -- a call whose contract says something of the result, as of a part of a slice that is handed back: some r with φ r comes back, and what it owns
-  pub calls-some : K → FmC 𝓤 H (W .laws) C → (D : Ended) (c : Clauses 𝓤 D) → Triple 𝓤 (C f) (Meant 𝓤 H A W D c)
-      → (y : Binds 𝓤 H A W D c) (φ : Result 𝓤 H A W D c y → Type 0)
-      → ((r : Result 𝓤 H A W D c y) (e : AtExit D (y .0 .0)) → ent 𝓤 (c (y .0 .0) (y .0 .3) .ensures (y .1) r e) (fact 𝓤 (φ r)))
-      → (vals : Result 𝓤 H A W D c y → List Val) → Tells (Row 𝓤 H A W D c y) (Is (Row 𝓤 H A W D c y)) vals
-      → Opds K W (raw (Meant 𝓤 H A W D c .pre y) ∷ Γ) E xs (Meant 𝓤 H A W D c .args y)
-      → ((r : Result 𝓤 H A W D c y) → φ r → Is (Row 𝓤 H A W D c y) r (only (vals r) ∷ [])
-      → Seq K W (raw (Tok 𝓤 H A W D c y) ∷ ‵ (Row 𝓤 H A W D c y .own r (only (vals r) ∷ [])) ∷ Γ) (lands C Λ E d (only (vals r)) rest q))
-      → Seq K W (raw (Meant 𝓤 H A W D c .pre y) ∷ Γ) (runs C Λ E (seq (call f xs d) rest) q)
-  calls-some t fm D c known y φ w vals tl os k =
-      let T : RattleType = Row 𝓤 H A W D c y in
-      calls-at t fm (Meant 𝓤 H A W D c) known y os (λ u.
-      use1 W (later (some (λ (r : Result 𝓤 H A W D c y). (raw (Tok 𝓤 H A W D c y) ⊛ ‵ (T .own r (u ∷ []))) ⊛ raw
-      (ensured 𝓤 H A D c (y .0 .0) (y .0 .3) (y .1) r))))
-      (id⊢ 𝓤 _) $ await t tt $ pick t (λ r. split t $ move t (1 ∷ []) $
-      use1 W (some (λ (ws : Ws 𝓤 H A W D c y). ‵ (last 𝓤 H A W D c y ws) ⊛ raw (says-of 𝓤 H A W D c y r ws))) (id⊢ 𝓤 _) $
-      pick t (λ ws. split t $ let-go t $
-      use1 W (raw (fact 𝓤 (φ r))) (w r (atExit D (y .0 .0) (y .0 .3) ws)) $ heard t (φ r) (λ e. split t $ move t (1 ∷ []) $
-      peeks t T (Is T) (shows 𝓤 H A T) r (u ∷ []) (λ is.
-      rewrite t 0 (λ (v : Val). ‵ (T .own r (v ∷ []))) (told 𝓤 H A W D c y vals tl r u is) refl $ move t (1 ∷ 0 ∷ []) $
-      regoal t (λ (v : Val). lands C Λ E d v rest q) (told 𝓤 H A W D c y vals tl r u is) refl $ k r e (told-is 𝓤 H A W D c y vals tl r u is))))))
 
 -- ---- a list that is lent
 -- the reference to a list at a place, under a ghost name
@@ -367,6 +331,48 @@ module _ {M : Type 1} {𝓤 : URA M} {H : Heap 𝓤} {A : Atoms 𝓤} {K : Type 
             (W .laws .⇛-intro _);
       }
 
+  -- a call whose contract says something of the result, as of a part of a slice that is handed back: some r with φ r comes back, and what it owns
+  pub gets : K → (𝓣 : Tables 𝓤 H) {Γ : List (Item 𝓤)} (n : ℕ) {T P : Item 𝓤} → nth 𝓤 H A n Γ ≡ T ⊛ P
+      → ent 𝓤 (mean 𝓤 H A P) (sep 𝓤 (mean 𝓤 H A P) (mean 𝓤 H A P)) → (D : Ended) (c : Clauses 𝓤 D)
+      → Triple 𝓤 (𝓣 .C f) (Meant 𝓤 H A W D c)
+      → (y : Binds 𝓤 H A W D c) → Spares 𝓤 (mean 𝓤 H A T) (Tok 𝓤 H A W D c y)
+      → Parts W (mean 𝓤 H A P) (owns (typesAt (D .signature .params) (y .0 .0)) (y .0 .3) (y .0 .4))
+      → ent 𝓤 (emp 𝓤) (c (y .0 .0) (y .0 .3) .requires (y .1)) → (φ : Result 𝓤 H A W D c y → Type 0)
+      → ((r : Result 𝓤 H A W D c y) (e : AtExit D (y .0 .0)) → ent 𝓤 (c (y .0 .0) (y .0 .3) .ensures (y .1) r e) (fact 𝓤 (φ r)))
+      → (vals : Result 𝓤 H A W D c y → List Val) → Tells (Row 𝓤 H A W D c y) (Is (Row 𝓤 H A W D c y)) vals
+      → Opds K W Γ E xs (Meant 𝓤 H A W D c .args y)
+      → ((r : Result 𝓤 H A W D c y) → φ r → Is (Row 𝓤 H A W D c y) r (only (vals r) ∷ [])
+      → Seq K W (‵ (Row 𝓤 H A W D c y .own r (only (vals r) ∷ [])) ∷ Γ) (lands (𝓣 .C) (𝓣 .Λ) E d (only (vals r)) rest q))
+      → Seq K W Γ (runs (𝓣 .C) (𝓣 .Λ) E (seq (call f xs d) rest) q)
+  gets t 𝓣 {Γ} n {T} {P} e twice D c known y sp parts asked φ w vals tl os k =
+      let B : SProp 𝓤 = Tok 𝓤 H A W D c y in
+      let R : RattleType = Row 𝓤 H A W D c y in
+      called 𝓣 (raw (sp .rest) ∷ P ∷ del 𝓤 H A n Γ) (Meant 𝓤 H A W D c .args y) os (raw (Meant 𝓤 H A W D c .pre y))
+      (Meant 𝓤 H A W D c .post y)
+      (qed W Γ ∵ move ! (n ∷ []) $ rewrite ! 0 (λ (i : Item 𝓤). i) e refl $ split ! $
+      use1 W (raw B ⊛ raw (sp .rest)) (sp .give) $ split ! $ move ! (2 ∷ []) $ use1 W (P ⊛ P) twice $ split ! $
+      use1 W (‵ (owns (typesAt (D .signature .params) (y .0 .0)) (y .0 .3) (y .0 .4))) (parts⊢ W (mean 𝓤 H A P) twice parts) $
+      move ! (2 ∷ 0 ∷ []) $ join ! $ use0 W (raw (c (y .0 .0) (y .0 .3) .requires (y .1))) asked $ move ! (1 ∷ 0 ∷ []) $ join ! $
+      use1 W (raw (Meant 𝓤 H A W D c .pre y)) (id⊢ 𝓤 _) $ frame ! $ move ! (1 ∷ 0 ∷ []) $ done !)
+      (known y) (λ u.
+      use1 W (later (some (λ (r : Result 𝓤 H A W D c y). (raw B ⊛ ‵ (R .own r (u ∷ []))) ⊛ raw
+      (ensured 𝓤 H A D c (y .0 .0) (y .0 .3) (y .1) r))))
+      (id⊢ 𝓤 _) $ await t tt $ pick t (λ r. split t $ move t (1 ∷ []) $
+      use1 W (some (λ (ws : Ws 𝓤 H A W D c y). ‵ (last 𝓤 H A W D c y ws) ⊛ raw (says-of 𝓤 H A W D c y r ws))) (id⊢ 𝓤 _) $
+      pick t (λ ws. split t $ let-go t $
+      use1 W (raw (fact 𝓤 (φ r))) (w r (atExit D (y .0 .0) (y .0 .3) ws)) $ heard t (φ r) (λ said. split t $ move t (1 ∷ []) $
+      peeks t R (Is R) (shows 𝓤 H A R) r (u ∷ []) (λ is.
+      rewrite t 0 (λ (v : Val). ‵ (R .own r (v ∷ []))) (told 𝓤 H A W D c y vals tl r u is) refl $
+      -- [what the result owns; the tokens asked; those left; P]
+      move t (1 ∷ 2 ∷ []) $ join t $ use1 W T (sp .back) $ move t (0 ∷ 2 ∷ []) $ join t $ move t (1 ∷ []) $
+      regoal t (λ (v : Val). lands (𝓣 .C) (𝓣 .Λ) E d v rest q) (told 𝓤 H A W D c y vals tl r u is) refl $
+      let own : Item 𝓤 = ‵ (R .own r (only (vals r) ∷ [])) in
+      by t (via 𝓤 _ (pop 𝓤 H A own ((T ⊛ P) ∷ del 𝓤 H A n Γ))
+      (via 𝓤 _ (monoR 𝓤 (mean 𝓤 H A own) (via 𝓤 _ (pop 𝓤 H A (T ⊛ P) (del 𝓤 H A n Γ))
+      (subst (λ (i : Item 𝓤). ent 𝓤 (sep 𝓤 (mean 𝓤 H A i) (⋆ 𝓤 H A (del 𝓤 H A n Γ))) (⋆ 𝓤 H A Γ)) e (unpull 𝓤 H A n Γ))))
+      (via 𝓤 _ (push 𝓤 H A own Γ) (k r said (told-is 𝓤 H A W D c y vals tl r u is) .prf)))))))))
+
+  -- a call whose contract gives the result whole, as plain data x
   pub calls : K → (𝓣 : Tables 𝓤 H) {Γ : List (Item 𝓤)} (n : ℕ) {T P : Item 𝓤} → nth 𝓤 H A n Γ ≡ T ⊛ P
       → ent 𝓤 (mean 𝓤 H A P) (sep 𝓤 (mean 𝓤 H A P) (mean 𝓤 H A P)) → (D : Ended) (c : Clauses 𝓤 D)
       → Triple 𝓤 (𝓣 .C f) (Meant 𝓤 H A W D c)
@@ -377,26 +383,10 @@ module _ {M : Type 1} {𝓤 : URA M} {H : Heap 𝓤} {A : Atoms 𝓤} {K : Type 
       → (Is (Row 𝓤 H A W D c y) x (r .val x ∷ []) → Holds (hasTy (lone (Row 𝓤 H A W D c y .mir)) (r .val x)) × WT (r .val x)
       → Seq K W Γ (lands (𝓣 .C) (𝓣 .Λ) E d (r .val x) rest q))
       → Seq K W Γ (runs (𝓣 .C) (𝓣 .Λ) E (seq (call f xs d) rest) q)
-  calls t 𝓣 {Γ} n {T} {P} e twice D c known y sp parts asked x whole r os k =
-      let B : SProp 𝓤 = Tok 𝓤 H A W D c y in
-      called 𝓣 (raw (sp .rest) ∷ P ∷ del 𝓤 H A n Γ) (Meant 𝓤 H A W D c .args y) os (raw (Meant 𝓤 H A W D c .pre y))
-      (Meant 𝓤 H A W D c .post y)
-      (qed W Γ ∵ move ! (n ∷ []) $ rewrite ! 0 (λ (i : Item 𝓤). i) e refl $ split ! $
-      use1 W (raw B ⊛ raw (sp .rest)) (sp .give) $ split ! $ move ! (2 ∷ []) $ use1 W (P ⊛ P) twice $ split ! $
-      use1 W (‵ (owns (typesAt (D .signature .params) (y .0 .0)) (y .0 .3) (y .0 .4))) (parts⊢ W (mean 𝓤 H A P) twice parts) $
-      move ! (2 ∷ 0 ∷ []) $ join ! $ use0 W (raw (c (y .0 .0) (y .0 .3) .requires (y .1))) asked $ move ! (1 ∷ 0 ∷ []) $ join ! $
-      use1 W (raw (Meant 𝓤 H A W D c .pre y)) (id⊢ 𝓤 _) $ frame ! $ move ! (1 ∷ 0 ∷ []) $ done !)
-      (known y) (λ u.
-      use1 W (later (given ((u ≡ r .val x) × Is (Row 𝓤 H A W D c y) x (r .val x ∷ [])) (raw B ⊛ ‵ ftrue)))
-      (gave-value 𝓤 H A W D c y x ftrue (λ r ws. qed W (‵ (last 𝓤 H A W D c y ws) ∷ raw (says-of 𝓤 H A W D c y r ws) ∷ []) ∵
-      move ! (1 ∷ []) $
-      use1 W (raw (fact 𝓤 (r ≡ x))) (whole r (atExit D (y .0 .0) (y .0 .3) ws)) $ heard ! (r ≡ x) (λ e. let-go ! $ check ! e $ done !))
-      (λ z. r .val z ∷ []) (r .tells) u) $
-      await t tt $ learn t (λ is. split t $ move t (1 ∷ []) $ let-go t $ join t $ use1 W T (sp .back) $ join t $
-      regoal t (λ (v : Val). lands (𝓣 .C) (𝓣 .Λ) E d v rest q) (is .0) refl $ by t
-      (via 𝓤 _ (pop 𝓤 H A (T ⊛ P) (del 𝓤 H A n Γ))
-      (via 𝓤 _ (subst (λ (i : Item 𝓤). ent 𝓤 (sep 𝓤 (mean 𝓤 H A i) (⋆ 𝓤 H A (del 𝓤 H A n Γ)))
-      (⋆ 𝓤 H A Γ)) e (unpull 𝓤 H A n Γ)) (k (is .1) (r .typed 𝓤 H A W x (is .1)) .prf)))))
+  calls t 𝓣 n e twice D c known y sp parts asked x whole r os k =
+      gets t 𝓣 n e twice D c known y sp parts asked (λ z. z ≡ x) whole (λ z. r .val z ∷ []) (r .tells) os (λ z i is.
+      let is-x : Is (Row 𝓤 H A W D c y) x (r .val x ∷ []) = subst (λ (z : Result 𝓤 H A W D c y). Is (Row 𝓤 H A W D c y) z (r .val z ∷ [])) i is in
+      let-go t $ regoal t (λ (v : Val). lands (𝓣 .C) (𝓣 .Λ) E d v rest q) (ap (r .val) i) refl $ k is-x (r .typed 𝓤 H A W x is-x))
 
 -- ---- a call that is lent a list
 -- what it is lent: the list l, at b and o, for a lifetime ν of its own and under a ghost name δ; what else it is given; and what its contract

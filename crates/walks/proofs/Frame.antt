@@ -1,7 +1,7 @@
 -- The locals of a function, all at once. In the context of a walk they stand after what else is owned, the last local first.
 --     Blocks, envOf   the blocks that the locals get at the entry, and the environment that the code then runs in
 --     laid            the locals of an environment, each empty or with a value; those that no value is given for are empty
---     enters          into a function: its locals are allocated and its parameters stored
+--     enters-with     into a function: its locals are allocated, after what else is owned, and its parameters stored
 --     clears          of the entries from a place on, so many are made room again, whatever they hold
 --     leaves          the locals are freed at a return: what is left is what stands before them
 use mathlib.Core.Path.{_≡_, refl, sym, _∙_, ap, subst}
@@ -285,18 +285,11 @@ module _ {M : Type 1} {𝓤 : URA M} {H : Heap 𝓤} {A : Atoms 𝓤} {K : Type 
   params-all t [] vs Γ f s = absurd f
   params-all t (e ∷ E) vs Γ f s = params1 t $ passes-all t E vs (one e empty Γ) f s
 
-  pub enters : K → {Γ : List (Item 𝓤)} (C : Calls 𝓤 H) (Λ : Loops 𝓤 H) (f : Fn) (vs : List Val) (Kf : Val → SProp 𝓤)
-      → ((bs : Blocks (f .locals)) → FitAfter (envOf (f .locals) bs) vs)
-      → ((bs : Blocks (f .locals)) → Seq K W (laid (envOf (f .locals) bs) (empty ∷ each-full vs) Γ)
-      (runs C Λ (envOf (f .locals) bs) (f .body) (atRet (envOf (f .locals) bs) Kf)))
-      → Seq K W Γ (prop (WpFn 𝓤 H C Λ f vs Kf))
-  enters t {Γ} C Λ f vs Kf fit k = enter t C Λ f vs Kf $ allocs-all t (f .locals) Γ (λ bs. params-all t (envOf (f .locals) bs) vs Γ (fit bs) (k bs))
-
-  -- the same, with the locals after what else is owned
   pub enters-with : K → {Γ : List (Item 𝓤)} (C : Calls 𝓤 H) (Λ : Loops 𝓤 H) (f : Fn) (vs : List Val) (Kf : Val → SProp 𝓤)
       → ((bs : Blocks (f .locals)) → FitAfter (envOf (f .locals) bs) vs)
       → ((bs : Blocks (f .locals)) → Seq K W (Γ ++ laid (envOf (f .locals) bs) (empty ∷ each-full vs) [])
       (runs C Λ (envOf (f .locals) bs) (f .body) (atRet (envOf (f .locals) bs) Kf)))
       → Seq K W Γ (prop (WpFn 𝓤 H C Λ f vs Kf))
   enters-with t {Γ} C Λ f vs Kf fit k =
-      enters t C Λ f vs Kf fit (λ bs. record { prf = via 𝓤 _ (over H A (envOf (f .locals) bs) (empty ∷ each-full vs) Γ) (k bs .prf) })
+      enter t C Λ f vs Kf $ allocs-all t (f .locals) Γ (λ bs. params-all t (envOf (f .locals) bs) vs Γ (fit bs)
+      (record { prf = via 𝓤 _ (over H A (envOf (f .locals) bs) (empty ∷ each-full vs) Γ) (k bs .prf) }))

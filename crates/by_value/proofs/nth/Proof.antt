@@ -2,17 +2,17 @@
 -- turn of a loop and once more after it; what `next` then hands out is item k of the string (`opened-items`).
 -- Assumes nothing.
 use Rattle.walks.proofs.Names.{_≡_, refl, ℕ, suc, _+_, _-_, _≤_, _<_, _^_, List, [], _∷_, length, fullShare, named, erased, w64, Val, vint, vptr}
-use Rattle.walks.proofs.Names.{SProp, ent, sep, guard, id⊢, GName, ftrue, flft, fat, sem, fact, ‵, raw, _⊛_, prop, atRet, Sq, _$_, _∵_, !, qed, move}
+use Rattle.walks.proofs.Names.{SProp, ent, sep, guard, id⊢, GName, flft, fat, sem, fact, ‵, raw, prop, atRet, Sq, _$_, _∵_, !, qed, move}
 use Rattle.walks.proofs.Names.{keep, let-go, use1, use2, rewrite, fsplit, frame, done, stop, from, lit, of-opd, bin, addr, no-more, cellAt, Is, u8, RefT}
 use Rattle.walks.proofs.Names.{MutRef, nothing, lasts}
 use Rattle.walks.proofs.Names as kit
 use Rattle.walks.proofs.Body.{tests, 𝓣of}
 use Rattle.walks.proofs.Data.{Data, number, enum, Params, shared, by-value, stays}
 use Rattle.walks.proofs.Entry.{Bound, End, Walk, walk-in, cites}
-use Rattle.walks.proofs.Calls.{calls-some, gave-value}
+use Rattle.walks.proofs.Calls.{gets, all, _&_, the-one, gave-value}
 use Rattle.walks.proofs.Loop.{Turns, rounds, loop-by}
 use Rattle.walks.proofs.Frame.{Blocks, envOf, clears, leaves, empty, full, laid}
-use Rattle.walks.proofs.Steps.{var, arg, sets, resets-last, lands-in, recasts, in64, copies, number as beside-number, joins, fjoins}
+use Rattle.walks.proofs.Steps.{var, arg, sets, resets-last, lands-in, recasts, in64, number as beside-number, joins, fjoins}
 use Rattle.walks.proofs.Locals.{calls-local, Tokens}
 use native.Mathlib.Nat.{le-antisymm}
 use Rattle.element.proofs.Names.{add-one, arith, ltb, ltb→lt, nltb→le, lit<, afterTurn}
@@ -57,10 +57,7 @@ module _ {M : Type 1} (𝓤 : kit.URA M) (H : kit.Heap 𝓤) (𝓜 : kit.Model �
   fm : kit.FmC 𝓤 H (W .laws) (𝓣 .C)
   fm = kit.fmOf 𝓤 H (W .laws) 𝓣
 
-  -- the contracts that the proof cites
-  abbrev Open : kit.Contract 𝓤
-  Open = kit.tripleOf 𝓤 H A opn.signature (opn.spec 𝓤 H A (𝓜 .mem) (𝓡 .run))
-
+  -- the contract that the loop cites
   abbrev Next : kit.Contract 𝓤
   Next = kit.tripleOf 𝓤 H A next.signature (next.spec 𝓤 H A (𝓜 .mem) (𝓡 .run))
 
@@ -130,13 +127,6 @@ module _ {M : Type 1} (𝓤 : kit.URA M) (H : kit.Heap 𝓤) (𝓜 : kit.Model �
       fpick ! (λ vs. fsplit ! $ kit.spelt ! R (Is R) (kit.shows 𝓤 H A R) (LL.vals D L) (LL.tells D L) fullShare h vs b 0 $
       use1 W (‵ (fat fullShare (T′.mir erased) b 0 (T′.lowered h))) (W .laws .raw-at fullShare (T′.mir erased) b 0 (T′.lowered h)) $
       keep ! (0 ∷ []) $ done !)
-
-  -- ---- `open`
-  abbrev to-open : Open .Ghost
-  to-open = (((κ, tt), (q, tt), tt, (s, tt), (v ∷ [], tt)), tt)
-
-  asks-open : Sq W (‵ (flft κ q) ∷ ‵ Own ∷ []) (prop (Open .pre to-open))
-  asks-open = nothing ! $ joins ! 0 refl $ nothing ! $ fjoins ! 1 refl $ joins ! 0 refl $ frame ! $ done !
 
   -- ---- `next`, on the local at b
   module _ (b : ℕ) (h : Reader) where
@@ -232,19 +222,19 @@ module _ {M : Type 1} (𝓤 : kit.URA M) (H : kit.Heap 𝓤) (𝓜 : kit.Model �
   unfolding readerAfter
   walk bs =
       -- [the token; what s owns; what the number owns; the locals]
-      move ! (2 ∷ []) $ let-go ! $ move ! (1 ∷ []) $ copies ! (named 0) κ u8 s (v ∷ []) $ move ! (2 ∷ 0 ∷ []) $
-      use2 W (raw (Open .pre to-open)) (asks-open .prf) $
-      calls-some ! fm opn.ended (opn.clauses 𝓤 H A (𝓜 .mem) (𝓡 .run))
-      (cites 𝓤 H 𝓜 𝓖 𝓡 code.env code.calls-reader·open (opn.Met.met 𝓤 H 𝓜 𝓖 𝓡)) to-open (λ r. r ≡ opened s) (λ r e.
-      id⊢ 𝓤 _) (LL.vals D L) (LL.tells D L) (arg ! 18 refl (no-more !)) (λ r e is.
-      -- [the token; what the reader owns; what s owns; the locals]
-      lands-in ! 11 refl (LL.lawful D L 𝓤 H A W .typed r _ is .0) $ recasts ! 11 T′.lowered e refl $
-      rewrite ! 1 (λ (z : Reader). ‵ (R .own z (T′.lowered z ∷ []))) e refl $
-      sets ! 15 (of-opd ! (var ! 11 refl)) refl
+      move ! (2 ∷ []) $ let-go ! $ kit.join ! $
+      gets ! 𝓣 0 refl (kit.shr-slice-copy 𝓤 H A W (named 0) κ u8 .twice s (v ∷ [])) opn.ended (opn.clauses 𝓤 H A (𝓜 .mem) (𝓡 .run))
+      (cites 𝓤 H 𝓜 𝓖 𝓡 code.env code.calls-reader·open (opn.Met.met 𝓤 H 𝓜 𝓖 𝓡))
+      (((κ, tt), (q, tt), tt, (s, tt), (v ∷ [], tt)), tt) (the-one W κ q) (id⊢ 𝓤 _ & all) (id⊢ 𝓤 _)
+      (λ r. r ≡ opened s) (λ r e. id⊢ 𝓤 _) (LL.vals D L) (LL.tells D L) (arg ! 17 refl (no-more !)) (λ r e is.
+      -- [what the reader owns; the string; the locals]
+      lands-in ! 10 refl (LL.lawful D L 𝓤 H A W .typed r _ is .0) $ recasts ! 10 T′.lowered e refl $
+      rewrite ! 0 (λ (z : Reader). ‵ (R .own z (T′.lowered z ∷ []))) e refl $
+      sets ! 14 (of-opd ! (var ! 10 refl)) refl
       (LL.lawful D L 𝓤 H A W .typed (opened s) _ (kit.subst (λ (z : Reader). Is R z (T′.lowered z ∷ [])) e is) .0) $
-      sets ! 13 (of-opd ! (lit ! tt)) refl (in64 (lit< tt)) $ kit.forget ! 11 refl $
-      move ! (15 ∷ 1 ∷ []) $ use2 W (‵ (partAt R fullShare (opened s) (bs .1 .1 .1 .0) 0)) (lie-in (opened s) (bs .1 .1 .1 .0)) $ move ! (1 ∷ []) $
-      use1 W (‵ (flft κ q) ⊛ ‵ ftrue) (id⊢ 𝓤 _) $ kit.split ! $ move ! (1 ∷ []) $ let-go ! $ move ! (1 ∷ 0 ∷ []) $
+      sets ! 12 (of-opd ! (lit ! tt)) refl (in64 (lit< tt)) $ kit.forget ! 10 refl $
+      move ! (14 ∷ 0 ∷ []) $ use2 W (‵ (partAt R fullShare (opened s) (bs .1 .1 .1 .0) 0)) (lie-in (opened s) (bs .1 .1 .1 .0)) $
+      move ! (1 ∷ []) $ kit.split ! $ move ! (2 ∷ []) $
       loop-by W 𝓣 (envOf (code.function .locals) bs) Post code.Mir.turn-1 code.Mir.t-5 μ (At bs) (turns bs) (0, kit.zero-le))
 
 pub nth-spec : {M : Type 1} → nth.Statement.statement M

@@ -1,5 +1,5 @@
 -- `stepping::next_run` meets its contract, test by test.
-use Rattle.element.proofs.Names.{arith, sym, _∙_, ladder}
+use Rattle.element.proofs.Names.{arith, ladder}
 use Rattle.runs.specs.Steps.{nextRunOf}
 use Rattle.runs.proofs.stepping.next_run.Statement.{statement}
 use Rattle.runs.proofs.stepping.next_run.Tie as tie
@@ -7,9 +7,6 @@ use Rattle.runs.proofs.stepping.next_run.Tie as tie
 returns : tie.Need-returns
 unfolding nextRunOf
 returns c = rw (c .stays .ensures, c .before .refused .ensures) (search ladder depth 9)
-
-checked-from-requires : tie.Need-checked-from-requires
-checked-from-requires c κs = sym (c .before .may-stand .ensures) ∙ c .if2 .taken
 
 returns-3 : tie.Need-returns-3
 unfolding nextRunOf
@@ -24,7 +21,7 @@ next-run-spec =
     (search arith)
     returns
     (search arith)
-    checked-from-requires
+    (search arith)
     (λ c. search ladder depth 9)
     (search arith)
     (search arith)
