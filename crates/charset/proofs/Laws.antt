@@ -10,12 +10,11 @@ use mathlib.Core.Path.{_≡_, refl, sym, subst}
 use mathlib.Core.Bool.{Bool, true, false, not, false≢true}
 use mathlib.Core.List.{List, [], _∷_}
 use lib.ListN.{length, getD, List·getD-eq-default}
-use Rattle.charset.specs.Charsets.{Row}
+use Rattle.charset.specs.Charsets.{Row, form-96, form-94x94, Named, row, rows, rowOf, mayUse, allowed, fitsOf, find, setOf, formOf}
 use Rattle.charset.specs.declared.Side.{Side}
 use Rattle.charset.specs.declared.Side.the-variants.{GL, GR}
 use Rattle.base.specs.Choice.{pick}
 use Rattle.base.proofs.Bools.{implies, implies-elim, pick-both, up-to, upTo}
-use Rattle.charset.specs.Charsets.{form-96, form-94x94, Named, row, rows, rowOf, mayUse, allowed, fitsOf, find, setOf, formOf}
 
 -- past the table there is no set
 pub row-past : (n : ℕ) → 15 ≤ n → rowOf n ≡ row 0 0 false false

@@ -1,9 +1,8 @@
 -- Each element of the grammar is one that the reader's definition takes.
-use Rattle.element.proofs.Names.{ℕ, _+_, _*_, _-_, _/_, _%_, _≤_, _<_, arith, not-suc-le-zero, _≡_, refl, sym, ap, _∙_, Bool, true, false, cond, _&&_}
-use Rattle.element.proofs.Names.{true≢false, List, _∷_, _++_, eqb, leb, ltb, length, length-append, take-append-seam, eqb-true, leb-true, lt-ltb, le-ltb}
-use Rattle.element.proofs.Names.{le-leb, eq-eqb, pick, and-left, and-right, off, test, cond-by, from-tests, tested, Side, GL, GR, mayUse, allowed, formOf}
-use Rattle.element.proofs.Names.{setOf, on, get, part, next, Sets, Part, Designates, Gives}
-use native.Mathlib.Nat.{le-of-suc-le-suc}
+use Rattle.element.proofs.Names.{ℕ, _+_, _*_, _-_, _/_, _%_, _≤_, arith, _≡_, refl, sym, ap, _∙_, Bool, true, false, cond, _&&_, true≢false, List}
+use Rattle.element.proofs.Names.{_∷_, _++_, eqb, leb, ltb, length, length-append, take-append-seam, eqb-true, leb-true, lt-ltb, le-ltb, le-leb, eq-eqb}
+use Rattle.element.proofs.Names.{pick, and-left, and-right, off, test, cond-by, Side, GL, GR, mayUse, allowed, formOf, setOf, on, get, part, next, Sets, Part}
+use Rattle.element.proofs.Names.{Designates, Gives}
 use Rattle.base.proofs.Bools.{Each, each}
 use Rattle.charset.specs.Charsets.{fitsOf, find}
 use Rattle.charset.proofs.Laws.{allowed-below, left-form}
@@ -19,7 +18,7 @@ use Rattle.grammar.specs.Units.{wide, top, shown, octets, designation, c
 use Rattle.grammar.specs.Grammar.{Shows, Legal}
 use Rattle.grammar.specs.Reading.{unitAt}
 use Rattle.grammar.proofs.Segment.{content}
-use Rattle.grammar.proofs.Good.{GoodSegment, good-segment}
+use Rattle.grammar.proofs.Good.{good-segment}
 
 module _ (s : Sets) where
   -- ---- designations

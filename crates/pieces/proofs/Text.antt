@@ -1,12 +1,12 @@
 -- Characters and spaces: their octets are all of one side, and they change neither the sets nor the direction in force. By the unit
 -- that an element is.
 use Rattle.element.proofs.Names.{ℕ, zero, suc, _+_, _/_, _%_, _<_, arith, _≡_, refl, sym, _∙_, Bool, true, false, List, [], _∷_, _++_, eqb, ltb}
-use Rattle.element.proofs.Names.{length, getD, pick, on-lt, on-ge, and-right, clash, test, form-94x94, no-set, formOf, Side, GL, GR, directions, writtenOf}
-use Rattle.element.proofs.Names.{stepOf, Directions, Goes, Stops}
+use Rattle.element.proofs.Names.{length, getD, pick, on-lt, on-ge, and-right, form-94x94, no-set, formOf, Side, GL, GR, directions, writtenOf, stepOf}
+use Rattle.element.proofs.Names.{Directions, Goes, Stops}
 use Rattle.base.specs.Kind as kind
 use Rattle.base.specs.Refusal as refusal
-use Rattle.grammar.specs.Units.{Control, tab, newline, ltr, rtl, revert, controlKind}
-use Rattle.grammar.specs.Units.{TextUnit, char, space, control, ext, kindOf, wide, top, shown, octets, codeUsed, good}
+use Rattle.grammar.specs.Units.{Control, tab, newline, ltr, rtl, revert, controlKind, TextUnit, char, space, control, ext, kindOf, wide, top, shown, octets}
+use Rattle.grammar.specs.Units.{codeUsed, good}
 use Rattle.grammar.specs.Reading.{direct}
 use Rattle.grammar.proofs.Good.{two-code}
 use Rattle.state.specs.Directions.{inForceOf}

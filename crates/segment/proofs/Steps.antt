@@ -24,8 +24,8 @@ module _ (s : List ℕ) (at : ℕ) where
   on-name-end k r h e = ended (λ (t : List ℕ). nameOf t k) s at r h e
 
   -- the name of the n octets that are lent
-  pub on-body : (d n : ℕ) (name : Name) (r : Shape) → n ≤ length s - at → name ≡ nameOf (take (at + n - at) (drop at s)) 0 → r ≡ contentOf d n name
-      → r ≡ bodyOf d n (from at s)
+  pub on-body : (d n : ℕ) (name : Name) (r : Shape) → n ≤ length s - at → name ≡ nameOf (take (at + n - at) (drop at s)) 0
+      → r ≡ contentOf d n name → r ≡ bodyOf d n (from at s)
   unfolding bodyOf from
   on-body d n name r h e f = on-le n (length (drop at s)) r _ _ (rw (length-drop at s) h) (rw (e, add-sub-cancel-left at n) at f)
 

@@ -3,8 +3,7 @@
 use Rattle.element.proofs.Names.{ℕ, zero, suc, _+_, _/_, _%_, _≤_, _<_, arith, _≡_, refl, Bool, true, _&&_, List, [], _∷_, _++_, Option, none, some}
 use Rattle.element.proofs.Names.{eqb, ltb, length, test, and-right, from-tests, Side, GL, GR, form-94x94, formOf, Standing, on, Sets}
 use Rattle.charset.proofs.Laws.{row-past, by-rows}
-use Rattle.grammar.specs.Units.{TextUnit, char, space, control, tab, newline, ltr, rtl, revert, ext}
-use Rattle.grammar.specs.Units.{wide, top, octets, designation, codeUsed, good}
+use Rattle.grammar.specs.Units.{TextUnit, char, space, control, tab, newline, ltr, rtl, revert, ext, wide, top, octets, designation, codeUsed, good}
 use Rattle.grammar.specs.Grammar.{Reads, done, designate, show}
 use Rattle.grammar.specs.Reading.{Octets}
 use Rattle.grammar.proofs.Good.{one-code, two-code, good-segment}

@@ -29,14 +29,14 @@ use prog.Wp.{Heap, Env, Calls, Loops, Tables, evalOpds}
 use ghost.Atoms.{Atoms, sem}
 use sound.WpLaws.{FmC, fmOf}
 use contract.Monad.{fact, top}
-use types.Kit.{Given, Item, ‵, raw, _⊛_, given, some, later, Post, prop, runs, lands, Seq, Sq, _$_, _∵_, !, qed, move, drop as let-go, use1, split, learn}
-use types.Kit.{pick, check, rewrite, regoal, await, updating, show, done, use3, fsplit, fjoin, frame, mean, ⋆, nth, del, push, pop, unpull, aim, by, keep}
-use types.Kit.{use0, use2, join, suffices, now as at-once}
+use types.Kit.{Given, Item, ‵, raw, _⊛_, given, some, later, Post, prop, runs, lands, Seq, Sq, _$_, _∵_, !, qed, move, drop as let-go, use1, split}
+use types.Kit.{learn, pick, check, rewrite, regoal, await, updating, show, done, use3, fsplit, fjoin, frame, mean, ⋆, nth, del, push, pop, unpull, aim, by}
+use types.Kit.{keep, use0, use2, join, suffices, now as at-once}
 use types.Run.{Opds}
 use denote.RattleType.{RattleType, owns}
 use denote.Laws.{Is, Tells, shows, Typed, Lawful}
 use denote.Signature.{typeAt, typesAt, Signature}
-use denote.Steps.{only, facts, peeks, heard, nothing, said}
+use denote.Steps.{only, facts, peeks, heard, nothing}
 use denote.Triple.Bound.{Bound}
 use denote.Triple.Entry.{Res, alive}
 use denote.Triple.Statement.{Contract, Triple}

@@ -32,8 +32,8 @@ use denote.Enum.Declared as E
 use denote.Enum.Laws as EL
 use denote.Signature.{Slot, AllWithin, plain, shrSliceOf, mutSliceOf, typesAt}
 use denote.Triple.End.{Kepts}
-use denote.Triple.Walked.{Stay, Stays, stay-none, stay-none-slice, stay-slice, gave-slice, Goes, AllGo, goes-none, goes-none-slice}
-use denote.Triple.Walked.{goes-slice, goes-gave-slice}
+use denote.Triple.Walked.{Stay, Stays, stay-none, stay-none-slice, stay-slice, gave-slice, Goes, AllGo, goes-none, goes-none-slice, goes-slice}
+use denote.Triple.Walked.{goes-gave-slice}
 
 pub record Data (R : RattleType) : Type 2 where
   pub val : R .Denot → Val

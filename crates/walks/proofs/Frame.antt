@@ -13,12 +13,12 @@ use lib.Dec.{T}
 use mir.Syntax.{Ty, Local, local, Fn}
 use mir.Val.{Val, WT, hasTy}
 use base.Logic.{SProp, ent, sep, via, id⊢, comm∗, monoL, monoR, assoc′}
-use base.Fml.{Share, Fml, ftrue, ffalse, feq, flt, fsep, fand, for, fwand, fex, fall, fupd, fat, froom, fdies}
-use base.Fml.{flft, fdead, fobs, fauth, fres, fbor, fobor, flent, fshr-bor}
+use base.Fml.{Share, Fml, ftrue, ffalse, feq, flt, fsep, fand, for, fwand, fex, fall, fupd, fat, froom, fdies, flft, fdead, fobs, fauth, fres, fbor, fobor}
+use base.Fml.{flent, fshr-bor}
 use prog.Wp.{Heap, Calls, Loops, WpFn, release}
 use ghost.Atoms.{Atoms, sem}
-use types.Kit.{Given, Item, ‵, raw, _⊛_, some, given, later, mean, ⋆, nth, del, put, pull, push, pop, ++⊢, ⊢++}
-use types.Kit.{Goal, prop, runs, atRet, allocs, params′, passes, frees, aim, Seq, Step, step, _$_}
+use types.Kit.{Given, Item, ‵, raw, _⊛_, some, given, later, mean, ⋆, nth, del, put, pull, push, pop, ++⊢, ⊢++, Goal, prop, runs, atRet, allocs}
+use types.Kit.{params′, passes, frees, aim, Seq, Step, step, _$_}
 use types.Run.{Writes, init, enter, alloc1, alloc0, params1, pass1, pass0}
 
 -- what a local holds

@@ -29,8 +29,8 @@ use base.Fml.{Lft, Fml, fsep, fat, froom}
 use prog.Memory.{fieldOf, fieldAt}
 use prog.Wp.{Heap, Env, Calls, Loops, next}
 use ghost.Atoms.{Atoms, sem}
-use types.Kit.{mean, ⋆, del, pull, push, pop}
-use types.Kit.{Given, Item, ‵, nth, put, Post, post, Goal, prop, runs, lands, Step, step, _$_, _⊛_, move, drop, use1, split, rewrite, fsplit, fjoin}
+use types.Kit.{mean, ⋆, del, pull, push, pop, Given, Item, ‵, nth, put, Post, post, Goal, prop, runs, lands, Step, step, _$_, _⊛_, move, drop, use1}
+use types.Kit.{split, rewrite, fsplit, fjoin}
 use types.Run.{Opd, Opds, Rv, look, init, store, stop, hop, fld, from, load, addr, and-then, no-more, assigns, assigns-last, land}
 use types.Part.{Part, agg, whole, sub, look-in}
 use denote.RattleType.{RattleType}
