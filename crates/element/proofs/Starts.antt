@@ -7,8 +7,8 @@ use mathlib.Core.Bool.{Bool, true, false}
 use lib.Dec.{eqb, ltb}
 use borrow.Author.Tests.{eqb-true, eqb-false, ltb-true, ltb-false, leb-true, le-leb, ne-eqb}
 use Rattle.base.specs.Choice.{pick}
-use Rattle.base.proofs.Bools.{pick-by, pick-last, test}
-use Rattle.base.proofs.Ladder.{on-true, on-false, on-eq, on-ne, on-lt, on-ge}
+use Rattle.base.proofs.Bools.{pick-by, pick-last, test, tested}
+use Rattle.base.proofs.Ladder.{ladder, on-true, on-false, on-eq, on-ge}
 use Rattle.charset.specs.Charsets.{form-96, form-94x94, formOf}
 use Rattle.charset.specs.declared.Side.{Side}
 use Rattle.charset.specs.declared.Side.the-variants.{GL, GR}
@@ -47,7 +47,7 @@ pub graphic-low : (c : ℕ) → graphicOf c ≡ true → (0x21 ≤ c) × (c ≤ 
 unfolding graphicOf
 graphic-low c e =
     let h = pick-last (ltb c 0x21) _ e in
-    (ltb-false c 0x21 (h .0), leb-true c 0x7E (h .1))
+    omega tested
 
 pub graphic : (c : ℕ) → 0x21 ≤ c → c ≤ 0x7E → graphicOf c ≡ true
 unfolding graphicOf
@@ -91,31 +91,14 @@ module _ (s : Sets) (b : ℕ) where
       (λ _. by _ (λ _. unused)
       (λ l. by _
       (λ m. by _ (λ e. by _ (λ _. unused) (space (eqb-true _ _ e)))
-      (λ e. by _ (λ _. unused)
-      (λ f.
-      let n : b ≡ 0x20 → ⊥ = eqb-false _ _ e in
-      let o : b ≡ 0x7F → ⊥ = eqb-false _ _ f in
-      let p = ltb-false b 0x20 l in
-      let q = ltb-true b 0x80 m in
-      character GL (omega arith, omega arith))))
+      (λ e. by _ (λ _. unused) (λ f. character GL (omega tested))))
       (λ _. by _ (λ _. unused) (λ r. character GR (ltb-false b 0xA0 r))))))))
 
   -- an octet of a side
   on-side : (d : Side) → On d b → characterStart d (formOf (get d s)) b ≡ startIn s b
   unfolding startOf leftStart
-  on-side GL (h, k) =
-      on-ne b 0x1B _ _ _ (λ q. omega arith)
-      (on-ne b 0x9B _ _ _ (λ q. omega arith)
-      (on-ne b 0x09 _ _ _ (λ q. omega arith)
-      (on-ne b 0x0A _ _ _ (λ q. omega arith)
-      (on-ge b 0x20 _ _ _ (omega arith)
-      (on-lt b 0x80 _ _ _ (omega arith) (on-ne b 0x20 _ _ _ (λ q. omega arith) (on-ne b 0x7F _ _ _ (λ q. omega arith) refl)))))))
-  on-side GR h =
-      on-ne b 0x1B _ _ _ (λ q. omega arith)
-      (on-ne b 0x9B _ _ _ (λ q. omega arith)
-      (on-ne b 0x09 _ _ _ (λ q. omega arith)
-      (on-ne b 0x0A _ _ _ (λ q. omega arith)
-      (on-ge b 0x20 _ _ _ (omega arith) (on-ge b 0x80 _ _ _ (omega arith) (on-ge b 0xA0 _ _ _ h refl))))))
+  on-side GL h = search (ladder, arith) depth 9
+  on-side GR h = search (ladder, arith) depth 9
 
   pub starts-one : (d : Side) → On d b → usedIn (formOf (get d s)) b ≡ true → wideIn d s ≡ false → start.one d ≡ startIn s b
   unfolding characterStart

@@ -4,6 +4,7 @@ use Rattle.element.proofs.Names.{_<_, arith, length, getD, List·getD-eq-defaul
 use Rattle.element.proofs.Names.{le-ltb, leb-true, leb-false, le-leb, lt-leb, off, test, up-to, from-tests, Side, GL, GR, allowed, mayUse, formOf, Standing}
 use Rattle.element.proofs.Names.{on, put, Sets}
 use mathlib.Core.Bool.{Bool·beq}
+pub use Rattle.base.proofs.Bools.{beq-eq}
 use Rattle.base.proofs.Bools.{implies, implies-elim, or-none, upTo, up-to-both, up-to-where}
 use Rattle.state.specs.State.{sets}
 use Rattle.grammar.specs.Units.{designation}
@@ -45,12 +46,6 @@ isStanding-eq (some q) p e = ap some (sameStanding-eq q p e)
 
 sameSets-eq : (a b : Sets) → sameSets a b ≡ true → a ≡ b
 sameSets-eq a b e = ap₂ sets (search from-tests) (search from-tests)
-
-pub beq-eq : (a b : Bool) → Bool·beq a b ≡ true → a ≡ b
-beq-eq true true e = refl
-beq-eq true false e = off e
-beq-eq false true e = off e
-beq-eq false false e = refl
 
 -- ---- the test of all classes and numbers
 
