@@ -2,10 +2,10 @@
 -- above 0; and a state that is fit stays fit. Of the shape (`Shaped`) it is shown for each definition from the leaves up, with `n` the octets
 -- that the element may have; of the element (`Sized`) by its shape and the direction rule. On the way: escape sequences and direction marks are no
 -- characters or spaces (`escape-kind`, `mark-kind`).
-use Prim.Native.Nat.{ℕ, suc, _+_, _*_, _-_, _%_, _^_, _<_, _≤_, zero-le}
+use Prim.Native.Nat.{ℕ, suc, _+_, _-_, _<_, _≤_, zero-le}
 use native.Mathlib.Omega.{arith}
 use mathlib.Core.Path.{_≡_, refl, sym}
-use mathlib.Core.Bool.{Bool, true, false, cond}
+use mathlib.Core.Bool.{Bool, true, cond}
 use mathlib.Core.List.{List, [], _∷_}
 use lib.Dec.{eqb, leb, ltb}
 use lib.ListN.{length, take}
@@ -72,7 +72,7 @@ module _ {n low : ℕ} where
 
   second : low ≤ 0 → (set b : ℕ) (t : List ℕ) → 1 + length t ≤ n → Shaped n low (secondOctetOf set b t)
   unfolding secondOctetOf
-  second l set b t h = search (onward, either, no, unit, with-set, arith) depth 6
+  second l set b t h = onward t _ (λ d u e. either _ (either _ (unit 0 set _ 2 _ l with-set (omega arith) (omega arith)) no) no)
 
   intermediates : (t : List ℕ) → Shaped n low (intermediatesOf t)
   unfolding intermediatesOf
@@ -95,7 +95,7 @@ module _ {n low : ℕ} where
 
   multi-octet : (t : List ℕ) → 2 + length t ≤ n → Shaped n low (multiOctetOf t)
   unfolding multiOctetOf
-  multi-octet t h = search (onward, either, no, designation, arith) depth 6
+  multi-octet t h = onward t _ (λ b u e. either _ (designation 3 GL u (λ k. omega arith)) (either _ (designation 3 GR u (λ k. omega arith)) no))
 
 module _ {n low : ℕ} (few : low ≤ 2) where
   content : (d m : ℕ) (k : Name) → 6 + m ≤ n → Shaped n low (contentOf d m k)
@@ -109,33 +109,43 @@ module _ {n low : ℕ} (few : low ≤ 2) where
 
   lengths : (d : ℕ) (t : List ℕ) → 4 + length t ≤ n → Shaped n low (lengthsOf d t)
   unfolding lengthsOf
-  lengths d t h = search (onward, either, no, body, arith) depth 7
+  lengths d t h = onward t _ (λ m u e. either _ no (onward u _ (λ l v k. either _ no (body d _ v (omega arith)))))
 
   extended : (t : List ℕ) → 2 + length t ≤ n → Shaped n low (extendedOf t)
   unfolding extendedOf
-  extended t h = search (onward, either, no, lengths, arith) depth 8
+  extended t h = onward t _ (λ b u e. either _ (onward u _ (λ d v k. either _ no (either _ (lengths d v (omega arith)) no))) no)
 
   escape : (t : List ℕ) → 1 + length t ≤ n → Shaped n low (escapeOf t)
   unfolding escapeOf
-  escape t h = search (onward, either, no, designation, multi-octet, extended, arith) depth 10
+  escape t h =
+      onward t _
+      (λ b u e.
+      either _ (designation 1 GL u (λ k. omega arith))
+      (either _ (designation 1 GR u (λ k. omega arith))
+      (either _ (designation 2 GR u (λ k. omega arith))
+      (either _ (multi-octet u (omega arith)) (either _ (extended u (omega arith)) (either _ no no))))))
 
   begin : (k : ℕ) (t : List ℕ) → 2 ≤ k → k < kind.segment → 2 + length t ≤ n → Shaped n low (beginOf k t)
   unfolding beginOf
-  begin k t l f h = search (onward, either, no, unit, with-none, arith) depth 6
+  begin k t l f h = onward t _ (λ b u e. either _ (unit k 0 0 3 _ (omega arith) (with-none f) (omega arith) (omega arith)) no)
 
   csi : (t : List ℕ) → 1 + length t ≤ n → Shaped n low (csiOf t)
   unfolding csiOf
-  csi t h = search (onward, either, no, unit, with-none, begin, arith) depth 8
+  csi t h =
+      onward t _
+      (λ b u e.
+      either _ (unit 6 0 0 2 _ (omega arith) (with-none (omega arith)) (omega arith) (omega arith))
+      (either _ (begin 4 u (omega arith) (omega arith) (omega arith)) (either _ (begin 5 u (omega arith) (omega arith) (omega arith)) no)))
 
 module _ {n : ℕ} (s : Sets) where
   begun : (c : Start) (b : ℕ) (t : List ℕ) → 1 + length t ≤ n → Shaped n 0 (begunBy c b t s)
   unfolding begunBy
   begun start.escape b t h = escape zero-le t h
   begun start.mark b t h = csi zero-le t h
-  begun start.tab b t h = search (unit, with-none, arith)
-  begun start.newline b t h = search (unit, with-none, arith)
-  begun start.space b t h = search (unit, with-none, arith)
-  begun (start.one d) b t h = search (unit, with-set, arith)
+  begun start.tab b t h = unit kind.tab 0 0 1 _ zero-le (with-none (omega arith)) (omega arith) (omega arith)
+  begun start.newline b t h = unit kind.newline 0 0 1 _ zero-le (with-none (omega arith)) (omega arith) (omega arith)
+  begun start.space b t h = unit kind.space 0 0 1 _ zero-le (with-none (omega arith)) (omega arith) (omega arith)
+  begun (start.one d) b t h = unit kind.character (get d s) _ 1 _ zero-le with-set (omega arith) (omega arith)
   begun (start.two d) b t h = second zero-le (get d s) b t h
   begun start.unused b t h = no
 
@@ -179,9 +189,18 @@ module _ (d : Directions) where
   fair-deeper way =
       pick-by (Fair d) (ltb (d .depth) limit.depth) (λ e. goes (λ _. omega (tested, e))) (λ _. stops {n = refusal.too-deep} (omega arith))
 
+  fair-less : (levels : ℕ) (marked texted : Bool) → Fair d (Goes (directions (d .depth - 1) levels marked texted))
+  fair-less levels marked texted = goes {next = directions (d .depth - 1) levels marked texted} (λ h. omega arith)
+
+  stops-eight : Fair d (Stops refusal.direction)
+  stops-eight = stops {n = refusal.direction} (omega arith)
+
+  stays : {next : Directions} → next .depth ≡ d .depth → Fair d (Goes next)
+  stays {next} e = goes {next = next} (λ h. omega arith)
+
   pub fair : (x : Bool) (kind : ℕ) → Fair d (stepOf x kind d)
   unfolding stepOf writtenOf begunOf revertedOf
-  fair x kind = search (fair-pick, fair-deeper, goes, stops, arith) depth 9
+  fair x kind = search (fair-pick, fair-deeper, fair-less, stops-eight, stays) depth 9
 
 -- ---- an element
 

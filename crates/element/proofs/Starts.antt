@@ -5,10 +5,10 @@ use native.Mathlib.Omega.{arith}
 use mathlib.Core.Path.{_≡_, refl, sym, _∙_}
 use mathlib.Core.Bool.{Bool, true, false}
 use lib.Dec.{eqb, ltb}
-use borrow.Author.Tests.{eqb-true, eqb-false, ltb-true, ltb-false, leb-true, le-leb, ne-eqb}
+use borrow.Author.Tests.{eqb-true, ltb-false, le-leb, ne-eqb}
 use Rattle.base.specs.Choice.{pick}
 use Rattle.base.proofs.Bools.{pick-by, pick-last, test, tested}
-use Rattle.base.proofs.Ladder.{ladder, on-true, on-false, on-eq, on-ge}
+use Rattle.base.proofs.Ladder.{on-true, on-false, on-eq, on-ne, on-lt, on-ge}
 use Rattle.charset.specs.Charsets.{form-96, form-94x94, formOf}
 use Rattle.charset.specs.declared.Side.{Side}
 use Rattle.charset.specs.declared.Side.the-variants.{GL, GR}
@@ -97,8 +97,19 @@ module _ (s : Sets) (b : ℕ) where
   -- an octet of a side
   on-side : (d : Side) → On d b → characterStart d (formOf (get d s)) b ≡ startIn s b
   unfolding startOf leftStart
-  on-side GL h = search (ladder, arith) depth 9
-  on-side GR h = search (ladder, arith) depth 9
+  on-side GL (h, k) =
+      on-ne b 0x1B _ _ _ (λ q. omega arith)
+      (on-ne b 0x9B _ _ _ (λ q. omega arith)
+      (on-ne b 0x09 _ _ _ (λ q. omega arith)
+      (on-ne b 0x0A _ _ _ (λ q. omega arith)
+      (on-ge b 0x20 _ _ _ (omega arith)
+      (on-lt b 0x80 _ _ _ (omega arith) (on-ne b 0x20 _ _ _ (λ q. omega arith) (on-ne b 0x7F _ _ _ (λ q. omega arith) refl)))))))
+  on-side GR h =
+      on-ne b 0x1B _ _ _ (λ q. omega arith)
+      (on-ne b 0x9B _ _ _ (λ q. omega arith)
+      (on-ne b 0x09 _ _ _ (λ q. omega arith)
+      (on-ne b 0x0A _ _ _ (λ q. omega arith)
+      (on-ge b 0x20 _ _ _ (omega arith) (on-ge b 0x80 _ _ _ (omega arith) (on-ge b 0xA0 _ _ _ h refl))))))
 
   pub starts-one : (d : Side) → On d b → usedIn (formOf (get d s)) b ≡ true → wideIn d s ≡ false → start.one d ≡ startIn s b
   unfolding characterStart
