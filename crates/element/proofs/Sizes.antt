@@ -2,29 +2,15 @@
 -- above 0; and a state that is fit stays fit. Of the shape (`Shaped`) it is shown for each definition from the leaves up, with `n` the octets
 -- that the element may have; of the element (`Sized`) by its shape and the direction rule. On the way: escape sequences and direction marks are no
 -- characters or spaces (`escape-kind`, `mark-kind`).
-use Prim.Native.Nat.{ℕ, suc, _+_, _-_, _<_, _≤_, zero-le}
-use native.Mathlib.Omega.{arith}
-use mathlib.Core.Path.{_≡_, refl, sym}
-use mathlib.Core.Bool.{Bool, true, cond}
-use mathlib.Core.List.{List, [], _∷_}
-use lib.Dec.{eqb, leb, ltb}
-use lib.ListN.{length, take}
-use borrow.Author.Tests.{leb-true, ltb-true}
-use Rattle.base.specs.Choice.{pick}
-use Rattle.base.proofs.Bools.{pick-by, tested}
+use Rattle.element.proofs.Names.{ℕ, suc, _+_, _-_, _<_, _≤_, zero-le, arith, _≡_, refl, sym, Bool, true, cond, List, [], _∷_, eqb, leb, ltb}
+use Rattle.element.proofs.Names.{length, take, leb-true, ltb-true, pick, pick-by, tested, no-set, allowed, setOf, Side, GL, GR, directions, writtenOf}
+use Rattle.element.proofs.Names.{deeperOf, begunOf, revertedOf, stepOf, get, put, designatedOf, Directions, Step, Goes, Stops, part, next, Sets}
+use Rattle.element.proofs.Names.{State, Part, Shape, Refuses, Designates, Gives, Element, End, Refused, Silent, Found}
 use Rattle.base.specs.Kind as kind
 use Rattle.base.specs.Limit as limit
 use Rattle.base.specs.Refusal as refusal
-use Rattle.charset.specs.Charsets.{no-set, allowed, setOf}
 use Rattle.charset.proofs.Laws.{set-named}
-use Rattle.charset.specs.declared.Side.{Side}
-use Rattle.charset.specs.declared.Side.the-variants.{GL, GR}
-use Rattle.state.specs.Directions.{directions, writtenOf, deeperOf, begunOf, revertedOf, stepOf}
-use Rattle.state.specs.State.{get, put, designatedOf}
-use Rattle.state.specs.declared.directions.Directions.{Directions}
-use Rattle.state.specs.declared.directions.Step.{Step}
-use Rattle.state.specs.declared.directions.Step.the-variants.{Goes, Stops}
-use Rattle.state.specs.Elements.{part, refused, next}
+use Rattle.state.specs.Elements.{refused}
 use Rattle.text.specs.Text.{secondOctetOf}
 use Rattle.control.specs.Escape.{intermediatesOf, designatesOf, finalOf, designationOf, multiOctetOf, escapeOf}
 use Rattle.segment.specs.Segment.{segmentPart, nameOf, contentOf, bodyOf, lengthsOf, extendedOf}
@@ -33,13 +19,7 @@ use Rattle.element.specs.Meant.{Meant, with-set, with-none, with-code, M
 use Rattle.element.specs.Start.{Start, startIn, begunBy}
 use Rattle.element.specs.Start as start
 use Rattle.element.specs.Element.{shapeOf, steppedOf, directedOf, elementOf}
-use Rattle.state.specs.declared.Sets.{Sets}
-use Rattle.state.specs.declared.State.{State}
-use Rattle.state.specs.declared.elements.Part.{Part}
-use Rattle.state.specs.declared.elements.Shape.{Shape}
-use Rattle.state.specs.declared.elements.Shape.the-variants.{Ends, Refuses, Designates, Gives}
-use Rattle.state.specs.declared.elements.Element.{Element}
-use Rattle.state.specs.declared.elements.Element.the-variants.{End, Refused, Silent, Found}
+use Rattle.state.specs.declared.elements.Shape.the-variants.{Ends}
 use Rattle.segment.specs.declared.Name.{Name}
 use Rattle.segment.specs.declared.Name.the-variants.{Ends as NameEnds, Bad}
 

@@ -1,25 +1,11 @@
 -- The ladder's rules for the first octet of an element: down the tests of what it starts, and on to the functions of `text`, whose answers are
 -- what a GL or GR octet starts.
-use Prim.Native.Nat.{ℕ, _+_, _%_, _<_, _≤_}
-use native.Mathlib.Omega.{arith}
-use mathlib.Core.Path.{_≡_, refl, _∙_}
-use mathlib.Core.Bool.{Bool, true, false}
-use mathlib.Core.List.{List, [], _∷_}
-use lib.Dec.{eqb}
-use lib.ListN.{length, getD}
-use borrow.Author.Tests.{eqb-true, lt-ltb, le-ltb, ne-eqb}
-use Rattle.base.specs.Choice.{pick, from}
+use Rattle.element.proofs.Names.{ℕ, _+_, _%_, _<_, _≤_, arith, _≡_, refl, _∙_, Bool, true, false, List, [], _∷_, eqb, length, getD}
+use Rattle.element.proofs.Names.{eqb-true, lt-ltb, le-ltb, ne-eqb, pick, from, test, form-96, form-94x94, formOf, Side, GL, GR, get, Sets, Shape}
 use Rattle.base.specs.Refusal as refusal
-use Rattle.base.proofs.Bools.{test}
 use Rattle.base.proofs.Ladder.{octet, ended}
-use Rattle.charset.specs.Charsets.{form-96, form-94x94, formOf}
-use Rattle.charset.specs.declared.Side.{Side}
-use Rattle.charset.specs.declared.Side.the-variants.{GL, GR}
 use Rattle.state.proofs.Steps.{steps}
 use Rattle.state.specs.Elements.{refused}
-use Rattle.state.specs.State.{get}
-use Rattle.state.specs.declared.Sets.{Sets}
-use Rattle.state.specs.declared.elements.Shape.{Shape}
 use Rattle.text.specs.Text.{graphicOf}
 use Rattle.text.specs.Functions.{characterOf, textOf}
 use Rattle.element.specs.Element.{shapeOf}

@@ -131,6 +131,10 @@ module _ {M : Type 1} {𝓤 : URA M} {H : Heap 𝓤} {A : Atoms 𝓤} {W : Given
   EndsSome x φ Q = (r : Result) (ws : Ws) → ent 𝓤 (mean 𝓤 H A (last ws ⊛ raw (says-of r ws)))
       (ex 𝓤 (λ z. guard 𝓤 ((r ≡ x) × φ z) (sem 𝓤 H A (Q z))))
 
+  -- of the result alone, with last values that the contract fixes
+  abbrev pub EndsWith : Result → Fml → Type 1
+  EndsWith x Q = (r : Result) (ws : Ws) → ent 𝓤 (mean 𝓤 H A (last ws ⊛ raw (says-of r ws))) (guard 𝓤 (r ≡ x) (sem 𝓤 H A Q))
+
   -- the machine value of a result, where the type tells it
   module _ (vals : Result → List Val) where
     abbrev pub Told : Type 0
@@ -169,14 +173,12 @@ module _ {M : Type 1} {𝓤 : URA M} {H : Heap 𝓤} {A : Atoms 𝓤} {W : Given
           qed W (last ws ∷ raw (says-of r ws) ∷ []) ∵ move ! (1 ∷ []) $ use1 W (raw (fact 𝓤 ((r ≡ x) × φ (at ws)))) (says r ws) $
           heard ! ((r ≡ x) × φ (at ws)) (λ e. show ! (λ (z : Z). guard 𝓤 ((r ≡ x) × φ z) (sem 𝓤 H A (Q z))) (at ws) $ check ! e $ picks ws))
 
-  -- of the result alone, or of last values that the contract fixes
-  ends-with : (x : Result) (Q : Fml) → ((r : Result) (ws : Ws) → ent 𝓤 (mean 𝓤 H A (last ws ⊛ raw (says-of r ws))) (guard 𝓤 (r ≡ x) (sem 𝓤 H A Q)))
-      → EndsSome x {Z = Unit {0}} (λ _. Unit {0}) (λ _. Q)
+  ends-with : (x : Result) (Q : Fml) → EndsWith x Q → EndsSome x {Z = Unit {0}} (λ _. Unit {0}) (λ _. Q)
   ends-with x Q w r ws =
       qed W ((last ws ⊛ raw (says-of r ws)) ∷ []) ∵ use1 W (given (r ≡ x) (‵ Q)) (w r ws) $
       learn ! (λ e. show ! (λ (_ : Unit {0}). guard 𝓤 ((r ≡ x) × Unit {0}) (sem 𝓤 H A Q)) tt $ check ! (e, tt) $ done !)
 
-  ends-whole : (x : Result) → Whole x → (r : Result) (ws : Ws) → ent 𝓤 (mean 𝓤 H A (last ws ⊛ raw (says-of r ws))) (guard 𝓤 (r ≡ x) (sem 𝓤 H A ftrue))
+  ends-whole : (x : Result) → Whole x → EndsWith x ftrue
   ends-whole x w r ws =
       qed W (last ws ∷ raw (says-of r ws) ∷ []) ∵ move ! (1 ∷ []) $
       use1 W (raw (fact 𝓤 (r ≡ x))) (w r _) $ heard ! (r ≡ x) (λ e. let-go ! $ check ! e $ done !)
@@ -184,8 +186,8 @@ module _ {M : Type 1} {𝓤 : URA M} {H : Heap 𝓤} {A : Atoms 𝓤} {W : Given
 -- the same where the contract fixes the last values
 pub gave-value : {M : Type 1} (𝓤 : URA M) (H : Heap 𝓤) (A : Atoms 𝓤) (W : Given 𝓤 H A) (D : Ended) (c : Clauses 𝓤 D) (y : Binds W D c)
     → let k = calling W D c y in
-    (x : Result k) (Q : Fml) → ((r : Result k) (ws : Ws k) → ent 𝓤 (mean 𝓤 H A (last k ws ⊛ raw (says-of k r ws))) (guard 𝓤 (r ≡ x) (sem 𝓤 H A Q)))
-    → (vals : Result k → List Val) → Told k vals → (u : Val) → ent 𝓤 (After k u) (mean 𝓤 H A (later (given (Came k vals x u) (raw (Tok k) ⊛ ‵ Q))))
+    (x : Result k) (Q : Fml) → EndsWith k x Q → (vals : Result k → List Val) → Told k vals → (u : Val)
+    → ent 𝓤 (After k u) (mean 𝓤 H A (later (given (Came k vals x u) (raw (Tok k) ⊛ ‵ Q))))
 gave-value 𝓤 H A W D c y x Q w vals tl u =
     let k = calling W D c y in
     qed W (raw (After k u) ∷ []) ∵ updating ! $
@@ -464,7 +466,8 @@ module _ {M : Type 1} {𝓤 : URA M} {H : Heap 𝓤} {A : Atoms 𝓤} {K : Type 
       move t (2 ∷ []) $ use1 W (P ⊛ P) twice $ split t $ move t (0 ∷ 4 ∷ []) $ join t $
       use1 W (‵ (Owned k)) (parts-but⊢ W (mean 𝓤 H A P) twice (L .parts ν δ)) $ move t (2 ∷ 0 ∷ []) $ join t $
       use0 W (raw (Asked k)) (L .asked ν δ) $ move t (1 ∷ 0 ∷ []) $ join t $
-      use1 W (raw (Pre k)) (id⊢ 𝓤 _) $ move t (0 ∷ 2 ∷ []) $ join t $ use1 W (raw (sep 𝓤 (Pre k) spare)) (id⊢ 𝓤 _) $ move t (0 ∷ 2 ∷ 1 ∷ []) $
+      use1 W (raw (Pre k)) (id⊢ 𝓤 _) $ move t (0 ∷ 2 ∷ []) $ join t $ use1 W (raw (sep 𝓤 (Pre k) spare)) (id⊢ 𝓤 _) $
+      move t (0 ∷ 2 ∷ 1 ∷ []) $
       called 𝓣 (raw spare ∷ loan ∷ P ∷ Γ) (args k) (os ν δ) (raw (Pre k)) (After k)
       (qed W (raw (sep 𝓤 (Pre k) spare) ∷ loan ∷ P ∷ Γ) ∵ use1 W (raw (Pre k) ⊛ raw spare) (id⊢ 𝓤 _) $ split ! $ frame ! $ done !)
       (known (y ν δ)) (λ u.
