@@ -1,8 +1,8 @@
 -- Rules for a call in a proof by hand, of a function that meets its contract.
+--     Call                    a call: the function's clauses and what is bound; of it: what it is passed, its result, its tokens, the last values
 --     gave-some, gave-value   what the call leaves, where its contract gives the result whole: with something said of the last values of
 --                             what it was lent for good, or with those values
---     ends-some, gave-one     what a contract says of the last values, where its `ensures` is a fact of the result and of one of them; and
---                             what the call leaves
+--     gave-one                the same, where its `ensures` is a fact of the result and of one of the last values
 --     calls-value             a call whose contract gives its result whole, as a value x: what lands is the machine value of x
 --     calls-ends              the same, with something said of some last values of what it was lent for good
 --     calls-some              a call whose contract says something of its result, which owns something, as a part of a slice does

@@ -69,7 +69,7 @@ tail-of (q ∷ qs) = qs
 wholes-split : (ps qs : List Share) → ps ++ qs ≡ wholes (ps ++ qs) → (ps ≡ wholes ps) × (qs ≡ wholes qs)
 wholes-split [] qs e = (refl, e)
 wholes-split (p ∷ ps) qs e =
-    let rest : (ps ≡ wholes ps) × (qs ≡ wholes qs) = wholes-split ps qs (ap tail-of e) in
+    let rest = wholes-split ps qs (ap tail-of e) in
     (ap (λ (q : Share). q ∷ ps) (ap (head-or p) e) ∙ ap (λ (l : List Share). fullShare ∷ l) (rest .0), rest .1)
 
 -- the place of entry m, under the locals
@@ -154,81 +154,65 @@ module _ {M : Type 1} {𝓤 : URA M} where
         (via 𝓤 ((R ⊛ D) ∗ ∗∗ (laid E [] Γ)) (assoc′ 𝓤 (mean 𝓤 H A R) (mean 𝓤 H A D) (∗∗ (laid E [] Γ)))
         (monoR 𝓤 (mean 𝓤 H A (R ⊛ D)) (frees-laid E Γ P h))))
 
-    -- ---- what a formula leaves where a cell is made room: what else is no cell stays
-    record Cleared (W : Given 𝓤 H A) (P : Fml) : Type 2 where
-      to : Fml
+    -- ---- what an entry leaves where a cell is made room: what is no cell stays
+    record Cleared (W : Given 𝓤 H A) (i : Item 𝓤) : Type 2 where
+      to : Item 𝓤
       shares : List Share
-      go : shares ≡ wholes shares → ent 𝓤 (sem 𝓤 H A P) (sem 𝓤 H A to)
+      go : shares ≡ wholes shares → ent 𝓤 (mean 𝓤 H A i) (mean 𝓤 H A to)
 
     module _ (W : Given 𝓤 H A) where
-      abbrev stays : (P : Fml) → Cleared W P
-      stays P = record { to = P; shares = []; go = λ e. id⊢ 𝓤 (sem 𝓤 H A P) }
+      abbrev stays : (i : Item 𝓤) → Cleared W i
+      stays i = record { to = i; shares = []; go = λ e. id⊢ 𝓤 (mean 𝓤 H A i) }
 
-      abbrev cleared : (P : Fml) → Cleared W P
+      abbrev cleared : (P : Fml) → Cleared W (‵ P)
       cleared (fat q τ b o v) = record {
-        to = froom τ b o;
+        to = ‵ (froom τ b o);
         shares = q ∷ [];
         go = λ e. subst (λ (p : Share). ent 𝓤 (H .at p τ b o v) (H .room τ b o)) (sym (ap (head-or q) e)) (W .laws .at-room τ b o v);
       }
-      cleared ftrue = stays ftrue
-      cleared ffalse = stays ffalse
-      cleared (feq X x y) = stays (feq X x y)
-      cleared (flt m n) = stays (flt m n)
-      cleared (fsep P Q) = stays (fsep P Q)
-      cleared (fand P Q) = stays (fand P Q)
-      cleared (for P Q) = stays (for P Q)
-      cleared (fwand P Q) = stays (fwand P Q)
-      cleared (fex X F) = stays (fex X F)
-      cleared (fall X F) = stays (fall X F)
-      cleared (fupd P) = stays (fupd P)
-      cleared (froom τ b o) = stays (froom τ b o)
-      cleared (fdies τ b) = stays (fdies τ b)
-      cleared (flft κ q) = stays (flft κ q)
-      cleared (fdead κ) = stays (fdead κ)
-      cleared (fobs γ x) = stays (fobs γ x)
-      cleared (fauth γ x) = stays (fauth γ x)
-      cleared (fres γ x) = stays (fres γ x)
-      cleared (fbor κ P) = stays (fbor κ P)
-      cleared (fobor κ q P) = stays (fobor κ q P)
-      cleared (flent κ P) = stays (flent κ P)
-      cleared (fshr-bor κ F) = stays (fshr-bor κ F)
+      cleared ftrue = stays (‵ ftrue)
+      cleared ffalse = stays (‵ ffalse)
+      cleared (feq X x y) = stays (‵ (feq X x y))
+      cleared (flt m n) = stays (‵ (flt m n))
+      cleared (fsep P Q) = stays (‵ (fsep P Q))
+      cleared (fand P Q) = stays (‵ (fand P Q))
+      cleared (for P Q) = stays (‵ (for P Q))
+      cleared (fwand P Q) = stays (‵ (fwand P Q))
+      cleared (fex X F) = stays (‵ (fex X F))
+      cleared (fall X F) = stays (‵ (fall X F))
+      cleared (fupd P) = stays (‵ (fupd P))
+      cleared (froom τ b o) = stays (‵ (froom τ b o))
+      cleared (fdies τ b) = stays (‵ (fdies τ b))
+      cleared (flft κ q) = stays (‵ (flft κ q))
+      cleared (fdead κ) = stays (‵ (fdead κ))
+      cleared (fobs γ x) = stays (‵ (fobs γ x))
+      cleared (fauth γ x) = stays (‵ (fauth γ x))
+      cleared (fres γ x) = stays (‵ (fres γ x))
+      cleared (fbor κ P) = stays (‵ (fbor κ P))
+      cleared (fobor κ q P) = stays (‵ (fobor κ q P))
+      cleared (flent κ P) = stays (‵ (flent κ P))
+      cleared (fshr-bor κ F) = stays (‵ (fshr-bor κ F))
 
-      abbrev clear : Item 𝓤 → Item 𝓤
-      clear (‵ P) = ‵ (cleared P .to)
-      clear (raw P) = raw P
-      clear (i ⊛ j) = i ⊛ j
-      clear (some F) = some F
-      clear (given φ i) = given φ i
-      clear (later i) = later i
-
-      abbrev shares-of : Item 𝓤 → List Share
-      shares-of (‵ P) = cleared P .shares
-      shares-of (raw P) = []
-      shares-of (i ⊛ j) = []
-      shares-of (some F) = []
-      shares-of (given φ i) = []
-      shares-of (later i) = []
-
-      clear⊢ : (i : Item 𝓤) → shares-of i ≡ wholes (shares-of i) → ent 𝓤 (mean 𝓤 H A i) (mean 𝓤 H A (clear i))
-      clear⊢ (‵ P) e = cleared P .go e
-      clear⊢ (raw P) e = id⊢ 𝓤 (mean 𝓤 H A (raw P))
-      clear⊢ (i ⊛ j) e = id⊢ 𝓤 (mean 𝓤 H A (i ⊛ j))
-      clear⊢ (some F) e = id⊢ 𝓤 (mean 𝓤 H A (some F))
-      clear⊢ (given φ i) e = id⊢ 𝓤 (mean 𝓤 H A (given φ i))
-      clear⊢ (later i) e = id⊢ 𝓤 (mean 𝓤 H A (later i))
+      abbrev clear : (i : Item 𝓤) → Cleared W i
+      clear (‵ P) = cleared P
+      clear (raw P) = stays (raw P)
+      clear (i ⊛ j) = stays (i ⊛ j)
+      clear (some F) = stays (some F)
+      clear (given φ i) = stays (given φ i)
+      clear (later i) = stays (later i)
 
       -- of the entries from k on, n
       abbrev pub clear-from : (k n : ℕ) → List (Item 𝓤) → List (Item 𝓤)
       clear-from k n [] = []
       clear-from (suc k) n (i ∷ Γ) = i ∷ clear-from k n Γ
       clear-from zero zero (i ∷ Γ) = i ∷ Γ
-      clear-from zero (suc n) (i ∷ Γ) = clear i ∷ clear-from zero n Γ
+      clear-from zero (suc n) (i ∷ Γ) = clear i .to ∷ clear-from zero n Γ
 
       abbrev pub shares-from : (k n : ℕ) → List (Item 𝓤) → List Share
       shares-from k n [] = []
       shares-from (suc k) n (i ∷ Γ) = shares-from k n Γ
       shares-from zero zero (i ∷ Γ) = []
-      shares-from zero (suc n) (i ∷ Γ) = shares-of i ++ shares-from zero n Γ
+      shares-from zero (suc n) (i ∷ Γ) = clear i .shares ++ shares-from zero n Γ
 
       both : (i j : Item 𝓤) (Γ Δ : List (Item 𝓤)) → ent 𝓤 (mean 𝓤 H A i) (mean 𝓤 H A j) → ent 𝓤 (∗∗ Γ) (∗∗ Δ)
           → ent 𝓤 (∗∗ (i ∷ Γ)) (∗∗ (j ∷ Δ))
@@ -243,9 +227,8 @@ module _ {M : Type 1} {𝓤 : URA M} where
       clear-from⊢ (suc k) n (i ∷ Γ) e = both i i Γ (clear-from k n Γ) (id⊢ 𝓤 (mean 𝓤 H A i)) (clear-from⊢ k n Γ e)
       clear-from⊢ zero zero (i ∷ Γ) e = id⊢ 𝓤 (∗∗ (i ∷ Γ))
       clear-from⊢ zero (suc n) (i ∷ Γ) e =
-          let es : (shares-of i ≡ wholes (shares-of i)) × (shares-from zero n Γ ≡ wholes (shares-from zero n Γ)) = wholes-split (shares-of i)
-          (shares-from zero n Γ) e in
-          both i (clear i) Γ (clear-from zero n Γ) (clear⊢ i (es .0)) (clear-from⊢ zero n Γ (es .1))
+          let es = wholes-split (clear i .shares) (shares-from zero n Γ) e in
+          both i (clear i .to) Γ (clear-from zero n Γ) (clear i .go (es .0)) (clear-from⊢ zero n Γ (es .1))
 
 module _ {M : Type 1} {𝓤 : URA M} {H : Heap 𝓤} {A : Atoms 𝓤} {K : Type 0} {W : Given 𝓤 H A} {Γ : List (Item 𝓤)} where
   module _ {G : Goal 𝓤 H} where
