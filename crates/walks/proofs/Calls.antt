@@ -505,20 +505,16 @@ module _ {M : Type 1} {𝓤 : URA M} {H : Heap 𝓤} {A : Atoms 𝓤} {K : Type 
 -- ---- a call that is passed all that the function was
 module _ {M : Type 1} {𝓤 : URA M} {H : Heap 𝓤} {A : Atoms 𝓤} {K : Type 0} {W : Given 𝓤 H A} {Γ : List (Item 𝓤)} {E : Env 𝓤 H}
     {C : Calls 𝓤 H} {Λ : Loops 𝓤 H} {q : Post 𝓤 H} {f : Name} {xs : List Operand} {d : Place} {rest : Body} where
-  pub calls-whole : K → FmC 𝓤 H (W .laws) C → (S : Signature) (c : Spec 𝓤 S) → Triple 𝓤 (C f) (tripleOf 𝓤 H A S c)
-      → (y : tripleOf 𝓤 H A S c .Ghost) → Lawful 𝓤 H A (typeAt (S .result) (y .0 .0))
-      → Opds K W (raw (tripleOf 𝓤 H A S c .pre y) ∷ Γ) E xs (tripleOf 𝓤 H A S c .args y)
-      → ((v : Val) → Typed (typeAt (S .result) (y .0 .0) .mir) (v ∷ []) → Seq K W (raw (tripleOf 𝓤 H A S c .post y v) ∷ Γ)
-      (lands C Λ E d v rest q))
-      → Seq K W (raw (tripleOf 𝓤 H A S c .pre y) ∷ Γ) (runs C Λ E (seq (call f xs d) rest) q)
+  pub calls-whole : K → FmC 𝓤 H (W .laws) C → (S : Signature) (c : Spec 𝓤 S) → let T = tripleOf 𝓤 H A S c in Triple 𝓤 (C f) T
+      → (y : T .Ghost) → let R = typeAt (S .result) (y .0 .0) in Lawful 𝓤 H A R → Opds K W (raw (T .pre y) ∷ Γ) E xs (T .args y)
+      → ((v : Val) → Typed (R .mir) (v ∷ []) → Seq K W (raw (T .post y v) ∷ Γ) (lands C Λ E d v rest q))
+      → Seq K W (raw (T .pre y) ∷ Γ) (runs C Λ E (seq (call f xs d) rest) q)
   calls-whole t fm S c known y ok os k =
+      let R : RattleType = typeAt (S .result) (y .0 .0) in
+      let ensures : Res S (y .0 .0) → SProp 𝓤 = c (y .0 .0) (y .0 .3) .ensures (y .1) in
       calls-at t fm (tripleOf 𝓤 H A S c) known y os (λ v.
-      use1 W (later (some (λ (r : Res S (y .0 .0)). (raw (alive 𝓤 H A S (y .0 .0) (y .0 .1)) ⊛ ‵ (typeAt (S .result) (y .0 .0) .own r (v ∷ [])))
-      ⊛ raw (c (y .0 .0) (y .0 .3) .ensures (y .1) r)))) (id⊢ 𝓤 _) $ await t tt $ pick t (λ r.
-      split t $ split t $ move t (1 ∷ []) $ peeks t (typeAt (S .result) (y .0 .0)) (Is (typeAt (S .result) (y .0 .0)))
-      (shows 𝓤 H A (typeAt (S .result) (y .0 .0))) r (v ∷ []) (λ is.
-      move t (1 ∷ 0 ∷ []) $ join t $ join t $
-      use1 W (raw (tripleOf 𝓤 H A S c .post y v))
-      (via 𝓤 _ (exI 𝓤 (λ (r : Res S (y .0 .0)). sep 𝓤 (Back 𝓤 H A S (y .0) v r) (c (y .0 .0) (y .0 .3) .ensures (y .1) r)) r)
-      (W .laws .⇛-intro _)) $
+      use1 W (later (some (λ (r : Res S (y .0 .0)). (raw (alive 𝓤 H A S (y .0 .0) (y .0 .1)) ⊛ ‵ (R .own r (v ∷ []))) ⊛ raw (ensures r))))
+      (id⊢ 𝓤 _) $ await t tt $ pick t (λ r. split t $ split t $ move t (1 ∷ []) $ peeks t R (Is R) (shows 𝓤 H A R) r (v ∷ []) (λ is.
+      move t (1 ∷ 0 ∷ []) $ join t $ join t $ use1 W (raw (tripleOf 𝓤 H A S c .post y v))
+      (via 𝓤 _ (exI 𝓤 (λ (r : Res S (y .0 .0)). sep 𝓤 (Back 𝓤 H A S (y .0) v r) (ensures r)) r) (W .laws .⇛-intro _)) $
       k v (ok .typed r (v ∷ []) is))))

@@ -16,7 +16,7 @@ use base.Logic.{SProp, ent, sep, via, id⊢, comm∗, monoL, monoR, assoc′}
 use base.Fml.{Share, Fml, ftrue, ffalse, feq, flt, fsep, fand, for, fwand, fex, fall, fupd, fat, froom, fdies, flft, fdead, fobs, fauth, fres, fbor, fobor}
 use base.Fml.{flent, fshr-bor}
 use prog.Wp.{Heap, Calls, Loops, WpFn, release}
-use ghost.Atoms.{Atoms, sem}
+use ghost.Atoms.{Atoms}
 use types.Kit.{Given, Item, ‵, raw, _⊛_, some, given, later, mean, ⋆, nth, del, put, pull, push, pop, ++⊢, ⊢++, Goal, prop, runs, atRet, allocs}
 use types.Kit.{params′, passes, frees, aim, Seq, Step, step, _$_}
 use types.Run.{Writes, init, enter, alloc1, alloc0, params1, pass1, pass0}
