@@ -16,7 +16,7 @@ use base.Logic.{SProp, ent, sep, emp, via, id⊢, mono∗, monoR, wand, comm∗,
 use base.Fml.{flft}
 use prog.Model.{Model}
 use prog.Routine.{Routine, Env as REnv}
-use prog.Wp.{Heap, WpFn, Closed}
+use prog.Wp.{Heap, WpFn}
 use ghost.Atoms.{Atoms, sem}
 use contract.Monad.{fact, factI, top}
 use contract.Lifetimes.{Lfts, Shares, AllOutlive, toks}
@@ -26,14 +26,14 @@ use denote.RattleType.{RattleType, Denots, mirs, Valss, flat, owns}
 use denote.Laws.{Are, Ises, valss, Typed, all-typed}
 use denote.Signature.{typesAt}
 use denote.Triple.Entry.{Args, onEntry, Vals}
-use denote.Triple.Spec.{Meets, tripleOf}
+use denote.Triple.Spec.{tripleOf}
 use denote.Triple.Statement.{Contract, Triple}
 use denote.Triple.Table.{cited, entered}
 use denote.Triple.Clauses.{Ended, Clauses, closing}
 use denote.Triple.Walked.{needs, walkOf, walked}
 use Rattle.walks.proofs.Data.{Params, stays, spells, all-tell, all-go, all-lawful}
 use Rattle.walks.proofs.Frame.{Blocks, envOf, FitAfter, empty, each-full, laid, enters-with}
-use Rattle.walks.proofs.Body.{𝓣of, proved}
+use Rattle.walks.proofs.Body.{𝓣of, Defined, Met, proved}
 use denote.Steps.{said}
 
 module _ {M : Type 1} {𝓤 : URA M} where
@@ -120,10 +120,9 @@ module _ {M : Type 1} (𝓤 : URA M) (H : Heap 𝓤) (𝓜 : Model 𝓤 H) (𝓖
         (runs (𝓣of 𝓤 H 𝓜 𝓖 𝓡 env .C) (𝓣of 𝓤 H 𝓜 𝓖 𝓡 env .Λ) (envOf (f .locals) bs) (f .body)
         (atRet (envOf (f .locals) bs) (End 𝓤 H (𝓖 .A) D ps c y)))
 
-    module _ (key : Name) (closed : Closed 𝓤 H (tables 𝓤 H 𝓜 𝓡 env .C) (tables 𝓤 H 𝓜 𝓡 env .Λ) key f) (fits : Fitting 𝓤 D ps c f) where
+    module _ (key : Name) (closed : Defined 𝓤 H 𝓜 𝓖 𝓡 env key f) (fits : Fitting 𝓤 D ps c f) where
       pub walk-with : (φ : Start 𝓤 D ps c → Type 0) → ((z : Start 𝓤 D ps c) → ent 𝓤 (c (z .κs) (z .a) .requires (z .g)) (fact 𝓤 (φ z)))
-          → ((z : Start 𝓤 D ps c) → φ z → Walk (bound 𝓤 H (𝓖 .A) D ps c z))
-          → Meets 𝓤 H (𝓖 .A) (D .signature) (tables 𝓤 H 𝓜 𝓡 env .C key) (closing 𝓤 H (𝓖 .A) D c)
+          → ((z : Start 𝓤 D ps c) → φ z → Walk (bound 𝓤 H (𝓖 .A) D ps c z)) → Met 𝓤 H 𝓜 𝓖 𝓡 env key D c
       walk-with φ asks walk =
           let A = 𝓖 .A in
           let W = givenOf 𝓤 H 𝓜 𝓖 in
@@ -141,8 +140,7 @@ module _ {M : Type 1} (𝓤 : URA M) (H : Heap 𝓤) (𝓜 : Model 𝓤 H) (𝓖
           (enters-with {W = W} ! {Γ = at-entry (D .signature .lifetimes) κs qs Rs a vss} (T .C) (T .Λ) f (flat Rs vss) _
           (λ bs. fits z bs (fit 𝓤 D ps c W z)) (walk z pre) .prf)))))
 
-      pub walk-in : ((z : Start 𝓤 D ps c) → Walk (bound 𝓤 H (𝓖 .A) D ps c z))
-          → Meets 𝓤 H (𝓖 .A) (D .signature) (tables 𝓤 H 𝓜 𝓡 env .C key) (closing 𝓤 H (𝓖 .A) D c)
+      pub walk-in : ((z : Start 𝓤 D ps c) → Walk (bound 𝓤 H (𝓖 .A) D ps c z)) → Met 𝓤 H 𝓜 𝓖 𝓡 env key D c
       walk-in walk = walk-with (λ z. Unit {0}) (λ z. via 𝓤 _ (top 𝓤 _) (factI 𝓤 (Unit {0}) (emp 𝓤) tt)) (λ z _. walk z)
 
 -- ---- a function that passes its parameters on to one call, whole, and returns what that answers: it meets the contract that the function
@@ -159,8 +157,8 @@ module _ {M : Type 1} (𝓤 : URA M) (H : Heap 𝓤) (𝓜 : Model 𝓤 H) (𝓖
       (runs (𝓣of 𝓤 H 𝓜 𝓖 𝓡 env .C) (𝓣of 𝓤 H 𝓜 𝓖 𝓡 env .Λ) (envOf (f .locals) bs) (f .body)
       (atRet (envOf (f .locals) bs) (Whole .post (bound 𝓤 H (𝓖 .A) D ps c z))))
 
-  pub pass-in : (key : Name) → Closed 𝓤 H (tables 𝓤 H 𝓜 𝓡 env .C) (tables 𝓤 H 𝓜 𝓡 env .Λ) key f → Fitting 𝓤 D ps c f
-      → ((z : Start 𝓤 D ps c) → Passes z) → Meets 𝓤 H (𝓖 .A) (D .signature) (tables 𝓤 H 𝓜 𝓡 env .C key) (closing 𝓤 H (𝓖 .A) D c)
+  pub pass-in : (key : Name) → Defined 𝓤 H 𝓜 𝓖 𝓡 env key f → Fitting 𝓤 D ps c f → ((z : Start 𝓤 D ps c) → Passes z)
+      → Met 𝓤 H 𝓜 𝓖 𝓡 env key D c
   unfolding tablesOf
   pass-in key closed fits k =
       let W = givenOf 𝓤 H 𝓜 𝓖 in
