@@ -46,13 +46,13 @@ module _ {n low : ℕ} where
   onward [] f h = no
   onward (b ∷ u) f h = h b u refl
 
-  unit : (k set code octets : ℕ) (x : Bool) → low ≤ k → Meant k set code → 1 ≤ octets → octets ≤ n
+  unit : (k set code octets : ℕ) (x : Bool) → Meant k set code → (low ≤ k) × (1 ≤ octets) × (octets ≤ n)
       → Shaped n low (Gives (part k set code 0 octets x))
-  unit k set code octets x l f h g = gives {p = part k set code 0 octets x} (omega arith) (omega arith) l f
+  unit k set code octets x f h = gives {p = part k set code 0 octets x} (omega arith) (omega arith) (h .0) f
 
   second : low ≤ 0 → (set b : ℕ) (t : List ℕ) → 1 + length t ≤ n → Shaped n low (secondOctetOf set b t)
   unfolding secondOctetOf
-  second l set b t h = onward t _ (λ d u e. either _ (either _ (unit 0 set _ 2 _ l with-set (omega arith) (omega arith)) no) no)
+  second l set b t h = onward t _ (λ d u e. either _ (either _ (unit 0 set _ 2 _ with-set (omega arith)) no) no)
 
   intermediates : (t : List ℕ) → Shaped n low (intermediatesOf t)
   unfolding intermediatesOf
@@ -105,27 +105,27 @@ module _ {n low : ℕ} (few : low ≤ 2) where
       (either _ (designation 2 GR u (λ k. omega arith))
       (either _ (multi-octet u (omega arith)) (either _ (extended u (omega arith)) (either _ no no))))))
 
-  begin : (k : ℕ) (t : List ℕ) → 2 ≤ k → k < kind.segment → 2 + length t ≤ n → Shaped n low (beginOf k t)
+  begin : (k : ℕ) (t : List ℕ) → (2 ≤ k) × (k < kind.segment) × (2 + length t ≤ n) → Shaped n low (beginOf k t)
   unfolding beginOf
-  begin k t l f h = onward t _ (λ b u e. either _ (unit k 0 0 3 _ (omega arith) (with-none f) (omega arith) (omega arith)) no)
+  begin k t h = onward t _ (λ b u e. either _ (unit k 0 0 3 _ (with-none (h .1)) (omega arith)) no)
 
   csi : (t : List ℕ) → 1 + length t ≤ n → Shaped n low (csiOf t)
   unfolding csiOf
   csi t h =
       onward t _
       (λ b u e.
-      either _ (unit 6 0 0 2 _ (omega arith) (with-none (omega arith)) (omega arith) (omega arith))
-      (either _ (begin 4 u (omega arith) (omega arith) (omega arith)) (either _ (begin 5 u (omega arith) (omega arith) (omega arith)) no)))
+      either _ (unit 6 0 0 2 _ (with-none (omega arith)) (omega arith))
+      (either _ (begin 4 u (omega arith)) (either _ (begin 5 u (omega arith)) no)))
 
 module _ {n : ℕ} (s : Sets) where
   begun : (c : Start) (b : ℕ) (t : List ℕ) → 1 + length t ≤ n → Shaped n 0 (begunBy c b t s)
   unfolding begunBy
   begun start.escape b t h = escape zero-le t h
   begun start.mark b t h = csi zero-le t h
-  begun start.tab b t h = unit kind.tab 0 0 1 _ zero-le (with-none (omega arith)) (omega arith) (omega arith)
-  begun start.newline b t h = unit kind.newline 0 0 1 _ zero-le (with-none (omega arith)) (omega arith) (omega arith)
-  begun start.space b t h = unit kind.space 0 0 1 _ zero-le (with-none (omega arith)) (omega arith) (omega arith)
-  begun (start.one d) b t h = unit kind.character (get d s) _ 1 _ zero-le with-set (omega arith) (omega arith)
+  begun start.tab b t h = unit kind.tab 0 0 1 _ (with-none (omega arith)) (omega arith)
+  begun start.newline b t h = unit kind.newline 0 0 1 _ (with-none (omega arith)) (omega arith)
+  begun start.space b t h = unit kind.space 0 0 1 _ (with-none (omega arith)) (omega arith)
+  begun (start.one d) b t h = unit kind.character (get d s) _ 1 _ with-set (omega arith)
   begun (start.two d) b t h = second zero-le (get d s) b t h
   begun start.unused b t h = no
 

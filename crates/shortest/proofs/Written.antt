@@ -74,8 +74,8 @@ unit-octets (control rtl) d g o = computed (0x9B ∷ 0x32 ∷ 0x5D ∷ []) refl
 unit-octets (control revert) d g o = computed (0x9B ∷ 0x5D ∷ []) refl
 unit-octets (ext e xs) d g o =
     let h = good-segment e xs g in
-    join (0x1B ∷ 0x25 ∷ 0x2F ∷ e ∷ (128 + length xs / 128) ∷ (128 + length xs % 128) ∷ []) xs
-    (small (0x1B ∷ 0x25 ∷ 0x2F ∷ e ∷ (128 + length xs / 128) ∷ (128 + length xs % 128) ∷ []) (omega (arith, h .high, h .few))) o
+    let lead : List ℕ = 0x1B ∷ 0x25 ∷ 0x2F ∷ e ∷ (128 + length xs / 128) ∷ (128 + length xs % 128) ∷ [] in
+    join lead xs (small lead (omega (arith, h .high, h .few))) o
 
 -- the extended segments of a string of octets hold octets
 unit-contents : (u : TextUnit) (d : Side) → Octets (octets d u) → Contents u
