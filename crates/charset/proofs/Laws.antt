@@ -11,8 +11,7 @@ use mathlib.Core.Bool.{Bool, true, false, not, _&&_, Bool·beq}
 use mathlib.Core.List.{List, [], _∷_}
 use lib.ListN.{length, getD, List·getD-eq-default}
 use Rattle.charset.specs.Charsets.{Row, form-96, form-94x94, Named, row, rows, rowOf, mayUse, allowed, fitsOf, find, setOf, formOf}
-use Rattle.charset.specs.declared.Side.{Side}
-use Rattle.charset.specs.declared.Side.the-variants.{GL, GR}
+use Rattle.charset.specs.declared.Side.{Side, the-variants.GL, the-variants.GR}
 use Rattle.base.specs.Choice.{pick}
 use Rattle.base.proofs.Bools.{beq-eq, off, test, pick-both, from-tests, up-to, upTo, up-to-where}
 

@@ -20,8 +20,7 @@ use Rattle.element.specs.Start.{Start, startIn, begunBy}
 use Rattle.element.specs.Start as start
 use Rattle.element.specs.Element.{shapeOf, steppedOf, directedOf, elementOf}
 use Rattle.state.specs.declared.elements.Shape.the-variants.{Ends}
-use Rattle.segment.specs.declared.Name.{Name}
-use Rattle.segment.specs.declared.Name.the-variants.{Ends as NameEnds, Bad}
+use Rattle.segment.specs.declared.Name.{Name, the-variants.Ends as NameEnds, the-variants.Bad}
 
 -- ---- a shape
 

@@ -7,8 +7,7 @@ use Rattle.grammar.specs.Reading.{size}
 use Rattle.grammar.proofs.Places.{ahead, at-end, at-refused, at-passed}
 use Rattle.units.specs.Records.{recordOf}
 use Rattle.units.specs.Next.{outcomeOf}
-use Rattle.units.specs.declared.Outcome.{Outcome}
-use Rattle.units.specs.declared.Outcome.the-variants.{Gives, Stops}
+use Rattle.units.specs.declared.Outcome.{Outcome, the-variants.Gives, the-variants.Stops}
 
 -- what the elements from a place on give
 abbrev pub outcome : List ℕ → ℕ → State → Outcome
