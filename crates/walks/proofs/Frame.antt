@@ -268,18 +268,15 @@ module _ {M : Type 1} {𝓤 : URA M} {H : Heap 𝓤} {A : Atoms 𝓤} {K : Type 
   params-all t [] vs Γ f s = absurd f
   params-all t (e ∷ E) vs Γ f s = params1 t $ passes-all t E vs (one e empty Γ) f s
 
-  pub enters : K → {Γ : List (Item 𝓤)} (C : Calls 𝓤 H) (Λ : Loops 𝓤 H) (f : Fn) (vs : List Val) (Kf : Val → SProp 𝓤)
-      → ((bs : Blocks (f .locals)) → FitAfter (envOf (f .locals) bs) vs)
-      → ((bs : Blocks (f .locals)) → Seq K W (laid (envOf (f .locals) bs) (empty ∷ each-full vs) Γ)
-      (runs C Λ (envOf (f .locals) bs) (f .body) (atRet (envOf (f .locals) bs) Kf)))
-      → Seq K W Γ (prop (WpFn 𝓤 H C Λ f vs Kf))
-  enters t {Γ} C Λ f vs Kf fit k = enter t C Λ f vs Kf $ allocs-all t (f .locals) Γ (λ bs. params-all t (envOf (f .locals) bs) vs Γ (fit bs) (k bs))
+  module _ (t : K) {Γ : List (Item 𝓤)} (C : Calls 𝓤 H) (Λ : Loops 𝓤 H) (f : Fn) (vs : List Val) (Kf : Val → SProp 𝓤)
+      (fit : (bs : Blocks (f .locals)) → FitAfter (envOf (f .locals) bs) vs) where
+    pub enters : ((bs : Blocks (f .locals)) → Seq K W (laid (envOf (f .locals) bs) (empty ∷ each-full vs) Γ)
+        (runs C Λ (envOf (f .locals) bs) (f .body) (atRet (envOf (f .locals) bs) Kf)))
+        → Seq K W Γ (prop (WpFn 𝓤 H C Λ f vs Kf))
+    enters k = enter t C Λ f vs Kf $ allocs-all t (f .locals) Γ (λ bs. params-all t (envOf (f .locals) bs) vs Γ (fit bs) (k bs))
 
-  -- the same, with the locals after what else is owned
-  pub enters-with : K → {Γ : List (Item 𝓤)} (C : Calls 𝓤 H) (Λ : Loops 𝓤 H) (f : Fn) (vs : List Val) (Kf : Val → SProp 𝓤)
-      → ((bs : Blocks (f .locals)) → FitAfter (envOf (f .locals) bs) vs)
-      → ((bs : Blocks (f .locals)) → Seq K W (Γ ++ laid (envOf (f .locals) bs) (empty ∷ each-full vs) [])
-      (runs C Λ (envOf (f .locals) bs) (f .body) (atRet (envOf (f .locals) bs) Kf)))
-      → Seq K W Γ (prop (WpFn 𝓤 H C Λ f vs Kf))
-  enters-with t {Γ} C Λ f vs Kf fit k =
-      enters t C Λ f vs Kf fit (λ bs. record { prf = via 𝓤 _ (over H A (envOf (f .locals) bs) (empty ∷ each-full vs) Γ) (k bs .prf) })
+    -- the same, with the locals after what else is owned
+    pub enters-with : ((bs : Blocks (f .locals)) → Seq K W (Γ ++ laid (envOf (f .locals) bs) (empty ∷ each-full vs) [])
+        (runs C Λ (envOf (f .locals) bs) (f .body) (atRet (envOf (f .locals) bs) Kf)))
+        → Seq K W Γ (prop (WpFn 𝓤 H C Λ f vs Kf))
+    enters-with k = enters (λ bs. record { prf = via 𝓤 _ (over H A (envOf (f .locals) bs) (empty ∷ each-full vs) Γ) (k bs .prf) })
