@@ -29,11 +29,8 @@ use mir.Syntax.{Name, Place, Opd as Operand, Body, seq, call, Lifetime}
 use mir.Val.{WT, hasTy}
 use base.Logic.{comm∗, assoc∗, assoc′, mono∗, monoL, monoR, emp∗, exI}
 use base.Fml.{fdead}
-use prog.Wp.{evalOpds}
 use contract.Monad.{top}
-use types.Kit.{Post, lands, Seq}
-use types.Kit.{regoal, updating, mean, nth, del, push, pop, unpull, aim}
-use types.Kit.{use0, now as at-once}
+use types.Kit.{Post, lands, Seq, regoal, updating, mean, nth, del, push, pop, unpull, aim, use0, now as at-once}
 use types.Run.{Opds}
 use denote.Laws.{Tells, Typed, Lawful}
 use denote.Signature.{typeAt, typesAt, Signature}
@@ -293,16 +290,15 @@ module _ {M : Type 1} {𝓤 : URA M} {H : Heap 𝓤} {A : Atoms 𝓤} (W : Given
 
   parts⊢ : ent 𝓤 P (sep 𝓤 P P) → {F : Fml} → Parts F → ent 𝓤 P (sem 𝓤 H A F)
   parts⊢ twice all = top 𝓤 P
-  parts⊢ twice (x & xs) = via 𝓤 (sep 𝓤 P P) twice (mono∗ 𝓤 x (parts⊢ twice xs))
+  parts⊢ twice (x & xs) = via 𝓤 _ twice (mono∗ 𝓤 x (parts⊢ twice xs))
 
   parts-but⊢ : ent 𝓤 P (sep 𝓤 P P) → {Q : SProp 𝓤} {F : Fml} → PartsBut Q F → ent 𝓤 (sep 𝓤 P Q) (sem 𝓤 H A F)
-  parts-but⊢ twice {Q} (but x xs) = via 𝓤 (sep 𝓤 Q P) (comm∗ 𝓤 P Q) (mono∗ 𝓤 x (parts⊢ twice xs))
+  parts-but⊢ twice {Q} (but x xs) = via 𝓤 _ (comm∗ 𝓤 P Q) (mono∗ 𝓤 x (parts⊢ twice xs))
   parts-but⊢ twice {Q} (x &′ xs) =
-      via 𝓤 (sep 𝓤 (sep 𝓤 P P) Q) (monoL 𝓤 Q twice) (via 𝓤 (sep 𝓤 P (sep 𝓤 P Q)) (assoc∗ 𝓤 P P Q)
-      (mono∗ 𝓤 x (parts-but⊢ twice xs)))
+      via 𝓤 _ (monoL 𝓤 Q twice) (via 𝓤 _ (assoc∗ 𝓤 P P Q) (mono∗ 𝓤 x (parts-but⊢ twice xs)))
 
   pub plain : {R : RattleType} (d : Data R) (x : R .Denot) → Is R x (d .val x ∷ []) → ent 𝓤 P (sem 𝓤 H A (R .own x (d .val x ∷ [])))
-  plain d x is = via 𝓤 (emp 𝓤) (top 𝓤 P) (d .makes 𝓤 H A W x (d .val x ∷ []) is)
+  plain d x is = via 𝓤 _ (top 𝓤 P) (d .makes 𝓤 H A W x (d .val x ∷ []) is)
 
 pub both-twice : {M : Type 1} (𝓤 : URA M) {P Q : SProp 𝓤} → ent 𝓤 P (sep 𝓤 P P) → ent 𝓤 Q (sep 𝓤 Q Q)
     → ent 𝓤 (sep 𝓤 P Q) (sep 𝓤 (sep 𝓤 P Q) (sep 𝓤 P Q))
@@ -381,11 +377,9 @@ module _ {M : Type 1} {𝓤 : URA M} {H : Heap 𝓤} {A : Atoms 𝓤} {K : Type 
   called 𝓣 {Γ} Δ vs os i Q takes met k =
       let after : Val → SProp 𝓤 = λ r. aim 𝓤 H (lands (𝓣 .C) (𝓣 .Λ) E d r rest q) in
       record {
-        prf = via 𝓤 (evalOpds 𝓤 H E xs (λ us. 𝓣 .C f us after))
-            (os .go (λ us. 𝓣 .C f us after) (via 𝓤 (sep 𝓤 (𝓣 .C f vs Q) (⋆ 𝓤 H A Δ))
-            (via 𝓤 (sep 𝓤 (mean 𝓤 H A i) (⋆ 𝓤 H A Δ)) takes (monoL 𝓤 (⋆ 𝓤 H A Δ) met))
+        prf = via 𝓤 _ (os .go (λ us. 𝓣 .C f us after) (via 𝓤 _ (via 𝓤 _ takes (monoL 𝓤 (⋆ 𝓤 H A Δ) met))
             (fmOf 𝓤 H (W .laws) 𝓣 f vs Q after (⋆ 𝓤 H A Δ)
-            (λ r. via 𝓤 (⋆ 𝓤 H A (raw (Q r) ∷ Δ)) (push 𝓤 H A (raw (Q r)) Δ) (k r .prf)))))
+            (λ r. via 𝓤 _ (push 𝓤 H A (raw (Q r)) Δ) (k r .prf)))))
             (W .laws .⇛-intro _);
       }
 

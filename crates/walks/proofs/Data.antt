@@ -25,8 +25,7 @@ use denote.Enum.Declared as E
 use denote.Enum.Laws as EL
 use denote.Signature.{AllWithin, shrSliceOf, mutSliceOf, typesAt}
 use denote.Triple.End.{Kepts}
-use denote.Triple.Walked.{Stay, stay-slice, gave-slice, Goes, AllGo, goes-slice}
-use denote.Triple.Walked.{goes-gave-slice}
+use denote.Triple.Walked.{Stay, stay-slice, gave-slice, Goes, AllGo, goes-slice, goes-gave-slice}
 
 pub record Data (R : RattleType) : Type 2 where
   pub val : R .Denot → Val

@@ -129,7 +129,7 @@ module _ {M : Type 1} (𝓤 : URA M) (H : Heap 𝓤) (𝓜 : Model 𝓤 H) (𝓖
           let vss = vals-of 𝓤 D ps c κs a in
           let Rs : List RattleType = typesAt (D .signature .params) κs in
           let P : SProp 𝓤 = onEntry 𝓤 H A (D .signature) κs qs a vss in
-          via 𝓤 (sep 𝓤 P (fact 𝓤 (φ z))) (monoR 𝓤 P (asks z)) (needs 𝓤 (φ z) P (λ pre.
+          via 𝓤 _ (monoR 𝓤 P (asks z)) (needs 𝓤 (φ z) P (λ pre.
           via 𝓤 _ (entry⊢ H A (D .signature .lifetimes) κs qs Rs a vss)
           (enters-with {W = W} ! {Γ = at-entry (D .signature .lifetimes) κs qs Rs a vss} (T .C) (T .Λ) f (flat Rs vss) _
           (λ bs. fits z bs (fit 𝓤 D ps c W z)) (walk z pre) .prf)))))
@@ -162,8 +162,7 @@ module _ {M : Type 1} (𝓤 : URA M) (H : Heap 𝓤) (𝓜 : Model 𝓤 H) (𝓖
       let P : SProp 𝓤 = c (y .0 .0) (y .0 .3) .requires (y .1) in
       let Q : Vals (D .signature) (y .0 .0) → SProp 𝓤 = λ us. WpFn 𝓤 H (T .C) (T .Λ) f (flat (typesAt (D .signature .params) (y .0 .0)) us)
       (Whole .post ((y .0 .0, y .0 .1, y .0 .2, y .0 .3, us), y .1)) in
-      via 𝓤 (sep 𝓤 P (wand 𝓤 P (Q (y .0 .4))))
-      (via 𝓤 (sep 𝓤 (wand 𝓤 P (Q (y .0 .4))) P)
+      via 𝓤 _ (via 𝓤 _
       (monoL 𝓤 P (said 𝓤 H (𝓖 .A) (D .signature) (y .0 .0) (y .0 .1) (sp (y .0 .0)) (all-tell (D .signature .params) (D .kept) ps (y .0 .0)) (y .0 .3)
       (λ us. wand 𝓤 P (Q us)) (y .0 .4) (λ are.
       let z : Start 𝓤 D ps c = record { κs = y .0 .0; qs = y .0 .1; bounds = y .0 .2; a = y .0 .3; g = y .1; are = are } in

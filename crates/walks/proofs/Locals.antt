@@ -13,8 +13,7 @@ use mir.Syntax.{Name, Place, Opd as Operand, Body as Code, seq, call}
 use base.Logic.{wand, apply∗}
 use base.Fml.{fdead, fres}
 use contract.BorrowLft.{meet-⊑-left}
-use types.Kit.{mean, Post, Seq, lands, regoal}
-use types.Kit.{fpick, fpack}
+use types.Kit.{mean, Post, Seq, lands, regoal, fpick, fpack}
 use types.Run.{Opds}
 use types.Share.{arr-parts}
 use denote.Laws.{Tells}

@@ -19,8 +19,8 @@ use Rattle.walks.proofs.Names.{ShrSlice, shr-slice-copy, owned}
 use Prim.Native.Nat.{zero}
 use mathlib.Core.Option.{some}
 use lib.Dec.{T}
-use mir.Syntax.{Lifetime, Sym, Ty, Tys, tyStruct, tyEnum, ttnil, tyInt, deref, field, place, Opd as Operand, copy, Rv as RValue, addrOf, aggregate, Body}
-use mir.Syntax.{seq, assign}
+use mir.Syntax.{Lifetime, Sym, Ty, Tys, tyStruct, tyEnum, ttnil, tyInt, deref, field, place, Opd as Operand, copy, Rv as RValue, addrOf, aggregate, Body, seq}
+use mir.Syntax.{assign}
 use mir.Val.{vstruct, Vals, ofList, WT, hasTy}
 use mir.Fields.{getV}
 use base.Fml.{froom}
