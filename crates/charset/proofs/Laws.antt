@@ -5,17 +5,15 @@
 use Prim.Native.Nat.{ℕ, suc, _+_, _-_, _<_, _≤_}
 use native.Mathlib.Omega.{arith}
 use lib.Dec.{eqb, leb, ltb}
-use borrow.Author.Tests.{eqb-true, ne-eqb, le-ltb, leb-true, le-leb, ltb-true, ltb-false, not-true}
-use mathlib.Core.Path.{_≡_, refl, sym, subst}
-use mathlib.Core.Bool.{Bool, true, false, not, false≢true}
+use borrow.Author.Tests.{eqb-true, ne-eqb, le-ltb, le-leb, ltb-true, ltb-false, not-true}
+use mathlib.Core.Path.{_≡_, refl, sym}
+use mathlib.Core.Bool.{Bool, true, false, not, _&&_, Bool·beq}
 use mathlib.Core.List.{List, [], _∷_}
 use lib.ListN.{length, getD, List·getD-eq-default}
-use Rattle.charset.specs.Charsets.{Row}
-use Rattle.charset.specs.declared.Side.{Side}
-use Rattle.charset.specs.declared.Side.the-variants.{GL, GR}
+use Rattle.charset.specs.Charsets.{Row, form-96, form-94x94, Named, row, rows, rowOf, mayUse, allowed, fitsOf, find, setOf, formOf}
+use Rattle.charset.specs.declared.Side.{Side, the-variants.GL, the-variants.GR}
 use Rattle.base.specs.Choice.{pick}
-use Rattle.base.proofs.Bools.{implies, implies-elim, pick-both, up-to, upTo}
-use Rattle.charset.specs.Charsets.{form-96, form-94x94, Named, row, rows, rowOf, mayUse, allowed, fitsOf, find, setOf, formOf}
+use Rattle.base.proofs.Bools.{beq-eq, off, test, pick-both, from-tests, up-to, upTo, up-to-where}
 
 -- past the table there is no set
 pub row-past : (n : ℕ) → 15 ≤ n → rowOf n ≡ row 0 0 false false
@@ -30,35 +28,20 @@ fits-all w f s x e =
     record { form = eqb-true (w .form) f (h .0); last = eqb-true (w .last) x (k .0); side = k .1 }
 
 module _ (f : ℕ) (s : Side) (x : ℕ) (d : Row) where
-  step-from : (w : Row) (ws : List Row) (i : ℕ) (b : Bool) → fitsOf w f s x ≡ b → i ≤ find ws f s x (suc i) → i ≤ find (w ∷ ws) f s x i
-  unfolding find pick
-  step-from w ws i true e h = rw e (omega arith)
-  step-from w ws i false e h = rw e h
-
   find-from : (ws : List Row) (i : ℕ) → i ≤ find ws f s x i
-  unfolding find
-  find-from [] i = omega arith
-  find-from (w ∷ ws) i =
-      let h = find-from ws (suc i) in
-      step-from w ws i (fitsOf w f s x) refl (omega arith)
-
-  step-fits : (w : Row) (ws : List Row) (i : ℕ) (b : Bool) → fitsOf w f s x ≡ b
-      → (find ws f s x (suc i) < suc i + length ws → fitsOf (getD ws (find ws f s x (suc i) - suc i) d) f s x ≡ true)
-      → find (w ∷ ws) f s x i < i + suc (length ws) → fitsOf (getD (w ∷ ws) (find (w ∷ ws) f s x i - i) d) f s x ≡ true
   unfolding find pick
-  step-fits w ws i true e go h =
-      let z : i - i ≡ 0 = omega arith in
-      rw (e, z) e
-  step-fits w ws i false e go h =
-      let h′ : find ws f s x (suc i) < i + suc (length ws) = rw e at h in
-      let l = find-from ws (suc i) in
-      let z : find ws f s x (suc i) - i ≡ suc (find ws f s x (suc i) - suc i) = omega arith in
-      rw (e, z) (go (omega arith))
+  find-from [] i = omega arith
+  find-from (w ∷ ws) i = let h = find-from ws (suc i) in test (fitsOf w f s x) (λ e. rw e (omega arith)) (λ e. rw e (omega arith))
 
   find-fits : (ws : List Row) (i : ℕ) → find ws f s x i < i + length ws → fitsOf (getD ws (find ws f s x i - i) d) f s x ≡ true
-  unfolding find
+  unfolding find pick
   find-fits [] i h = absurd (omega arith)
-  find-fits (w ∷ ws) i h = step-fits w ws i (fitsOf w f s x) refl (find-fits ws (suc i)) h
+  find-fits (w ∷ ws) i h =
+      test (fitsOf w f s x) (λ e. let z : i - i ≡ 0 = omega arith in rw (e, z) e)
+      (λ e. let h′ : find ws f s x (suc i) < i + suc (length ws) = rw e at h in
+      let l = find-from ws (suc i) in
+      let z : find ws f s x (suc i) - i ≡ suc (find ws f s x (suc i) - suc i) = omega arith in
+      rw (e, z) (find-fits ws (suc i) (omega arith)))
 
 -- a set that a designation names
 pub set-named : (f : ℕ) (s : Side) (x : ℕ) → setOf f s x < 15 → Named (rowOf (setOf f s x)) f s x
@@ -68,49 +51,25 @@ set-named f s x h =
     fits-all _ f s x (rw z at (find-fits f s x (row 0 0 false false) rows 0 (omega arith)))
 
 -- a final octet of the table lies in 40-7E
-last-test : ℕ → Bool
-last-test c = pick (leb 0x40 (rowOf c .last)) (ltb (rowOf c .last) 0x7F) false
-
 pub final-range : (f : ℕ) (s : Side) (x : ℕ) → setOf f s x < 15 → (0x40 ≤ x) × (x < 0x7F)
-unfolding last-test pick
 final-range f s x h =
-    let n = set-named f s x h in
-    let b = pick-both (leb 0x40 (rowOf (setOf f s x) .last)) _ (up-to 15 last-test refl (setOf f s x) h) in
-    (rw (n .last) at (leb-true 0x40 (rowOf (setOf f s x) .last) (b .0)), rw (n .last) at (ltb-true (rowOf (setOf f s x) .last) 0x7F (b .1)))
+    let e = up-to 15 (λ c. leb 0x40 (rowOf c .last) && ltb (rowOf c .last) 0x7F) refl (setOf f s x) h in
+    rw (set-named f s x h .last) at (let b : (0x40 ≤ rowOf (setOf f s x) .last) × (rowOf (setOf f s x) .last < 0x7F) = search from-tests in b)
 
 -- a set that may stand anywhere is one of the fifteen
 pub allowed-below : (d : Side) (c : ℕ) → allowed d c ≡ true → c < 15
 unfolding allowed mayUse
-allowed-below d c e = go (ltb c 15) refl
+allowed-below d c e = test (ltb c 15) (ltb-true c 15) (λ q. past d (rw (row-past c (ltb-false c 15 q)) at e))
   where
     past : (d : Side) → mayUse d (row 0 0 false false) ≡ true → c < 15
-    past GL q = absurd (false≢true q)
-    past GR q = absurd (false≢true q)
-
-    go : (t : Bool) → ltb c 15 ≡ t → c < 15
-    go true q = ltb-true c 15 q
-    go false q = past d (subst (λ (r : Row). mayUse d r ≡ true) (List·getD-eq-default rows (row 0 0 false false) (ltb-false c 15 q)) e)
+    past GL q = off q
+    past GR q = off q
 
 -- ---- the code's comparisons
 
 -- a test that holds of the fifteen, and past them, holds of each number
 pub by-rows : (f : ℕ → Bool) → upTo 15 f ≡ true → ((n : ℕ) → 15 ≤ n → f n ≡ true) → (n : ℕ) → f n ≡ true
-by-rows f t past n = go (ltb n 15) refl
-  where
-    go : (b : Bool) → ltb n 15 ≡ b → f n ≡ true
-    go true e = up-to 15 f t n (ltb-true n 15 e)
-    go false e = past n (ltb-false n 15 e)
-
--- the same test of two answers
-same : Bool → Bool → Bool
-same a b = pick a b (not b)
-
-same-is : (a b : Bool) → same a b ≡ true → a ≡ b
-unfolding same pick
-same-is true true e = refl
-same-is true false e = absurd (false≢true e)
-same-is false true e = absurd (false≢true e)
-same-is false false e = refl
+by-rows f t past n = test (ltb n 15) (λ e. up-to 15 f t n (ltb-true n 15 e)) (λ e. past n (ltb-false n 15 e))
 
 unfoldable pub formRule : ℕ → ℕ
 formRule n = pick (ltb n 3) 1 (pick (ltb n 12) 2 (pick (ltb n 15) 3 0))
@@ -121,35 +80,23 @@ leftRule n = pick (eqb n 0) true (pick (eqb n 2) true (pick (ltb n 12) false (lt
 unfoldable pub rightRule : ℕ → Bool
 rightRule n = pick (eqb n 0) false (pick (eqb n 2) false (ltb n 15))
 
-form-test : ℕ → Bool
-form-test n = eqb (formRule n) (formOf n)
-
-form-past : (n : ℕ) → 15 ≤ n → form-test n ≡ true
-unfolding form-test formRule formOf pick
-form-past n h = rw (row-past n h, le-ltb n 3 (omega arith), le-ltb n 12 (omega arith), le-ltb n 15 h)
-
 pub form-rule : (n : ℕ) → formRule n ≡ formOf n
-unfolding form-test formRule formOf pick
-form-rule n = eqb-true _ _ (by-rows form-test refl form-past n)
-
-side-test : Side → (ℕ → Bool) → ℕ → Bool
-side-test d f n = same (f n) (allowed d n)
-
-left-past : (n : ℕ) → 15 ≤ n → side-test GL leftRule n ≡ true
-unfolding side-test same leftRule allowed mayUse pick
-left-past n h = rw (row-past n h, ne-eqb n 0 (λ e. omega arith), ne-eqb n 2 (λ e. omega arith), le-ltb n 12 (omega arith), le-ltb n 15 h)
-
-right-past : (n : ℕ) → 15 ≤ n → side-test GR rightRule n ≡ true
-unfolding side-test same rightRule allowed mayUse pick
-right-past n h = rw (row-past n h, ne-eqb n 0 (λ e. omega arith), ne-eqb n 2 (λ e. omega arith), le-ltb n 15 h)
+unfolding formRule formOf pick
+form-rule n =
+    eqb-true _ _ (by-rows (λ n. eqb (formRule n) (formOf n)) refl
+    (λ n h. rw (row-past n h, le-ltb n 3 (omega arith), le-ltb n 12 (omega arith), le-ltb n 15 h)) n)
 
 pub left-rule : (n : ℕ) → leftRule n ≡ allowed GL n
-unfolding side-test same leftRule allowed mayUse pick
-left-rule n = same-is _ _ (by-rows (side-test GL leftRule) refl left-past n)
+unfolding leftRule allowed mayUse pick
+left-rule n =
+    beq-eq _ _ (by-rows (λ n. Bool·beq (leftRule n) (allowed GL n)) refl
+    (λ n h. rw (row-past n h, ne-eqb n 0 (λ e. omega arith), ne-eqb n 2 (λ e. omega arith), le-ltb n 12 (omega arith), le-ltb n 15 h)) n)
 
 pub right-rule : (n : ℕ) → rightRule n ≡ allowed GR n
-unfolding side-test same rightRule allowed mayUse pick
-right-rule n = same-is _ _ (by-rows (side-test GR rightRule) refl right-past n)
+unfolding rightRule allowed mayUse pick
+right-rule n =
+    beq-eq _ _ (by-rows (λ n. Bool·beq (rightRule n) (allowed GR n)) refl
+    (λ n h. rw (row-past n h, ne-eqb n 0 (λ e. omega arith), ne-eqb n 2 (λ e. omega arith), le-ltb n 15 h)) n)
 
 -- sets 12 to 14 are those of two octets
 pub narrow-form : (c : ℕ) → c < 12 → eqb (formOf c) form-94x94 ≡ false
@@ -158,16 +105,12 @@ narrow-form c h = not-true (eqb (formOf c) form-94x94) (up-to 12 (λ m. not (eqb
 
 pub wide-form : (c : ℕ) → 12 ≤ c → c < 15 → eqb (formOf c) form-94x94 ≡ true
 unfolding formOf
-wide-form c h k =
-    implies-elim (leb 12 c) (eqb (formOf c) form-94x94) (up-to 15 (λ m. implies (leb 12 m) (eqb (formOf m) form-94x94)) refl c k) (le-leb 12 c h)
+wide-form c h k = up-to-where 15 (leb 12) (λ m. eqb (formOf m) form-94x94) refl c k (le-leb 12 c h)
 
 -- no set of 96 stands in GL
 pub left-form : (c : ℕ) → allowed GL c ≡ true → eqb (formOf c) form-96 ≡ false
 unfolding allowed mayUse formOf
-left-form c a =
-    not-true (eqb (formOf c) form-96)
-    (implies-elim (allowed GL c) (not (eqb (formOf c) form-96))
-    (up-to 15 (λ m. implies (allowed GL m) (not (eqb (formOf m) form-96))) refl c (allowed-below GL c a)) a)
+left-form c a = not-true _ (up-to-where 15 (allowed GL) (λ m. not (eqb (formOf m) form-96)) refl c (allowed-below GL c a) a)
 
 -- a final octet that is known
 pub finds : (n f x f′ x′ : ℕ) (d : Side) → f ≡ f′ → x ≡ x′ → n ≡ setOf f′ d x′ → n ≡ setOf f d x

@@ -6,8 +6,7 @@ use mathlib.Core.List.{List, [], _∷_}
 use lib.ListN.{getD}
 use lib.Dec.{eqb}
 use Rattle.base.specs.Choice.{pick}
-use Rattle.charset.specs.declared.Side.{Side}
-use Rattle.charset.specs.declared.Side.the-variants.{GL, GR}
+use Rattle.charset.specs.declared.Side.{Side, the-variants.GL, the-variants.GR}
 
 -- the forms: a set of 94, of 96, of 94 by 94
 abbrev pub form-94 : ℕ

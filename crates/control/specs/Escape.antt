@@ -5,12 +5,10 @@ use lib.Dec.{eqb, ltb}
 use Rattle.base.specs.Choice.{pick}
 use Rattle.base.specs.Refusal as refusal
 use Rattle.charset.specs.Charsets.{form-94, form-96, form-94x94, no-set, setOf}
-use Rattle.charset.specs.declared.Side.{Side}
-use Rattle.charset.specs.declared.Side.the-variants.{GL, GR}
+use Rattle.charset.specs.declared.Side.{Side, the-variants.GL, the-variants.GR}
 use Rattle.segment.specs.Segment.{extendedOf}
 use Rattle.state.specs.Elements.{refused, next}
-use Rattle.state.specs.declared.elements.Shape.{Shape}
-use Rattle.state.specs.declared.elements.Shape.the-variants.{Designates}
+use Rattle.state.specs.declared.elements.Shape.{Shape, the-variants.Designates}
 
 -- after the first intermediate: further ones 20 to 2F, and then a final, for which no set is approved (rule E1e)
 unfoldable pub intermediatesOf : List ℕ → Shape

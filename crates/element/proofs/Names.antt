@@ -1,4 +1,4 @@
--- The names that proofs of the crates above this one use, passed on from where they are declared, so that such a proof needs few lines for them.
+-- The names that proofs of this crate and of those above it use, passed on from where they are declared, so that such a proof needs few lines for them.
 pub use Prim.Native.Nat.{_%_, _*_, _+_, _-_, _/_, _<_, _^_, _≤_, min, suc, zero, zero-le, ℕ}
 pub use borrow.Author.Tests.{eq-eqb, eqb-false, eqb-true, le-leb, le-ltb, leb-false, leb-true, lt-leb, lt-ltb, ltb-false, ltb-true, ne-eqb}
 pub use denote.Ref.{now}

@@ -2,28 +2,15 @@
 -- above 0; and a state that is fit stays fit. Of the shape (`Shaped`) it is shown for each definition from the leaves up, with `n` the octets
 -- that the element may have; of the element (`Sized`) by its shape and the direction rule. On the way: escape sequences and direction marks are no
 -- characters or spaces (`escape-kind`, `mark-kind`).
-use Prim.Native.Nat.{ℕ, suc, _+_, _*_, _-_, _%_, _^_, _<_, _≤_, zero-le}
-use native.Mathlib.Omega.{arith}
-use mathlib.Core.Path.{_≡_, refl, sym}
-use mathlib.Core.Bool.{Bool, true, false}
-use mathlib.Core.List.{List, [], _∷_}
-use lib.Dec.{eqb, leb, ltb}
-use lib.ListN.{length, take}
-use borrow.Author.Tests.{leb-true, ltb-true}
-use Rattle.base.specs.Choice.{pick}
+use Rattle.element.proofs.Names.{ℕ, suc, _+_, _-_, _<_, _≤_, zero-le, arith, _≡_, refl, sym, Bool, true, cond, List, [], _∷_, eqb, leb, ltb}
+use Rattle.element.proofs.Names.{length, take, leb-true, ltb-true, pick, pick-by, tested, no-set, allowed, setOf, Side, GL, GR, directions, writtenOf}
+use Rattle.element.proofs.Names.{deeperOf, begunOf, revertedOf, stepOf, get, put, designatedOf, Directions, Step, Goes, Stops, part, next, Sets}
+use Rattle.element.proofs.Names.{State, Part, Shape, Refuses, Designates, Gives, Element, End, Refused, Silent, Found}
 use Rattle.base.specs.Kind as kind
 use Rattle.base.specs.Limit as limit
 use Rattle.base.specs.Refusal as refusal
-use Rattle.charset.specs.Charsets.{no-set, allowed, setOf}
 use Rattle.charset.proofs.Laws.{set-named}
-use Rattle.charset.specs.declared.Side.{Side}
-use Rattle.charset.specs.declared.Side.the-variants.{GL, GR}
-use Rattle.state.specs.Directions.{directions, writtenOf, deeperOf, begunOf, revertedOf, stepOf}
-use Rattle.state.specs.State.{get, put, designatedOf}
-use Rattle.state.specs.declared.directions.Directions.{Directions}
-use Rattle.state.specs.declared.directions.Step.{Step}
-use Rattle.state.specs.declared.directions.Step.the-variants.{Goes, Stops}
-use Rattle.state.specs.Elements.{part, refused, next}
+use Rattle.state.specs.Elements.{refused}
 use Rattle.text.specs.Text.{secondOctetOf}
 use Rattle.control.specs.Escape.{intermediatesOf, designatesOf, finalOf, designationOf, multiOctetOf, escapeOf}
 use Rattle.segment.specs.Segment.{segmentPart, nameOf, contentOf, bodyOf, lengthsOf, extendedOf}
@@ -32,15 +19,8 @@ use Rattle.element.specs.Meant.{Meant, with-set, with-none, with-code, M
 use Rattle.element.specs.Start.{Start, startIn, begunBy}
 use Rattle.element.specs.Start as start
 use Rattle.element.specs.Element.{shapeOf, steppedOf, directedOf, elementOf}
-use Rattle.state.specs.declared.Sets.{Sets}
-use Rattle.state.specs.declared.State.{State}
-use Rattle.state.specs.declared.elements.Part.{Part}
-use Rattle.state.specs.declared.elements.Shape.{Shape}
-use Rattle.state.specs.declared.elements.Shape.the-variants.{Ends, Refuses, Designates, Gives}
-use Rattle.state.specs.declared.elements.Element.{Element}
-use Rattle.state.specs.declared.elements.Element.the-variants.{End, Refused, Silent, Found}
-use Rattle.segment.specs.declared.Name.{Name}
-use Rattle.segment.specs.declared.Name.the-variants.{Ends as NameEnds, Bad}
+use Rattle.state.specs.declared.elements.Shape.the-variants.{Ends}
+use Rattle.segment.specs.declared.Name.{Name, the-variants.Ends as NameEnds, the-variants.Bad}
 
 -- ---- a shape
 
@@ -51,27 +31,12 @@ data Shaped (n low : ℕ) : Shape → Type 0 where
   designates : {k : ℕ} {d : Side} {c : ℕ} → 1 ≤ k → k ≤ n → allowed d c ≡ true → Shaped n low (Designates k d c)
   gives : {p : Part} → 1 ≤ p .skip + p .octets → p .skip + p .octets ≤ n → low ≤ p .kind → MeantPart p → Shaped n low (Gives p)
 
-four : {n : ℕ} → 4 ≤ n → pick (eqb 3 3) 4 3 ≤ n
-unfolding pick
-four h = h
-
-three : {n : ℕ} → 3 ≤ n → (pick (eqb 1 3) 4 3 ≤ n) × (pick (eqb 2 3) 4 3 ≤ n)
-unfolding pick
-three h = (h, h)
-
 module _ {n low : ℕ} where
   no : {r : ℕ} → Shaped n low (refused (suc r))
   no {r} = short {r = suc r} (omega arith) zero-le
 
   either : {x y : Shape} (t : Bool) → Shaped n low x → Shaped n low y → Shaped n low (pick t x y)
-  unfolding pick
-  either true h k = h
-  either false h k = k
-
-  where-true : (e : Bool) {x y : Shape} → (e ≡ true → Shaped n low x) → Shaped n low y → Shaped n low (pick e x y)
-  unfolding pick
-  where-true true h k = h refl
-  where-true false h k = k
+  either t h k = pick-by (Shaped n low) t (λ _. h) (λ _. k)
 
   -- of the next octet
   onward : (t : List ℕ) (f : ℕ → List ℕ → Shape) → ((b : ℕ) (u : List ℕ) → length t ≡ suc (length u) → Shaped n low (f b u))
@@ -80,32 +45,28 @@ module _ {n low : ℕ} where
   onward [] f h = no
   onward (b ∷ u) f h = h b u refl
 
-  unit : (k set code octets : ℕ) (x : Bool) → low ≤ k → Meant k set code → 1 ≤ octets → octets ≤ n
+  unit : (k set code octets : ℕ) (x : Bool) → Meant k set code → (low ≤ k) × (1 ≤ octets) × (octets ≤ n)
       → Shaped n low (Gives (part k set code 0 octets x))
-  unit k set code octets x l f h g = gives {p = part k set code 0 octets x} (omega arith) (omega arith) l f
+  unit k set code octets x f h = gives {p = part k set code 0 octets x} (omega arith) (omega arith) (h .0) f
 
   second : low ≤ 0 → (set b : ℕ) (t : List ℕ) → 1 + length t ≤ n → Shaped n low (secondOctetOf set b t)
   unfolding secondOctetOf
-  second l set b t h = onward t _ (λ d u e. either _ (either _ (unit 0 set _ 2 _ l with-set (omega arith) (omega arith)) no) no)
+  second l set b t h = onward t _ (λ d u e. either _ (either _ (unit 0 set _ 2 _ with-set (omega arith)) no) no)
 
   intermediates : (t : List ℕ) → Shaped n low (intermediatesOf t)
   unfolding intermediatesOf
   intermediates [] = no
   intermediates (b ∷ t) = either _ no (either _ (intermediates t) (either _ no (either _ no no)))
 
-  placed-by : (e : Bool) (d : Side) (c : ℕ) → allowed d c ≡ true → pick e 4 3 ≤ n → Shaped n low (pick e (Designates 4 d c) (Designates 3 d c))
-  unfolding pick
-  placed-by true d c a h = designates {k = 4} (omega arith) h a
-  placed-by false d c a h = designates {k = 3} (omega arith) h a
-
-  placed : (form : ℕ) (side : Side) (last : ℕ) → pick (eqb form 3) 4 3 ≤ n → Shaped n low (finalOf form side last)
+  placed : (form : ℕ) (side : Side) (last : ℕ) → cond (eqb form 3) 4 3 ≤ n → Shaped n low (finalOf form side last)
   unfolding designatesOf allowed
   placed form side last h =
-      where-true (ltb (setOf form side last) no-set)
-      (λ e. placed-by (eqb form 3) side (setOf form side last) (set-named form side last (ltb-true (setOf form side last) no-set e) .side) h)
-      no
+      pick-by (Shaped n low) (ltb (setOf form side last) no-set)
+      (λ e. let a = set-named form side last (ltb-true (setOf form side last) no-set e) .side in
+      pick-by (Shaped n low) (eqb form 3) (λ f. designates {k = 4} (omega arith) (rw f at h) a) (λ f. designates {k = 3} (omega arith) (rw f at h) a))
+      (λ _. no)
 
-  designation : (form : ℕ) (side : Side) (t : List ℕ) → (1 ≤ length t → pick (eqb form 3) 4 3 ≤ n) → Shaped n low (designationOf form side t)
+  designation : (form : ℕ) (side : Side) (t : List ℕ) → (1 ≤ length t → cond (eqb form 3) 4 3 ≤ n) → Shaped n low (designationOf form side t)
   unfolding designationOf
   designation form side t h =
       onward t _
@@ -113,10 +74,7 @@ module _ {n low : ℕ} where
 
   multi-octet : (t : List ℕ) → 2 + length t ≤ n → Shaped n low (multiOctetOf t)
   unfolding multiOctetOf
-  multi-octet t h =
-      onward t _
-      (λ b u e.
-      either _ (designation 3 GL u (λ k. four (omega arith))) (either _ (designation 3 GR u (λ k. four (omega arith))) no))
+  multi-octet t h = onward t _ (λ b u e. either _ (designation 3 GL u (λ k. omega arith)) (either _ (designation 3 GR u (λ k. omega arith)) no))
 
 module _ {n low : ℕ} (few : low ≤ 2) where
   content : (d m : ℕ) (k : Name) → 6 + m ≤ n → Shaped n low (contentOf d m k)
@@ -126,10 +84,7 @@ module _ {n low : ℕ} (few : low ≤ 2) where
 
   body : (d m : ℕ) (t : List ℕ) → 6 + length t ≤ n → Shaped n low (bodyOf d m t)
   unfolding bodyOf
-  body d m t h =
-      where-true (leb m (length t))
-      (λ e. let k : m ≤ length t = leb-true m (length t) e in content d m (nameOf (take m t) 0) (omega arith))
-      no
+  body d m t h = pick-by (Shaped n low) (leb m (length t)) (λ e. content d m (nameOf (take m t) 0) (omega (arith, leb-true m (length t) e))) (λ _. no)
 
   lengths : (d : ℕ) (t : List ℕ) → 4 + length t ≤ n → Shaped n low (lengthsOf d t)
   unfolding lengthsOf
@@ -137,41 +92,39 @@ module _ {n low : ℕ} (few : low ≤ 2) where
 
   extended : (t : List ℕ) → 2 + length t ≤ n → Shaped n low (extendedOf t)
   unfolding extendedOf
-  extended t h =
-      onward t _
-      (λ b u e. either _ (onward u _ (λ d v k. either _ no (either _ (lengths d v (omega arith)) no))) no)
+  extended t h = onward t _ (λ b u e. either _ (onward u _ (λ d v k. either _ no (either _ (lengths d v (omega arith)) no))) no)
 
   escape : (t : List ℕ) → 1 + length t ≤ n → Shaped n low (escapeOf t)
   unfolding escapeOf
   escape t h =
       onward t _
       (λ b u e.
-      either _ (designation 1 GL u (λ k. three (omega arith) .0))
-      (either _ (designation 1 GR u (λ k. three (omega arith) .0))
-      (either _ (designation 2 GR u (λ k. three (omega arith) .1))
+      either _ (designation 1 GL u (λ k. omega arith))
+      (either _ (designation 1 GR u (λ k. omega arith))
+      (either _ (designation 2 GR u (λ k. omega arith))
       (either _ (multi-octet u (omega arith)) (either _ (extended u (omega arith)) (either _ no no))))))
 
-  begin : (k : ℕ) (t : List ℕ) → 2 ≤ k → k < kind.segment → 2 + length t ≤ n → Shaped n low (beginOf k t)
+  begin : (k : ℕ) (t : List ℕ) → (2 ≤ k) × (k < kind.segment) × (2 + length t ≤ n) → Shaped n low (beginOf k t)
   unfolding beginOf
-  begin k t l f h = onward t _ (λ b u e. either _ (unit k 0 0 3 _ (omega arith) (with-none f) (omega arith) (omega arith)) no)
+  begin k t h = onward t _ (λ b u e. either _ (unit k 0 0 3 _ (with-none (h .1)) (omega arith)) no)
 
   csi : (t : List ℕ) → 1 + length t ≤ n → Shaped n low (csiOf t)
   unfolding csiOf
   csi t h =
       onward t _
       (λ b u e.
-      either _ (unit 6 0 0 2 _ (omega arith) (with-none (omega arith)) (omega arith) (omega arith))
-      (either _ (begin 4 u (omega arith) (omega arith) (omega arith)) (either _ (begin 5 u (omega arith) (omega arith) (omega arith)) no)))
+      either _ (unit 6 0 0 2 _ (with-none (omega arith)) (omega arith))
+      (either _ (begin 4 u (omega arith)) (either _ (begin 5 u (omega arith)) no)))
 
 module _ {n : ℕ} (s : Sets) where
   begun : (c : Start) (b : ℕ) (t : List ℕ) → 1 + length t ≤ n → Shaped n 0 (begunBy c b t s)
   unfolding begunBy
   begun start.escape b t h = escape zero-le t h
   begun start.mark b t h = csi zero-le t h
-  begun start.tab b t h = unit kind.tab 0 0 1 _ zero-le (with-none (omega arith)) (omega arith) (omega arith)
-  begun start.newline b t h = unit kind.newline 0 0 1 _ zero-le (with-none (omega arith)) (omega arith) (omega arith)
-  begun start.space b t h = unit kind.space 0 0 1 _ zero-le (with-none (omega arith)) (omega arith) (omega arith)
-  begun (start.one d) b t h = unit kind.character (get d s) _ 1 _ zero-le with-set (omega arith) (omega arith)
+  begun start.tab b t h = unit kind.tab 0 0 1 _ (with-none (omega arith)) (omega arith)
+  begun start.newline b t h = unit kind.newline 0 0 1 _ (with-none (omega arith)) (omega arith)
+  begun start.space b t h = unit kind.space 0 0 1 _ (with-none (omega arith)) (omega arith)
+  begun (start.one d) b t h = unit kind.character (get d s) _ 1 _ with-set (omega arith)
   begun (start.two d) b t h = second zero-le (get d s) b t h
   begun start.unused b t h = no
 
@@ -208,29 +161,25 @@ pub data Fair (d : Directions) : Step → Type 0 where
 
 module _ (d : Directions) where
   fair-pick : (b : Bool) (x y : Step) → Fair d x → Fair d y → Fair d (pick b x y)
-  unfolding pick
-  fair-pick true x y h k = h
-  fair-pick false x y h k = k
+  fair-pick b x y h k = pick-by (Fair d) b (λ _. h) (λ _. k)
 
-  fair-deeper : (way : ℕ) (b : Bool) → ltb (d .depth) limit.depth ≡ b
-      → Fair d (pick b (Goes (directions (d .depth + 1) (d .levels % 2 ^ 63 * 2 + way % 2) true (d .texted))) (Stops refusal.too-deep))
-  unfolding pick
-  fair-deeper way true e =
-      let h : d .depth < limit.depth = ltb-true (d .depth) limit.depth e in
-      let k : d .depth + 1 ≤ limit.depth = omega arith in
-      goes (λ _. k)
-  fair-deeper way false e = stops {n = refusal.too-deep} (omega arith)
+  fair-deeper : (way : ℕ) → Fair d (deeperOf way d)
+  unfolding deeperOf
+  fair-deeper way =
+      pick-by (Fair d) (ltb (d .depth) limit.depth) (λ e. goes (λ _. omega (tested, e))) (λ _. stops {n = refusal.too-deep} (omega arith))
+
+  fair-less : (levels : ℕ) (marked texted : Bool) → Fair d (Goes (directions (d .depth - 1) levels marked texted))
+  fair-less levels marked texted = goes {next = directions (d .depth - 1) levels marked texted} (λ h. omega arith)
+
+  stops-eight : Fair d (Stops refusal.direction)
+  stops-eight = stops {n = refusal.direction} (omega arith)
+
+  stays : {next : Directions} → next .depth ≡ d .depth → Fair d (Goes next)
+  stays {next} e = goes {next = next} (λ h. omega arith)
 
   pub fair : (x : Bool) (kind : ℕ) → Fair d (stepOf x kind d)
-  unfolding stepOf writtenOf begunOf deeperOf revertedOf
-  fair x kind =
-      let reverted : d .depth ≤ limit.depth → d .depth - 1 ≤ limit.depth = λ h. omega arith in
-      let eight : Fair d (Stops refusal.direction) = stops {n = refusal.direction} (omega arith) in
-      let deeper : (way : ℕ) → Fair d (deeperOf way d) = λ way. fair-deeper way (ltb (d .depth) limit.depth) refl in
-      let begun : (way : ℕ) → Fair d (begunOf way d) = λ way. fair-pick _ _ _ (deeper way) (fair-pick _ _ _ eight (deeper way)) in
-      fair-pick _ _ _ (fair-pick _ _ _ (fair-pick _ _ _ eight (goes (λ h. h))) (goes (λ h. h)))
-      (fair-pick _ _ _ (begun 0)
-      (fair-pick _ _ _ (begun 1) (fair-pick _ _ _ (fair-pick _ _ _ eight (goes reverted)) (goes (λ h. h)))))
+  unfolding stepOf writtenOf begunOf revertedOf
+  fair x kind = search (fair-pick, fair-deeper, fair-less, stops-eight, stays) depth 9
 
 -- ---- an element
 

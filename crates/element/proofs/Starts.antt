@@ -1,19 +1,8 @@
 -- What an octet starts says where the octet lies and what the form on its side is (`starts`), and the other way round: an octet of a side that
 -- the set there uses starts a character of it (`starts-one`, `starts-two`). Each goes down the tests of `startOf`, so no one else does.
-use Prim.Native.Nat.{ℕ, _%_, _≤_, _<_}
-use native.Mathlib.Omega.{arith}
-use mathlib.Core.Path.{_≡_, refl, sym, _∙_}
-use mathlib.Core.Bool.{Bool, true, false}
-use lib.Dec.{eqb, ltb}
-use borrow.Author.Tests.{eqb-true, eqb-false, ltb-true, ltb-false, leb-true, le-leb, ne-eqb}
-use Rattle.base.specs.Choice.{pick}
-use Rattle.base.proofs.Bools.{pick-by, pick-last, test}
-use Rattle.base.proofs.Ladder.{on-true, on-false, on-eq, on-ne, on-lt, on-ge}
-use Rattle.charset.specs.Charsets.{form-96, form-94x94, formOf}
-use Rattle.charset.specs.declared.Side.{Side}
-use Rattle.charset.specs.declared.Side.the-variants.{GL, GR}
-use Rattle.state.specs.State.{get}
-use Rattle.state.specs.declared.Sets.{Sets}
+use Rattle.element.proofs.Names.{ℕ, _%_, _≤_, _<_, arith, _≡_, refl, sym, _∙_, Bool, true, false, eqb, ltb, eqb-true, ltb-false, le-leb}
+use Rattle.element.proofs.Names.{ne-eqb, pick, pick-by, pick-last, test, tested, on-true, on-false, on-eq, on-ne, on-lt, on-ge, form-96, form-94x94}
+use Rattle.element.proofs.Names.{formOf, Side, GL, GR, get, Sets}
 use Rattle.text.specs.Text.{graphicOf}
 use Rattle.element.specs.Start.{Start, usedIn, characterStart, leftStart, startOf, startIn}
 use Rattle.element.specs.Start as start
@@ -47,7 +36,7 @@ pub graphic-low : (c : ℕ) → graphicOf c ≡ true → (0x21 ≤ c) × (c ≤ 
 unfolding graphicOf
 graphic-low c e =
     let h = pick-last (ltb c 0x21) _ e in
-    (ltb-false c 0x21 (h .0), leb-true c 0x7E (h .1))
+    omega tested
 
 pub graphic : (c : ℕ) → 0x21 ≤ c → c ≤ 0x7E → graphicOf c ≡ true
 unfolding graphicOf
@@ -91,13 +80,7 @@ module _ (s : Sets) (b : ℕ) where
       (λ _. by _ (λ _. unused)
       (λ l. by _
       (λ m. by _ (λ e. by _ (λ _. unused) (space (eqb-true _ _ e)))
-      (λ e. by _ (λ _. unused)
-      (λ f.
-      let n : b ≡ 0x20 → ⊥ = eqb-false _ _ e in
-      let o : b ≡ 0x7F → ⊥ = eqb-false _ _ f in
-      let p = ltb-false b 0x20 l in
-      let q = ltb-true b 0x80 m in
-      character GL (omega arith, omega arith))))
+      (λ e. by _ (λ _. unused) (λ f. character GL (omega tested))))
       (λ _. by _ (λ _. unused) (λ r. character GR (ltb-false b 0xA0 r))))))))
 
   -- an octet of a side

@@ -1,25 +1,11 @@
 -- The ladder's rules for the first octet of an element: down the tests of what it starts, and on to the functions of `text`, whose answers are
 -- what a GL or GR octet starts.
-use Prim.Native.Nat.{ℕ, _+_, _%_, _<_, _≤_}
-use native.Mathlib.Omega.{arith}
-use mathlib.Core.Path.{_≡_, refl, _∙_}
-use mathlib.Core.Bool.{Bool, true, false}
-use mathlib.Core.List.{List, [], _∷_}
-use lib.Dec.{eqb}
-use lib.ListN.{length, getD}
-use borrow.Author.Tests.{eqb-true, lt-ltb, le-ltb, ne-eqb}
-use Rattle.base.specs.Choice.{pick, from}
+use Rattle.element.proofs.Names.{ℕ, _+_, _%_, _<_, _≤_, arith, _≡_, refl, _∙_, ap, Bool, true, false, List, [], _∷_, eqb, length, getD}
+use Rattle.element.proofs.Names.{eqb-true, lt-ltb, le-ltb, ne-eqb, pick, from, test, form-96, form-94x94, formOf, Side, GL, GR, get, Sets, Shape}
 use Rattle.base.specs.Refusal as refusal
-use Rattle.base.proofs.Bools.{test}
 use Rattle.base.proofs.Ladder.{octet, ended}
-use Rattle.charset.specs.Charsets.{form-96, form-94x94, formOf}
-use Rattle.charset.specs.declared.Side.{Side}
-use Rattle.charset.specs.declared.Side.the-variants.{GL, GR}
 use Rattle.state.proofs.Steps.{steps}
 use Rattle.state.specs.Elements.{refused}
-use Rattle.state.specs.State.{get}
-use Rattle.state.specs.declared.Sets.{Sets}
-use Rattle.state.specs.declared.elements.Shape.{Shape}
 use Rattle.text.specs.Text.{graphicOf}
 use Rattle.text.specs.Functions.{characterOf, textOf}
 use Rattle.element.specs.Element.{shapeOf}
@@ -42,13 +28,8 @@ module _ (b : ℕ) (t : List ℕ) (s : Sets) where
   unfolding characterOf characterStart usedIn begunBy pick
   character d =
       test (eqb (formOf (get d s)) form-96) (λ e. rw (eqb-true (formOf (get d s)) form-96 e))
-      (λ e. rw e (by (graphicOf (b % 128)) (eqb (formOf (get d s)) form-94x94)))
-    where
-      by : (u w : Bool) → pick u (pick w (begunBy (two d) b t s) (begunBy (one d) b t s)) (begunBy unused b t s)
-          ≡ begunBy (pick u (pick w (two d) (one d)) unused) b t s
-      by true true = refl
-      by true false = refl
-      by false w = refl
+      (λ e. rw e (ap (λ (x : Shape). pick (graphicOf (b % 128)) x (begunBy unused b t s)) (pushed (eqb (formOf (get d s)) form-94x94) (two d) (one d))
+      ∙ pushed (graphicOf (b % 128)) _ unused))
 
   -- 7F
   pub on-delete : b ≡ 0x7F → refused refusal.unused ≡ shapeOf (b ∷ t) s

@@ -6,13 +6,10 @@ use Rattle.state.specs.Directions.{stepOf}
 use Rattle.state.specs.State.{designatedOf, directedTo}
 use Rattle.state.specs.declared.Sets.{Sets}
 use Rattle.state.specs.declared.State.{State}
-use Rattle.state.specs.declared.directions.Step.{Step}
-use Rattle.state.specs.declared.directions.Step.the-variants.{Goes, Stops}
+use Rattle.state.specs.declared.directions.Step.{Step, the-variants.Goes, the-variants.Stops}
 use Rattle.state.specs.declared.elements.Part.{Part}
-use Rattle.state.specs.declared.elements.Shape.{Shape}
-use Rattle.state.specs.declared.elements.Shape.the-variants.{Ends, Refuses, Designates, Gives}
-use Rattle.state.specs.declared.elements.Element.{Element}
-use Rattle.state.specs.declared.elements.Element.the-variants.{End, Refused, Silent, Found}
+use Rattle.state.specs.declared.elements.Shape.{Shape, the-variants.Ends, the-variants.Refuses, the-variants.Designates, the-variants.Gives}
+use Rattle.state.specs.declared.elements.Element.{Element, the-variants.End, the-variants.Refused, the-variants.Silent, the-variants.Found}
 use Rattle.element.specs.Start.{startIn, begunBy}
 
 -- its shape, by what its first octet starts

@@ -8,8 +8,7 @@ use Rattle.base.specs.Choice.{pick}
 use Rattle.base.specs.Kind as kind
 use Rattle.base.specs.Refusal as refusal
 use Rattle.charset.specs.Charsets.{form-96, form-94x94, formOf}
-use Rattle.charset.specs.declared.Side.{Side}
-use Rattle.charset.specs.declared.Side.the-variants.{GL, GR}
+use Rattle.charset.specs.declared.Side.{Side, the-variants.GL, the-variants.GR}
 use Rattle.control.specs.Escape.{escapeOf}
 use Rattle.control.specs.Mark.{csiOf}
 use Rattle.state.specs.Elements.{unit, refused}

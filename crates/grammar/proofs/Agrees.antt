@@ -1,10 +1,10 @@
 -- The grammar and the reader's definition agree. What the reader accepts is of the grammar (`told`): each of its elements starts with
 -- the octets of a designation or a unit, and its step by the direction rule goes on. What is of the grammar is accepted (`answered`):
 -- by induction on how it reads. The theorems stand at the end.
-use Rattle.element.proofs.Names.{ℕ, _+_, _≤_, arith, _≡_, refl, sym, ap, ap₂, _∙_, subst, true, List, [], _∷_, _++_, _↔_, _⊎_, inl, inr}
-use Rattle.element.proofs.Names.{⊎-elim, ltb, length, drop, length-append, ltb-false, le-ltb, pick, from, off, clash, test, Side, GL, GR, allowed, mayUse}
-use Rattle.element.proofs.Names.{Standing, on, put, designatedOf, fresh, stepOf, Sets, Directions, State, Step, Goes, Stops, Part, Shape, Element, End}
-use Rattle.element.proofs.Names.{Refused, Silent, Found, Answer, answer}
+use Rattle.element.proofs.Names.{ℕ, _+_, _≤_, arith, _≡_, refl, sym, ap, ap₂, _∙_, subst, true, false, List, [], _∷_, _++_, _↔_, _⊎_, inl}
+use Rattle.element.proofs.Names.{inr, ⊎-elim, ltb, length, drop, length-append, ltb-false, le-ltb, pick, from, off, clash, test, Side, GL, GR, allowed}
+use Rattle.element.proofs.Names.{mayUse, Standing, on, put, designatedOf, fresh, stepOf, Sets, Directions, State, Step, Goes, Stops, Part, Shape, Element}
+use Rattle.element.proofs.Names.{End, Refused, Silent, Found, Answer, answer}
 use lib.Seq.{drop-append-seam, drop-at, getD-drop}
 use Rattle.base.proofs.Ladder.{from-from}
 use Rattle.state.specs.State.{state, put′}
@@ -167,12 +167,13 @@ zero-none s count (stops {n = n} h e) z = absurd (let y : n ≡ 0 = z in omega a
 zero-none s count (passes t e a) z = zero-none s count a z
 zero-none s count (reads t m e a) z = zero-none s _ a z
 
-none-zero : (count : ℕ) (es : Elements) → noneRefused es ≡ true → answerOf count es .number ≡ 0
+-- and what is refused has count 0
+by-refusal : (count : ℕ) (es : Elements) → (answerOf count es .number ≡ 0) ⊎ ((noneRefused es ≡ false) × (answerOf count es .count ≡ 0))
 unfolding answerOf noneRefused
-none-zero count (end-at at) e = refl
-none-zero count (refused-at at n o) e = off e
-none-zero count (silent-at at k st es) e = none-zero count es e
-none-zero count (found-at at p st es) e = none-zero _ es e
+by-refusal count (end-at at) = inl refl
+by-refusal count (refused-at at n o) = inr (refl, refl)
+by-refusal count (silent-at at k st es) = by-refusal count es
+by-refusal count (found-at at p st es) = by-refusal _ es
 
 -- ---- the theorems
 
@@ -210,18 +211,11 @@ pub accepted-whole : (s : List ℕ) → Octets s → checkOf s .number ≡ 0 →
 accepted-whole s o z = accepted-answer s _ (correct s o z)
 
 -- a refusal has count 0
-none-counted : (count : ℕ) (es : Elements) → (answerOf count es .number ≡ 0) ⊎ (answerOf count es .count ≡ 0)
-unfolding answerOf
-none-counted count (end-at at) = inl refl
-none-counted count (refused-at at n o) = inr refl
-none-counted count (silent-at at k st es) = none-counted count es
-none-counted count (found-at at p st es) = none-counted _ es
-
 pub refused-count : (s : List ℕ) → (checkOf s .number ≡ 0 → ⊥) → checkOf s .count ≡ 0
 unfolding checkOf pick
 refused-count s n =
     test (ltb limit.octets (length s)) (λ e. rw e)
-    (λ e. rw e (⊎-elim (λ z. absurd (n (rw e z))) (λ z. z) (none-counted 0 _)))
+    (λ e. rw e (⊎-elim (λ z. absurd (n (rw e z))) (λ z. z .1) (by-refusal 0 _)))
 
 -- which strings are accepted (rule U5)
 pub accepted-where : (s : List ℕ) → Octets s
@@ -230,5 +224,5 @@ unfolding checkOf pick
 accepted-where s o = (
   λ z. test (ltb limit.octets (length s)) (λ e. clash (cc (rw e at z)))
       (λ e. (ltb-false _ _ e, zero-none s 0 (from-start s) (rw e at z))),
-  λ h. rw (le-ltb _ _ (h .0)) (none-zero 0 _ (h .1)),
+  λ h. rw (le-ltb _ _ (h .0)) (⊎-elim (λ z. z) (λ z. off (sym (z .0) ∙ h .1)) (by-refusal 0 _)),
 )

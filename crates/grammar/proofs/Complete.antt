@@ -1,9 +1,8 @@
 -- Each element of the grammar is one that the reader's definition takes.
-use Rattle.element.proofs.Names.{ℕ, _+_, _*_, _-_, _/_, _%_, _≤_, _<_, arith, not-suc-le-zero, _≡_, refl, sym, ap, _∙_, Bool, true, false, cond, _&&_}
-use Rattle.element.proofs.Names.{true≢false, List, _∷_, _++_, eqb, leb, ltb, length, length-append, take-append-seam, eqb-true, leb-true, lt-ltb, le-ltb}
-use Rattle.element.proofs.Names.{le-leb, eq-eqb, pick, and-left, and-right, off, test, cond-by, from-tests, tested, Side, GL, GR, mayUse, allowed, formOf}
-use Rattle.element.proofs.Names.{setOf, on, get, part, next, Sets, Part, Designates, Gives}
-use native.Mathlib.Nat.{le-of-suc-le-suc}
+use Rattle.element.proofs.Names.{ℕ, _+_, _*_, _-_, _/_, _%_, _≤_, arith, _≡_, refl, sym, ap, _∙_, Bool, true, false, cond, _&&_, true≢false, List}
+use Rattle.element.proofs.Names.{_∷_, _++_, eqb, leb, ltb, length, length-append, take-append-seam, eqb-true, lt-ltb, le-ltb, le-leb, eq-eqb, pick}
+use Rattle.element.proofs.Names.{and-left, and-right, from-tests, off, test, cond-by, Side, GL, GR, mayUse, allowed, formOf, setOf, on, get, part, next, Sets}
+use Rattle.element.proofs.Names.{Part, Designates, Gives}
 use Rattle.base.proofs.Bools.{Each, each}
 use Rattle.charset.specs.Charsets.{fitsOf, find}
 use Rattle.charset.proofs.Laws.{allowed-below, left-form}
@@ -19,7 +18,7 @@ use Rattle.grammar.specs.Units.{wide, top, shown, octets, designation, c
 use Rattle.grammar.specs.Grammar.{Shows, Legal}
 use Rattle.grammar.specs.Reading.{unitAt}
 use Rattle.grammar.proofs.Segment.{content}
-use Rattle.grammar.proofs.Good.{GoodSegment, good-segment}
+use Rattle.grammar.proofs.Good.{good-segment}
 
 module _ (s : Sets) where
   -- ---- designations
@@ -68,8 +67,8 @@ module _ (s : Sets) where
           → cond x (graphicOf (k / 256) && graphicOf (k % 256)) (cond y (leb 0x20 k && leb k 0x7F) (graphicOf k)) ≡ true
           → shapeOf (shown x (top d) k ++ t) s ≡ Gives (part 0 (get d s) k 0 (cond x 2 1) true)
       go true y p q u =
-          let g = and-left (graphicOf (k / 256)) (graphicOf (k % 256)) u in
-          let h = and-right (graphicOf (k / 256)) (graphicOf (k % 256)) u in
+          let g = and-left (graphicOf (k / 256)) _ u in
+          let h = and-right (graphicOf (k / 256)) _ u in
           let a = graphic-low (k / 256) g in
           let b = graphic-low (k % 256) h in
           let m = top-mod d (k / 256) (omega arith) in
@@ -84,8 +83,8 @@ module _ (s : Sets) where
           )
           (ap (λ (j : ℕ). Gives (part 0 (get d s) j 0 2 true)) z)
       go false true p q u =
-          let a = leb-true 0x20 k (and-left (leb 0x20 k) (leb k 0x7F) u) in
-          let b = leb-true k 0x7F (and-right (leb 0x20 k) (leb k 0x7F) u) in
+          let a : 0x20 ≤ k = search from-tests in
+          let b : k ≤ 0x7F = search from-tests in
           one-octet p (top-mod d k b) (on-top l d k a b (λ r. absurd (true≢false (sym q ∙ r)))) (all-used _ _ (eqb-true _ _ q))
       go false false p q u =
           let a = graphic-low k u in

@@ -2,8 +2,8 @@
 -- refusal with a number above 0, or starts with the octets of a designation or of a unit that may be shown.
 use Rattle.element.proofs.Names.{ℕ, suc, _+_, _*_, _-_, _/_, _%_, _≤_, _<_, arith, _≡_, refl, sym, ap, ap₂, _∙_, subst, Bool, true, false, cond}
 use Rattle.element.proofs.Names.{List, [], _∷_, _++_, eqb, leb, ltb, length, take, length-take-le, eqb-true, ltb-true, ltb-false, leb-true, lt-ltb, le-leb}
-use Rattle.element.proofs.Names.{pick, test, pick-by, pick-last, tested, Side, GL, GR, rowOf, formOf, allowed, setOf, Standing, on, get, part, next, Sets}
-use Rattle.element.proofs.Names.{Part, Shape, Refuses, Designates, Gives}
+use Rattle.element.proofs.Names.{pick, test, pick-by, Side, GL, GR, rowOf, formOf, allowed, setOf, Standing, on, get, part, next, Sets, Part, Shape, Refuses}
+use Rattle.element.proofs.Names.{Designates, Gives}
 use lib.ListN.{take-append-drop}
 use Rattle.charset.specs.Charsets.{Named}
 use Rattle.charset.proofs.Laws.{set-named, allowed-below}

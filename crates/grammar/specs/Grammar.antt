@@ -8,8 +8,7 @@ use lib.Dec.{eqb}
 use lib.ListN.{length}
 use Rattle.base.specs.Kind as kind
 use Rattle.base.specs.Limit as limit
-use Rattle.charset.specs.declared.Side.{Side}
-use Rattle.charset.specs.declared.Side.the-variants.{GL, GR}
+use Rattle.charset.specs.declared.Side.{Side, the-variants.GL, the-variants.GR}
 use Rattle.charset.specs.Charsets.{allowed}
 use Rattle.state.specs.State.{Standing, get, put, fresh}
 use Rattle.state.specs.declared.Sets.{Sets}

@@ -18,8 +18,7 @@ use Rattle.state.specs.declared.State.{State}
 use Rattle.state.specs.declared.directions.Directions.{Directions}
 use Rattle.state.specs.declared.directions.Step.{Step}
 use Rattle.state.specs.declared.elements.Part.{Part}
-use Rattle.state.specs.declared.elements.Element.{Element}
-use Rattle.state.specs.declared.elements.Element.the-variants.{End, Refused, Silent, Found}
+use Rattle.state.specs.declared.elements.Element.{Element, the-variants.End, the-variants.Refused, the-variants.Silent, the-variants.Found}
 use Rattle.grammar.specs.Units.{TextUnit, kindOf, counts, unitOf}
 
 -- the octets of a unit's element: those before the unit's own, and its own

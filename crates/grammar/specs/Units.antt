@@ -5,8 +5,7 @@ use mathlib.Core.List.{List, [], _∷_}
 use lib.Dec.{eqb, leb, ltb}
 use lib.ListN.{length}
 use Rattle.base.specs.Kind as kind
-use Rattle.charset.specs.declared.Side.{Side}
-use Rattle.charset.specs.declared.Side.the-variants.{GL, GR}
+use Rattle.charset.specs.declared.Side.{Side, the-variants.GL, the-variants.GR}
 use Rattle.charset.specs.Charsets.{form-96, form-94x94, no-set, rowOf, formOf}
 use Rattle.segment.specs.Segment.{nameOctetOf, textWidthOf}
 use Rattle.state.specs.Directions.{countsAsText}

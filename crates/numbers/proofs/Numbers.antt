@@ -1,13 +1,14 @@
 -- The choice by number is the writer's choice: shown by one computed test of all 17 classes and 80 numbers, from which the laws follow.
 use Rattle.element.proofs.Names.{_≡_, refl, sym, ap, ap₂, _∙_, Bool, true, false, cond, _||_, _&&_, not, List, Option, none, some, ℕ, _+_, _-_, _≤_}
-use Rattle.element.proofs.Names.{_<_, arith, length, getD, List·getD-eq-default, eqb, leb, ltb, eqb-true, eq-eqb, ne-eqb, ltb-true, ltb-false, lt-ltb, le-ltb}
-use Rattle.element.proofs.Names.{leb-true, leb-false, le-leb, lt-leb, off, test, up-to, from-tests, Side, GL, GR, allowed, mayUse, formOf, Standing, on, put}
-use Rattle.element.proofs.Names.{Sets}
+use Rattle.element.proofs.Names.{_<_, arith, length, getD, List·getD-eq-default, eqb, leb, ltb, eqb-true, eq-eqb, ne-eqb, ltb-true, ltb-false, lt-ltb}
+use Rattle.element.proofs.Names.{le-ltb, leb-true, leb-false, le-leb, lt-leb, off, test, up-to, from-tests, Side, GL, GR, allowed, mayUse, formOf, Standing}
+use Rattle.element.proofs.Names.{on, put, Sets}
 use mathlib.Core.Bool.{Bool·beq}
+pub use Rattle.base.proofs.Bools.{beq-eq}
 use Rattle.base.proofs.Bools.{implies, implies-elim, or-none, upTo, up-to-both, up-to-where}
 use Rattle.state.specs.State.{sets}
 use Rattle.grammar.specs.Units.{designation}
-use Rattle.shortest.specs.Writing.{Need, free, either, stands, met, price, least, choose, after, used}
+use Rattle.shortest.specs.Writing.{Need, free, either, stands, met, price, via, least, choose, after, used}
 use Rattle.shortest.proofs.Needs.{Steady, least-chosen}
 use Rattle.numbers.specs.Numbers.{setsInGL, setsInGR, numbered, withGL, withGR, needOfClass, priceOfClass, placesInGL, placesInGR, afterFirst}
 use Rattle.numbers.specs.Numbers.{afterSecond, chosenBy, afterChoice, surcharge, change, sideAt}
@@ -45,12 +46,6 @@ isStanding-eq (some q) p e = ap some (sameStanding-eq q p e)
 
 sameSets-eq : (a b : Sets) → sameSets a b ≡ true → a ≡ b
 sameSets-eq a b e = ap₂ sets (search from-tests) (search from-tests)
-
-pub beq-eq : (a b : Bool) → Bool·beq a b ≡ true → a ≡ b
-beq-eq true true e = refl
-beq-eq true false e = off e
-beq-eq false true e = off e
-beq-eq false false e = refl
 
 -- ---- the test of all classes and numbers
 
@@ -148,13 +143,11 @@ module _ (f : Sets → ℕ) (h : ℕ → ℕ) (agree : (j : ℕ) → j < 80 → 
           → Choice (either a b) f x k (cond m k (cond t (afterFirst x k) (afterSecond x k))) (h (cond m k (cond t (afterFirst x k) (afterSecond x k))))
       go true em t et = choice-none (either a b) (rw (rw (ra .stays, rb .stays) at em))
       go false em true et =
-          let l = le-leb (price a + f (put a (numbered k))) (price b + f (put b (numbered k)))
-          (omega (arith, ra .cost, rb .cost, ha, hb, leb-true)) in
-          choice-some (either a b) _ a ra (or-none (eqb (afterFirst x k) k) _ em .0) (rw (rw (ra .stays, rb .stays) at em, l))
+          choice-some (either a b) _ a ra (or-none (eqb (afterFirst x k) k) _ em .0)
+          (rw (rw (ra .stays, rb .stays) at em, le-leb (via a f (numbered k)) (via b f (numbered k)) (omega (arith, ra .cost, rb .cost, ha, hb, leb-true))))
       go false em false et =
-          let l = lt-leb (price a + f (put a (numbered k))) (price b + f (put b (numbered k)))
-          (omega (arith, ra .cost, rb .cost, ha, hb, leb-false)) in
-          choice-some (either a b) _ b rb (or-none (eqb (afterFirst x k) k) _ em .1) (rw (rw (ra .stays, rb .stays) at em, l))
+          choice-some (either a b) _ b rb (or-none (eqb (afterFirst x k) k) _ em .1)
+          (rw (rw (ra .stays, rb .stays) at em, lt-leb (via a f (numbered k)) (via b f (numbered k)) (omega (arith, ra .cost, rb .cost, ha, hb, leb-false))))
 
   choice-of : {n : Need} → Served x k n → Choice n f x k (afterChoice x k h) (h (afterChoice x k h))
   unfolding chosenBy choose
@@ -166,24 +159,23 @@ module _ (f : Sets → ℕ) (h : ℕ → ℕ) (agree : (j : ℕ) → j < 80 → 
 
 -- both numbers are numbers
 served-below : {n : Need} (x k : ℕ) → Served x k n → k < 80 → (afterFirst x k < 80) × (afterSecond x k < 80)
-served-below x k (needs-none e e′) h = (omega arith, omega arith)
+served-below x k (needs-none e e′) h = omega arith
 served-below x k (needs-one ra rb) h = (ra .below, rb .below)
 
 pub below : (x k : ℕ) → x < 17 → k < 80 → (afterFirst x k < 80) × (afterSecond x k < 80)
 below x k hx hk = served-below x k (served x k hx hk) hk
 
 -- a function that rises by no more than a designation's price does so by number
-served-steady : {n : Need} (f : Sets → ℕ) → Steady f → (x k : ℕ) → Served x k n
-    → (f (numbered k) ≤ priceOfClass x + f (numbered (afterFirst x k))) × (f (numbered k) ≤ priceOfClass x + f (numbered (afterSecond x k)))
-served-steady f st x k (needs-none e e′) =
-    (omega (arith, ap (λ (j : ℕ). f (numbered j)) e), omega (arith, ap (λ (j : ℕ). f (numbered j)) e′))
-served-steady f st x k (needs-one {a} {b} ra rb) = (
-  omega (arith, st a (numbered k), ap f (ra .state), ra .cost),
-  omega (arith, st b (numbered k), ap f (rb .state), rb .cost),
-)
+abbrev Rises : (Sets → ℕ) → ℕ → ℕ → Type 0
+Rises f x k =
+    (f (numbered k) ≤ priceOfClass x + f (numbered (afterFirst x k))) × (f (numbered k) ≤ priceOfClass x + f (numbered (afterSecond x k)))
 
-pub steady-at : (f : Sets → ℕ) → Steady f → (x k : ℕ) → x < 17 → k < 80
-    → (f (numbered k) ≤ priceOfClass x + f (numbered (afterFirst x k))) × (f (numbered k) ≤ priceOfClass x + f (numbered (afterSecond x k)))
+served-steady : {n : Need} (f : Sets → ℕ) → Steady f → (x k : ℕ) → Served x k n → Rises f x k
+served-steady f st x k (needs-none e e′) = omega (arith, ap (λ (j : ℕ). f (numbered j)) e, ap (λ (j : ℕ). f (numbered j)) e′)
+served-steady f st x k (needs-one {a} {b} ra rb) =
+    omega (arith, st a (numbered k), ap f (ra .state), ra .cost, st b (numbered k), ap f (rb .state), rb .cost)
+
+pub steady-at : (f : Sets → ℕ) → Steady f → (x k : ℕ) → x < 17 → k < 80 → Rises f x k
 steady-at f st x k hx hk = served-steady f st x k (served x k hx hk)
 
 -- costs less a base choose alike

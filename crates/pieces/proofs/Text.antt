@@ -1,12 +1,12 @@
 -- Characters and spaces: their octets are all of one side, and they change neither the sets nor the direction in force. By the unit
 -- that an element is.
 use Rattle.element.proofs.Names.{ℕ, zero, suc, _+_, _/_, _%_, _<_, arith, _≡_, refl, sym, _∙_, Bool, true, false, List, [], _∷_, _++_, eqb, ltb}
-use Rattle.element.proofs.Names.{length, getD, pick, on-lt, on-ge, and-right, clash, test, form-94x94, no-set, formOf, Side, GL, GR, directions, writtenOf}
-use Rattle.element.proofs.Names.{stepOf, Directions, Goes, Stops}
+use Rattle.element.proofs.Names.{length, getD, pick, on-lt, on-ge, and-right, form-94x94, no-set, formOf, Side, GL, GR, directions, writtenOf, stepOf, clash}
+use Rattle.element.proofs.Names.{test, Directions, Goes}
 use Rattle.base.specs.Kind as kind
 use Rattle.base.specs.Refusal as refusal
-use Rattle.grammar.specs.Units.{Control, tab, newline, ltr, rtl, revert, controlKind}
-use Rattle.grammar.specs.Units.{TextUnit, char, space, control, ext, kindOf, wide, top, shown, octets, codeUsed, good}
+use Rattle.grammar.specs.Units.{Control, tab, newline, ltr, rtl, revert, controlKind, TextUnit, char, space, control, ext, kindOf, wide, top, shown, octets}
+use Rattle.grammar.specs.Units.{codeUsed, good}
 use Rattle.grammar.specs.Reading.{direct}
 use Rattle.grammar.proofs.Good.{two-code}
 use Rattle.state.specs.Directions.{inForceOf}
@@ -63,13 +63,10 @@ texted d = directions (d .depth) (d .levels) (d .marked) true
 pub written-goes : (d next : Directions) → writtenOf d ≡ Goes next
     → (texted d ≡ next) × (pick (d .marked) (pick (eqb (d .depth) 0) false true) true ≡ true)
 unfolding writtenOf pick
-written-goes d next = by (d .marked) (eqb (d .depth) 0)
-  where
-    by : (a b : Bool) → pick a (pick b (Stops refusal.direction) (Goes (texted d))) (Goes (texted d)) ≡ Goes next
-        → (texted d ≡ next) × (pick a (pick b false true) true ≡ true)
-    by true true e = let z : _≡_ {A = ℕ} 0 1 = cc in absurd (omega arith)
-    by true false e = (cc, refl)
-    by false b e = (cc, refl)
+written-goes d next e =
+    test (d .marked)
+    (λ m. test (eqb (d .depth) 0) (λ z. clash (cc (rw (m, z) at e))) (λ z. rw (m, z) (cc (rw (m, z) at e), refl)))
+    (λ m. rw m (cc (rw m at e), refl))
 
 written-keeps : (k : ℕ) (d next : Directions) → stepOf true k d ≡ Goes next → inForceOf next ≡ inForceOf d
 unfolding stepOf inForceOf pick

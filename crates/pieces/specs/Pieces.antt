@@ -9,8 +9,7 @@ use Rattle.base.specs.Kind as kind
 use Rattle.grammar.specs.Reading.{Elements, end-at, refused-at, silent-at, found-at, size, elementsOf}
 use Rattle.state.specs.State.{fresh}
 use Rattle.state.specs.declared.State.{State}
-use Rattle.state.specs.declared.elements.Element.{Element}
-use Rattle.state.specs.declared.elements.Element.the-variants.{End, Refused, Silent, Found}
+use Rattle.state.specs.declared.elements.Element.{Element, the-variants.End, the-variants.Refused, the-variants.Silent, the-variants.Found}
 use Rattle.pieces.specs.PieceKind as pieceKind
 use Rattle.pieces.specs.declared.Piece.{Piece}
 

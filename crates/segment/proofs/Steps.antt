@@ -1,6 +1,7 @@
 -- The ladder's rules for a segment's octets: the next octet of the name, and whether the n octets are all there. A text's width is
 -- above 0, so that the remainder by it is defined.
 use Prim.Native.Nat.{ℕ, _+_, _-_, _<_, _≤_}
+use native.Mathlib.Nat.{add-sub-cancel-left}
 use mathlib.Core.Path.{_≡_}
 use mathlib.Core.List.{List, [], _∷_}
 use mathlib.Core.Bool.{Bool, true, false}
@@ -22,9 +23,11 @@ module _ (s : List ℕ) (at : ℕ) where
   pub on-name-end : (k : ℕ) (r : Name) → length s ≤ at → r ≡ nameOf [] k → r ≡ nameOf (from at s) k
   on-name-end k r h e = ended (λ (t : List ℕ). nameOf t k) s at r h e
 
-  pub on-body : (d n : ℕ) (r : Shape) → n ≤ length s - at → r ≡ contentOf d n (nameOf (take n (from at s)) 0) → r ≡ bodyOf d n (from at s)
+  -- the name of the n octets that are lent
+  pub on-body : (d n : ℕ) (name : Name) (r : Shape) → n ≤ length s - at → name ≡ nameOf (take (at + n - at) (drop at s)) 0
+      → r ≡ contentOf d n name → r ≡ bodyOf d n (from at s)
   unfolding bodyOf from
-  on-body d n r h e = on-le n (length (drop at s)) r _ _ (rw (length-drop at s) h) e
+  on-body d n name r h e f = on-le n (length (drop at s)) r _ _ (rw (length-drop at s) h) (rw (e, add-sub-cancel-left at n) at f)
 
   pub on-body-short : (d n : ℕ) (r : Shape) → length s - at < n → r ≡ refused refusal.cut → r ≡ bodyOf d n (from at s)
   unfolding bodyOf from

@@ -10,10 +10,8 @@ use Rattle.base.specs.Kind as kind
 use Rattle.state.specs.Directions.{countsAsText}
 use Rattle.state.specs.Elements.{part, refused, next}
 use Rattle.state.specs.declared.elements.Part.{Part}
-use Rattle.state.specs.declared.elements.Shape.{Shape}
-use Rattle.state.specs.declared.elements.Shape.the-variants.{Gives}
-use Rattle.segment.specs.declared.Name.{Name}
-use Rattle.segment.specs.declared.Name.the-variants.{Ends, Bad}
+use Rattle.state.specs.declared.elements.Shape.{Shape, the-variants.Gives}
+use Rattle.segment.specs.declared.Name.{Name, the-variants.Ends, the-variants.Bad}
 
 -- an octet that a name may have (rule E1g)
 unfoldable pub nameOctetOf : ℕ → Bool

@@ -1,8 +1,8 @@
 -- A record that offends by itself has the number of rule N9, whatever directions are open (`bad-stops`); one that does not
 -- stands for a good unit, whose step is that of the direction rule (`not-bad`). By its kind, its unit and the tests of it are computed.
-use Rattle.element.proofs.Names.{ℕ, _+_, _≤_, _<_, arith, _≡_, refl, ap₂, true, false, _&&_, List, some, _⊎_, inl, inr, ⊎-elim, length, take, drop}
-use Rattle.element.proofs.Names.{length-take, length-drop, eqb, leb, ltb, eqb-true, ltb-true, ltb-false, leb-true, leb-false, lt-ltb, le-ltb, le-leb, lt-leb}
-use Rattle.element.proofs.Names.{ne-eqb, UnitRecord, test, tested, no-set, formOf, Directions, Stops}
+use Rattle.element.proofs.Names.{ℕ, _+_, _≤_, _<_, arith, _≡_, refl, ap₂, true, false, _&&_, List, some, _⊎_, inl, inr, ⊎-elim, length, take}
+use Rattle.element.proofs.Names.{drop, length-take, length-drop, eqb, leb, ltb, eqb-true, ltb-true, ltb-false, leb-true, leb-false, lt-ltb, le-ltb, le-leb}
+use Rattle.element.proofs.Names.{lt-leb, ne-eqb, UnitRecord, test, tested, no-set, formOf, Directions, Stops}
 use Rattle.base.specs.Kind as kind
 use Rattle.base.proofs.Bools.{and-second}
 use Rattle.grammar.specs.Units.{TextUnit, char, space, control, ext, controlOf, unitOf, codeUsed, segment, mostOfSegment, good}

@@ -1,15 +1,15 @@
 -- The string that `writing` computes is the one of rule W4: it is one of the lazy strings (`writing-lazy`), every lazy
 -- string reads as the units and so is no shorter (`lazy-reads`, `lazy-lower`), and a lazy string as short is the same or comes after it
 -- (`first`); such a string is one (`the-choice`, `one-choice`). What a unit's need says is what the paper's words say (`split`).
-use Rattle.element.proofs.Names.{ℕ, _+_, _≤_, min, arith, _≡_, refl, sym, ap, ap₂, _∙_, Bool, true, false, _||_, List, [], _∷_, _++_, Option, none}
-use Rattle.element.proofs.Names.{some, _⊎_, inl, inr, ⊎-elim, length, length-append, eq-eqb, off, clash, Side, GL, GR, allowed, mayUse, Standing, on, Sets}
+use Rattle.element.proofs.Names.{ℕ, _+_, _≤_, min, arith, _≡_, refl, sym, ap, ap₂, _∙_, Bool, true, false, _||_, List, [], _∷_, _++_, Option}
+use Rattle.element.proofs.Names.{none, some, _⊎_, inl, inr, ⊎-elim, length, length-append, eq-eqb, off, clash, Side, GL, GR, allowed, mayUse, Standing}
+use Rattle.element.proofs.Names.{on, Sets}
 use Rattle.base.proofs.Bools.{or-none}
 use Rattle.grammar.specs.Units.{TextUnit, char, space, control, ext, octets, good}
 use Rattle.grammar.specs.Grammar.{Shows, Reads, done, designate, show, Legal}
 use Rattle.grammar.proofs.Agrees.{put-legal}
 use Rattle.shortest.specs.Writing.{Need, free, either, stands, met, via, least, choose, after, designated, unitSize, need, placesOf, used, cost}
-use Rattle.shortest.specs.Writing.{writing}
-use Rattle.shortest.specs.Writing.{Good}
+use Rattle.shortest.specs.Writing.{writing, Good}
 use Rattle.shortest.specs.Choice.{Serves, MayPrecede, LeftFirst, Lazy, nil, next, Preferred, Before, here, later, Chosen}
 use Rattle.shortest.proofs.Needs.{spent, Chose, nothing, the-first, the-second, chose, chosen-met}
 use Rattle.shortest.proofs.Costs.{spent-length, size-side, writing-length}

@@ -1,8 +1,8 @@
 -- The laws of a unit's need. What comes first keeps the cost steady (`least-steady`): one more designation saves no more than its price,
 -- by four cases of whether the need is met before and after it. The choice costs the least (`least-chosen`) and meets the need
 -- (`chosen-met`), and a need that is met costs nothing (`least-met`).
-use Rattle.element.proofs.Names.{ℕ, _+_, _≤_, _<_, min, arith, _≡_, refl, sym, ap, _∙_, Bool, true, false, cond, or-true, ⊎-elim, Option, none, some}
-use Rattle.element.proofs.Names.{eqb, leb, eqb-true, eq-eqb, leb-true, leb-false, off, cond-by, Side, GL, GR, Standing, on, get, put, Sets}
+use Rattle.element.proofs.Names.{ℕ, _+_, _≤_, _<_, min, arith, _≡_, refl, sym, ap, _∙_, Bool, true, false, cond, or-true, ⊎-elim, Option, none}
+use Rattle.element.proofs.Names.{some, eqb, leb, eqb-true, eq-eqb, leb-true, leb-false, off, cond-by, Side, GL, GR, Standing, on, get, put, Sets}
 use Rattle.base.proofs.Bools.{or-cases, or-none}
 use Rattle.state.specs.State.{put′}
 use Rattle.shortest.specs.Writing.{stands, price, Need, free, either, met, least, choose, after, via}

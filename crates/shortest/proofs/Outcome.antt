@@ -12,8 +12,8 @@ use Rattle.shortest.specs.Demand.{writeAnswer}
 use Rattle.grammar.specs.Records.{unitRead, listReading}
 use Rattle.shortest.specs.Records.{Finding, fine, faulty, checkRecords, afterCheck, ofReading, workRoom, writerAnswer}
 use Rattle.shortest.specs.Offence.{directionsAfter, noRecord, faultAt, FirstOffends, Number}
-use Rattle.shortest.specs.Outcome.{Served, Accepts, LacksWorkRoom, TooLong, LacksRoom}
-use Rattle.shortest.specs.Outcome.{Outcome, long-list, offending, short-work, long-writing, short-output, written}
+use Rattle.shortest.specs.Outcome.{Served, Accepts, LacksWorkRoom, TooLong, LacksRoom, Outcome, long-list, offending, short-work, long-writing}
+use Rattle.shortest.specs.Outcome.{short-output, written}
 use Rattle.shortest.proofs.Offence.{offence, no-offence, numbers}
 use Rattle.shortest.proofs.Records.{fine-units, reading-length}
 

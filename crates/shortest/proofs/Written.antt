@@ -3,8 +3,7 @@
 use Rattle.element.proofs.Names.{ℕ, zero, suc, _+_, _/_, _%_, _≤_, _<_, arith, _≡_, refl, Bool, true, _&&_, List, [], _∷_, _++_, Option, none, some}
 use Rattle.element.proofs.Names.{eqb, ltb, length, test, and-right, from-tests, Side, GL, GR, form-94x94, formOf, Standing, on, Sets}
 use Rattle.charset.proofs.Laws.{row-past, by-rows}
-use Rattle.grammar.specs.Units.{TextUnit, char, space, control, tab, newline, ltr, rtl, revert, ext}
-use Rattle.grammar.specs.Units.{wide, top, octets, designation, codeUsed, good}
+use Rattle.grammar.specs.Units.{TextUnit, char, space, control, tab, newline, ltr, rtl, revert, ext, wide, top, octets, designation, codeUsed, good}
 use Rattle.grammar.specs.Grammar.{Reads, done, designate, show}
 use Rattle.grammar.specs.Reading.{Octets}
 use Rattle.grammar.proofs.Good.{one-code, two-code, good-segment}
@@ -75,8 +74,8 @@ unit-octets (control rtl) d g o = computed (0x9B ∷ 0x32 ∷ 0x5D ∷ []) refl
 unit-octets (control revert) d g o = computed (0x9B ∷ 0x5D ∷ []) refl
 unit-octets (ext e xs) d g o =
     let h = good-segment e xs g in
-    join (0x1B ∷ 0x25 ∷ 0x2F ∷ e ∷ (128 + length xs / 128) ∷ (128 + length xs % 128) ∷ []) xs
-    (small (0x1B ∷ 0x25 ∷ 0x2F ∷ e ∷ (128 + length xs / 128) ∷ (128 + length xs % 128) ∷ []) (omega (arith, h .high, h .few))) o
+    let lead : List ℕ = 0x1B ∷ 0x25 ∷ 0x2F ∷ e ∷ (128 + length xs / 128) ∷ (128 + length xs % 128) ∷ [] in
+    join lead xs (small lead (omega (arith, h .high, h .few))) o
 
 -- the extended segments of a string of octets hold octets
 unit-contents : (u : TextUnit) (d : Side) → Octets (octets d u) → Contents u

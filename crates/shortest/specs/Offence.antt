@@ -10,8 +10,7 @@ use Rattle.base.specs.Kind as kind
 use Rattle.base.specs.Refusal as refusal
 use Rattle.base.specs.declared.Unit.{Unit as UnitRecord}
 use Rattle.state.specs.declared.directions.Directions.{Directions}
-use Rattle.state.specs.declared.directions.Step.{Step}
-use Rattle.state.specs.declared.directions.Step.the-variants.{Goes, Stops}
+use Rattle.state.specs.declared.directions.Step.{Step, the-variants.Goes, the-variants.Stops}
 use Rattle.state.specs.Directions.{undirected}
 use Rattle.state.specs.State.{fresh}
 use Rattle.charset.specs.Charsets.{no-set, formOf}

@@ -8,8 +8,7 @@ use Rattle.base.specs.Kind as kind
 use Rattle.base.specs.Limit as limit
 use Rattle.base.specs.Direction as direction
 use Rattle.state.specs.declared.directions.Directions.{Directions}
-use Rattle.state.specs.declared.directions.Step.{Step}
-use Rattle.state.specs.declared.directions.Step.the-variants.{Goes, Stops}
+use Rattle.state.specs.declared.directions.Step.{Step, the-variants.Goes, the-variants.Stops}
 
 -- how many directions are open; their ways, a binary digit for each, the last opened lowest; whether a mark was read, and whether text
 abbrev pub directions : ℕ → ℕ → Bool → Bool → Directions

@@ -5,8 +5,7 @@ use mathlib.Core.List.{List, [], _∷_}
 use Rattle.base.specs.Refusal as refusal
 use Rattle.state.specs.Directions.{countsAsText}
 use Rattle.state.specs.declared.elements.Part.{Part}
-use Rattle.state.specs.declared.elements.Shape.{Shape}
-use Rattle.state.specs.declared.elements.Shape.the-variants.{Refuses, Gives}
+use Rattle.state.specs.declared.elements.Shape.{Shape, the-variants.Refuses, the-variants.Gives}
 
 -- kind, set, code, octets before the unit's own, the unit's octets, whether it is text for the direction rule
 abbrev pub part : ℕ → ℕ → ℕ → ℕ → ℕ → Bool → Part

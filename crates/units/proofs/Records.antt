@@ -1,17 +1,15 @@
 -- The records of a string's units: their reading, with the string as the octets of its segments, is the string's (`records-read`); their
 -- fields that mean nothing are 0 (`records-meant`); and there are as many as an accepted string's answer counts (`records-count`). Each
 -- goes by induction on the elements of the string.
-use Rattle.element.proofs.Names.{ℕ, _+_, _≤_, _<_, arith, add-one, _≡_, refl, ap, ap₂, sym, _∙_, Bool, true, false, cond, List, [], _∷_, Option}
-use Rattle.element.proofs.Names.{none, some, eqb, leb, ltb, length, take, drop, lt-ltb, le-ltb, le-leb, ne-eqb, answer, refusedAt, pick, from, UnitRecord}
-use Rattle.element.proofs.Names.{State, Part}
+use Rattle.element.proofs.Names.{clash, test, ℕ, _+_, _≤_, arith, _≡_, refl, ap, true, List, some, ltb, length, drop, lt-ltb, le-ltb, le-leb, ne-eqb}
+use Rattle.element.proofs.Names.{pick, State, Part}
 use lib.Seq.{drop-drop}
 use Rattle.base.specs.Kind as kind
 use Rattle.base.specs.Limit as limit
 use Rattle.base.specs.Refusal as refusal
 use Rattle.element.specs.Meant.{Meant, with-set, with-none, with-code, MeantPart}
-use Rattle.grammar.specs.Units.{TextUnit, unitOf}
-use Rattle.grammar.specs.Reading.{Elements, size, elementsOf, answerOf, checkOf, unitAt, unitsOf, readingOf}
-use Rattle.grammar.specs.Records.{readable, unitRead, prepend, listReading}
+use Rattle.grammar.specs.Reading.{Elements, size, answerOf, checkOf, unitAt, unitsOf, readingOf}
+use Rattle.grammar.specs.Records.{readable, unitRead, listReading}
 use Rattle.grammar.proofs.Places.{Ahead, ends, stops, passes, reads, from-start, ahead-is}
 use Rattle.units.specs.Records.{recordOf, recordsFrom, recordsOf, AllMeant, none-left, one-more}
 use Rattle.units.specs.Next.{outcomeOf, nextOf}
@@ -71,16 +69,11 @@ counts-from s count (stops {n = n} f e) z =
 counts-from s count (passes t e a) z = counts-from s count a z
 counts-from s count (reads t m e a) z = omega (arith, counts-from s (count + 1) a z)
 
-counts-by : (s : List ℕ) (b : Bool) → pick b (refusedAt refusal.too-long 0) (answerOf 0 (elementsOf s)) .number ≡ refusal.accepted
-    → pick b (refusedAt refusal.too-long 0) (answerOf 0 (elementsOf s)) .count ≡ length (recordsFrom (elementsOf s))
-unfolding pick
-counts-by s true z = absurd (let y : _≡_ {A = ℕ} refusal.too-long refusal.accepted = z in omega arith)
-counts-by s false z = omega (arith, counts-from s 0 (from-start s) z)
-
 -- the count of an accepted string is that of its records (rule N1)
 pub records-count : (s : List ℕ) → checkOf s .number ≡ refusal.accepted → checkOf s .count ≡ length (recordsOf s)
-unfolding checkOf recordsOf
-records-count s z = counts-by s (ltb limit.octets (length s)) z
+unfolding checkOf recordsOf pick
+records-count s z =
+    test (ltb limit.octets (length s)) (λ e. clash (cc (rw e at z))) (λ e. rw e (omega (arith, counts-from s 0 (from-start s) (rw e at z))))
 
 -- ---- the next of them
 

@@ -1,5 +1,5 @@
 -- A turn of the loop of `next_unit`, on plain values: the element at a place gives what all elements from there give, or those after it do.
-use Rattle.element.proofs.Names.{ℕ, _+_, _≡_, sym, ap, List, from, State, Part, Element, End, Refused, Silent, Found}
+use Rattle.element.proofs.Names.{ℕ, _+_, _≡_, sym, ap, List, from, UnitRecord, State, Part, Element, End, Refused, Silent, Found}
 use Rattle.base.specs.Refusal as refusal
 use Rattle.element.specs.Element.{elementOf}
 use Rattle.element.proofs.Sizes.{silent, found}
@@ -7,8 +7,7 @@ use Rattle.grammar.specs.Reading.{size}
 use Rattle.grammar.proofs.Places.{ahead, at-end, at-refused, at-passed}
 use Rattle.units.specs.Records.{recordOf}
 use Rattle.units.specs.Next.{outcomeOf}
-use Rattle.units.specs.declared.Outcome.{Outcome}
-use Rattle.units.specs.declared.Outcome.the-variants.{Gives, Stops}
+use Rattle.units.specs.declared.Outcome.{Outcome, the-variants.Gives, the-variants.Stops}
 
 -- what the elements from a place on give
 abbrev pub outcome : List ℕ → ℕ → State → Outcome
@@ -27,6 +26,6 @@ module _ (s : List ℕ) (at : ℕ) (st : State) (e : Element) (is : e ≡ elemen
   unfolding outcomeOf
   gives-silent i = sym (ap outcomeOf (at-passed s at st e is silent i))
 
-  pub gives-found : {p : Part} {next : State} → e ≡ Found p next → Gives (recordOf p at) (at + size p) next ≡ outcome s at st
+  pub gives-found : {p : Part} {next : State} {r : UnitRecord} → e ≡ Found p next → r ≡ recordOf p at → Gives r (at + size p) next ≡ outcome s at st
   unfolding outcomeOf
-  gives-found i = sym (ap outcomeOf (at-passed s at st e is found i))
+  gives-found i q = rw q (sym (ap outcomeOf (at-passed s at st e is found i)))

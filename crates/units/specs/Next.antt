@@ -9,8 +9,7 @@ use Rattle.base.specs.Refusal as refusal
 use Rattle.state.specs.declared.State.{State}
 use Rattle.grammar.specs.Reading.{Elements, end-at, refused-at, silent-at, found-at, size, elements}
 use Rattle.units.specs.Records.{recordOf}
-use Rattle.units.specs.declared.Outcome.{Outcome}
-use Rattle.units.specs.declared.Outcome.the-variants.{Gives, Stops}
+use Rattle.units.specs.declared.Outcome.{Outcome, the-variants.Gives, the-variants.Stops}
 
 -- the first unit of elements, with the place and the state after it; or the number and the place of the end or of the refusal that comes
 -- first

@@ -2,11 +2,9 @@
 --     iter       the cursor after so many steps
 --     fillFrom   the list with so many of its first places filled
 --     fill-suc   one more place is filled by a store to it
-use mathlib.Core.Path.{_≡_, refl, ap}
-use Prim.Native.Nat.{ℕ, zero, suc, _<_}
+use Rattle.walks.proofs.Names.{_≡_, refl, ap, ℕ, suc, _<_, List, [], _∷_, length, set}
+use Prim.Native.Nat.{zero}
 use native.Mathlib.Nat.{not-suc-le-zero, le-of-suc-le-suc}
-use mathlib.Core.List.{List, [], _∷_}
-use lib.ListN.{length, set}
 
 module _ {X S : Type 0} (unit : S → X) (next : S → S) where
   -- the cursor after i steps

@@ -6,11 +6,4 @@ use Rattle.numbers.proofs.place_in_gl.Tie as tie
 
 pub place-in-gl-spec : {M : Type 1} → statement M
 place-in-gl-spec =
-    tie.close
-    (tie.spec
-    (λ c. search arith)
-    (λ c. search arith)
-    (λ c. search gl-none)
-    (search arith)
-    (λ c. search gl-two)
-    (λ c. search gl-other))
+    tie.close (tie.spec (λ c. search arith) (λ c. search arith) (λ c. search gl-none) (search arith) (λ c. search gl-two) (λ c. search gl-other))

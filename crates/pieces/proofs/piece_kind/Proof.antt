@@ -7,13 +7,5 @@ use Rattle.pieces.proofs.piece_kind.Tie as tie
 pub piece-kind-spec : {M : Type 1} → statement M
 unfolding pieceKindOf
 piece-kind-spec =
-    tie.close
-    (tie.spec
-    (search arith)
-    (search arith)
-    (λ c. search ladder depth 9)
-    (λ c. search ladder depth 9)
-    (λ c. search ladder depth 9)
-    (λ c. search ladder depth 9)
-    (λ c. search ladder depth 9)
-    (λ c. search ladder depth 9))
+    tie.close (tie.spec (search arith) (search arith) (λ c. search ladder depth 9) (λ c. search ladder depth 9) (λ c. search ladder depth 9)
+    (λ c. search ladder depth 9) (λ c. search ladder depth 9) (λ c. search ladder depth 9))

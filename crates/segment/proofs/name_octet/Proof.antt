@@ -7,10 +7,5 @@ use Rattle.segment.proofs.name_octet.Tie as tie
 pub name-octet-spec : {M : Type 1} → statement M
 unfolding nameOctetOf
 name-octet-spec =
-    tie.close
-    (tie.spec
-    (λ c. search ladder depth 9)
-    (λ c. search ladder depth 9)
-    (λ c. search ladder depth 9)
-    (λ c. search ladder depth 9)
+    tie.close (tie.spec (λ c. search ladder depth 9) (λ c. search ladder depth 9) (λ c. search ladder depth 9) (λ c. search ladder depth 9)
     (λ c. search ladder depth 9))

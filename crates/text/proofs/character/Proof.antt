@@ -8,14 +8,5 @@ use Rattle.text.proofs.character.Tie as tie
 pub character-spec : {M : Type 1} → statement M
 unfolding characterOf
 character-spec =
-    tie.close
-    (tie.spec
-    (search arith)
-    (search arith)
-    (λ c. search steps depth 12)
-    (search arith)
-    (search arith)
-    (λ c. search steps depth 12)
-    (search arith)
-    (λ c. search steps depth 12)
-    (λ c. search steps depth 12))
+    tie.close (tie.spec (search arith) (search arith) (λ c. search steps depth 12) (search arith) (search arith) (λ c. search steps depth 12) (search arith)
+    (λ c. search steps depth 12) (λ c. search steps depth 12))

@@ -8,12 +8,5 @@ use Rattle.text.proofs.second_octet.Tie as tie
 pub second-octet-spec : {M : Type 1} → statement M
 unfolding secondOctetOf
 second-octet-spec =
-    tie.close
-    (tie.spec
-    (λ c. search steps depth 12)
-    (search arith)
-    (search arith)
-    (search arith)
-    (λ c. search steps depth 12)
-    (λ c. search steps depth 12)
+    tie.close (tie.spec (λ c. search steps depth 12) (search arith) (search arith) (search arith) (λ c. search steps depth 12) (λ c. search steps depth 12)
     (λ c. search steps depth 12))

@@ -8,13 +8,5 @@ use Rattle.text.proofs.text.Tie as tie
 pub text-spec : {M : Type 1} → statement M
 unfolding textOf
 text-spec =
-    tie.close
-    (tie.spec
-    (search arith)
-    (λ c. search steps depth 12)
-    (search arith)
-    (λ c. search steps depth 12)
-    (search arith)
-    (λ c. search steps depth 12)
-    (search arith)
-    (λ c. search steps depth 12))
+    tie.close (tie.spec (search arith) (λ c. search steps depth 12) (search arith) (λ c. search steps depth 12) (search arith) (λ c. search steps depth 12)
+    (search arith) (λ c. search steps depth 12))

@@ -8,15 +8,5 @@ use Rattle.control.proofs.escape.designation.Tie as tie
 pub designation-spec : {M : Type 1} → statement M
 unfolding designationOf
 designation-spec =
-    tie.close
-    (tie.spec
-    (λ c. search steps depth 12)
-    (search arith)
-    (λ c. search steps depth 12)
-    (search arith)
-    (search arith)
-    (λ c. search steps depth 12)
-    (λ c. search steps depth 12)
-    (search arith)
-    (λ c. search steps depth 12)
-    (λ c. search steps depth 12))
+    tie.close (tie.spec (λ c. search steps depth 12) (search arith) (λ c. search steps depth 12) (search arith) (search arith) (λ c. search steps depth 12)
+    (λ c. search steps depth 12) (search arith) (λ c. search steps depth 12) (λ c. search steps depth 12))

@@ -8,14 +8,5 @@ use Rattle.state.proofs.directions.Directions.step.Tie as tie
 pub step-spec : {M : Type 1} → statement M
 unfolding stepOf
 step-spec =
-    tie.close
-    (tie.spec
-    (search arith)
-    (λ c. search ladder depth 9)
-    (search arith)
-    (search arith)
-    (search arith)
-    (λ c. search ladder depth 9)
-    (λ c. search ladder depth 9)
-    (λ c. search ladder depth 9)
-    (λ c. search ladder depth 9))
+    tie.close (tie.spec (search arith) (λ c. search ladder depth 9) (search arith) (search arith) (search arith) (λ c. search ladder depth 9)
+    (λ c. search ladder depth 9) (λ c. search ladder depth 9) (λ c. search ladder depth 9))
