@@ -23,7 +23,6 @@ use Rattle.run_ends.specs.Ends.{textTo}
 use Rattle.run_ends.proofs.Spans.{Grows, none, more, text-settled, text-grows}
 use Rattle.runs.specs.Runs.{shownOf, noRun}
 use Rattle.runs.specs.Steps.{runStepTo, stopAt, lastOf, firstOf, runFrom}
-use Rattle.runs.specs.declared.Bounds.{Bounds}
 use Rattle.runs.specs.declared.stepping.RunStep.{RunStep}
 
 -- ---- the first run among pieces
@@ -251,10 +250,10 @@ module _ (s : List ℕ) where
     pub begun-starts : (q : Piece) → q ≡ pieceAt s at st → q .kind < 2 → q .start ≡ at
     begun-starts q is low = moved-run at st q is low .starts
 
-    pub turn-shown : {p q : Piece} {next : State} {run : Bounds} {r : RunStep} → Cut at st p next → p .kind < 2 → q ≡ p → run ≡ shownOf (length s) q
-        → r ≡ runStepTo (p .end) next run → r ≡ runFrom s at st
-    turn-shown {p} {next = next} c low e f g =
-        g ∙ (ap (runStepTo (p .end) next) (f ∙ ap (shownOf (length s)) e) ∙ run-shown at st c (lt-ltb (p .kind) 2 low))
+    pub turn-shown : {p q : Piece} {r : RunStep} → Cut at st p (p .state) → p .kind < 2 → q ≡ p
+        → r ≡ runStepTo (q .end) (q .state) (shownOf (length s) q) → r ≡ runFrom s at st
+    turn-shown {p} c low e g =
+        g ∙ (ap (λ (x : Piece). runStepTo (x .end) (x .state) (shownOf (length s) x)) e ∙ run-shown at st c (lt-ltb (p .kind) 2 low))
 
     pub turn-none : (q : Piece) {r : RunStep} → q ≡ pieceAt s at st → q .end ≡ at → r ≡ stopAt at st (elementAt s at st) → r ≡ runFrom s at st
     turn-none q is h e = e ∙ run-none at st (sym (ap (λ (x : Piece). x .end) is) ∙ h)

@@ -1,8 +1,10 @@
 // The runs of a string one after the other, in one pass: a step from run to run.
 ghost use mathlib.Core.Path.{_≡_};
+ghost use Prim.Native.Nat.{_≤_};
 ghost use Rattle.base.specs.Choice.{from};
 ghost use Rattle.element.specs.Element.{elementOf};
 ghost use Rattle.pieces.specs.Pieces.{piece};
+ghost use Rattle.runs.specs.Runs.{shownOf};
 ghost use Rattle.runs.specs.Steps.{firstPosition, stays, runStepTo, stopAt, runFrom, knownOf, checkedFrom, nextRunOf};
 use crate::Bounds;
 use base::Answer;
@@ -96,6 +98,14 @@ fn stop_at(s: &[u8], at: usize, st: State) -> RunStep
     step_to(at, st, crate::no_run(stopped(s, at, st)))
 }
 
+// A step that shows a run of a string of n octets, in the state after it.
+fn step_over(n: usize, run: Piece) -> RunStep
+    requires { ⌜ run .start ≤ run .end ⌝ }
+    ensures { λ r. ⌜ r ≡ runStepTo (run .end) (run .state) (shownOf n run) ⌝ }
+{
+    step_to(run.end, run.state, crate::shown(n, run))
+}
+
 // The first run from a place and a state on. Designations, and text that leaves the state as it is, are passed by their octets, and any other
 // element by itself.
 pub fn run_from(s: &[u8], place: usize, state: State) -> RunStep
@@ -118,16 +128,14 @@ pub fn run_from(s: &[u8], place: usize, state: State) -> RunStep
             let kind = pieces::side_kind(b);
             let end = text_end(s, at, st.sets, kind);
             if at < end {
-                let run = run_of(at, end, kind, st);
-                return step_to(end, st, crate::shown(s.len(), run));
+                return step_over(s.len(), run_of(at, end, kind, st));
             }
         }
         let next = pieces::piece_at(s, at, st);
         let after = next.state;
         if next.kind < TAB {
             let end = text_end(s, next.end, after.sets, next.kind);
-            let run = run_of(next.start, end, next.kind, after);
-            return step_to(end, after, crate::shown(s.len(), run));
+            return step_over(s.len(), run_of(next.start, end, next.kind, after));
         }
         if next.end == at {
             return stop_at(s, at, st);

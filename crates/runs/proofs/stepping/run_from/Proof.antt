@@ -28,21 +28,20 @@ loop-again c =
     (run-later _ _ _ (cut-designation _ _ _ _ (c .before .before .before .designation-at .ensures) (c .before .before .if2 .taken)) refl
     ∙ turn .before .loop .inv)
 
-shown-requires : tie.Need-shown-requires Inv-loop μ-loop
-shown-requires c κs = rw (c .run-of .ensures) (omega (arith, c .before .if4 .taken))
+step-over-requires : tie.Need-step-over-requires Inv-loop μ-loop
+step-over-requires c κs = rw (c .run-of .ensures) (omega (arith, c .before .if4 .taken))
 
 returns : tie.Need-returns Inv-loop μ-loop
 returns c =
-    let turn = c .before .before .before .before .before .before .before .before .before .before in
-    let low = side-low _ (c .before .before .before .before .before .side-kind .ensures) in
-    let settled = sym (c .before .before .before .before .before .before .before .settled .ensures)
-    ∙ c .before .before .before .before .before .before .if3 .taken in
+    let turn = c .before .before .before .before .before .before .before .before .before in
+    let low = side-low _ (c .before .before .before .before .side-kind .ensures) in
+    let settled = sym (c .before .before .before .before .before .before .settled .ensures) ∙ c .before .before .before .before .before .if3 .taken in
     let cut = text-cut _ _ _ (λ i. omega (arith, turn .before .before .shared-slice-known .given i)) _ _ low settled
-    (c .before .before .before .before .text-end .ensures) (c .before .before .before .if4 .taken) in
-    after (turn .before .loop .inv) (turn-shown _ _ _ cut low (c .before .before .run-of .ensures) (c .before .shown .ensures) (c .step-to .ensures))
+    (c .before .before .before .text-end .ensures) (c .before .before .if4 .taken) in
+    after (turn .before .loop .inv) (turn-shown _ _ _ cut low (c .before .run-of .ensures) (c .step-over .ensures))
 
-shown-requires-2 : tie.Need-shown-requires-2 Inv-loop μ-loop
-shown-requires-2 c κs =
+step-over-requires-2 : tie.Need-step-over-requires-2 Inv-loop μ-loop
+step-over-requires-2 c κs =
     let turn = c .before .before .before .before .before .before .before .before in
     let piece = c .before .before .before .before .before .piece-at .ensures in
     let low = c .before .before .if5 .taken in
@@ -51,11 +50,11 @@ shown-requires-2 c κs =
 
 returns-2 : tie.Need-returns-2 Inv-loop μ-loop
 returns-2 c =
-    let turn = c .before .before .before .before .before .before .before .before .before .before in
-    let low = c .before .before .before .before .if5 .taken in
+    let turn = c .before .before .before .before .before .before .before .before .before in
+    let low = c .before .before .before .if5 .taken in
     let cut = begun-cut _ _ _ (λ i. omega (arith, turn .before .before .shared-slice-known .given i)) _ _
-    (c .before .before .before .before .before .before .before .piece-at .ensures) low (c .before .before .before .text-end2 .ensures) in
-    after (turn .before .loop .inv) (turn-shown _ _ _ cut low (c .before .before .run-of2 .ensures) (c .before .shown2 .ensures) (c .step-to2 .ensures))
+    (c .before .before .before .before .before .before .piece-at .ensures) low (c .before .before .text-end2 .ensures) in
+    after (turn .before .loop .inv) (turn-shown _ _ _ cut low (c .before .run-of2 .ensures) (c .step-over2 .ensures))
 
 returns-3 : tie.Need-returns-3 Inv-loop μ-loop
 returns-3 c =
@@ -94,14 +93,12 @@ run-from-spec =
     (search arith)
     (search arith)
     (search arith)
-    shown-requires
-    (search arith)
+    step-over-requires
     returns
     (search arith)
     (search arith)
     (search arith)
-    shown-requires-2
-    (search arith)
+    step-over-requires-2
     returns-2
     (search arith)
     returns-3
