@@ -6,18 +6,20 @@ ghost use Rattle.read.specs.Listing.{listAfter};
 ghost use Rattle.reader.specs.Reader.{unitsBefore, itemOf};
 use base::Unit;
 use reader::Item;
+use state::State;
 
 // What step k of a reader that is opened on a string hands out, counted from 0.
 pub fn nth(s: &[u8], k: usize) -> Item
     ensures { λ i. ⌜ i ≡ itemOf k (unitsBefore (now (s .entry))) (checkOf (now (s .entry))) ⌝ }
 {
-    let mut r = reader::open(s);
+    let mut t = reader::step(s, 0, 0, State::FRESH);
     let mut i: usize = 0;
     while i < k {
-        reader::next(&mut r);
+        let next = reader::step(s, t.place, t.count, t.state);
+        t = next;
         i += 1;
     }
-    reader::next(&mut r)
+    t.item
 }
 
 // A list of eight records, each of which is `mark`, after `read`.
