@@ -1,7 +1,4 @@
 pub mod Cases
 pub mod Filled
 pub mod Promises
-pub mod Within
-pub mod Stood
-pub mod Fills
 pub mod Spanned

@@ -1,20 +1,17 @@
 // The units of a string, in a list that the caller lends.
 ghost use mathlib.Core.Path.{_≡_};
-ghost use Prim.Native.Nat.{_+_, _≤_};
+ghost use Prim.Native.Nat.{_+_, _*_, _<_, _^_};
 ghost use lib.ListN.{length};
-ghost use Rattle.read.specs.Spans.{Fits, countFrom, storedFrom};
+ghost use Rattle.spans.specs.Spans.{ones, movedOf};
 ghost use Rattle.read.specs.Listing.{readAnswer, storedOf, listAfter};
-use crate::spans::Span;
-use crate::spans::moved;
-use crate::spans::nth;
-use crate::spans::span_at;
-use crate::spans::stands_at;
 use base::Answer;
 use base::Unit;
 use base::refusal;
 use cursor::Cursor;
-
-mod spans;
+use spans::ONES;
+use spans::Span;
+use spans::fill;
+use spans::span_at;
 
 // What a string and a list of so many records are answered.
 pub fn answer(s: &[u8], room: usize) -> Answer
@@ -45,23 +42,32 @@ fn stored(a: Answer) -> usize
     0
 }
 
-// Stores the units of a span from a place of the list on, and answers how many.
-fn fill(s: &[u8], r: Span, units: &mut [Unit], start: usize) -> usize
-    requires { ⌜ Fits (now s) r × (start + r .most ≤ length (now units)) ⌝ }
-    ensures { λ k. ⌜ (k ≡ countFrom (now (s .entry)) r (r .most) 0)
-        × (now (units .exit) ≡ storedFrom (now (s .entry)) r start (r .most) 0 (now (units .entry))) ⌝ }
+// The cursor after j units of a span.
+fn moved(r: Span, j: usize) -> Cursor
+    requires { ⌜ (r .form ≡ ones → r .place + j < 2 ^ 64) × (ones < r .form → r .place + 2 * j < 2 ^ 64) ⌝ }
+    ensures { λ c. ⌜ c ≡ movedOf r j ⌝ }
 {
-    let n = r.most;
-    let mut j: usize = 0;
-    while j < n {
-        if stands_at(s, r, j) {
-            units[start + j] = nth(s, r, j);
-            j += 1;
-        } else {
-            return j;
-        }
+    if r.form == ONES {
+        let place = r.place + j;
+        return Cursor {
+            place: place,
+            gl: r.gl,
+            gr: r.gr,
+        };
     }
-    j
+    if ONES < r.form {
+        let place = r.place + 2 * j;
+        return Cursor {
+            place: place,
+            gl: r.gl,
+            gr: r.gr,
+        };
+    }
+    Cursor {
+        place: r.place,
+        gl: r.gl,
+        gr: r.gr,
+    }
 }
 
 // The units of a string are stored from the list's first place on, and the rest of it stays; a refusal stores none.

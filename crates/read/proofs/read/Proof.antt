@@ -19,21 +19,22 @@ use Rattle.walks.proofs.Frame.{empty, full, Blocks, envOf, laid, clears, leaves
 use Rattle.walks.proofs.Steps.{var, arg, part, sets, lands-in, lands-over, recasts, behind, resliced, in64, sliced, past, front}
 use Rattle.walks.proofs.Filling.{length-fill}
 use Rattle.cursor.specs.Cursor.{first}
-use Rattle.read.specs.Spans.{ones, spanOf, movedOf, countFrom, storedFrom}
+use Rattle.spans.specs.Spans.{ones, spanOf, mostOf, movedOf, countFrom, storedFrom}
 use Rattle.cursor.specs.declared.Cursor.{Cursor}
-use Rattle.read.specs.declared.spans.Span.{Span}
-use Rattle.read.proofs.Stood.{span-fits, span-most}
+use Rattle.spans.specs.declared.Span.{Span}
+use Rattle.spans.proofs.Within.{of-ones, of-twos, most-all}
+use Rattle.spans.proofs.Stood.{span-fits, span-most}
 use Rattle.read.specs.Listing.{readAnswer, storedOf}
 use Rattle.read.proofs.Filled.{unitAt, after, filled, stores, short-stored}
-use Rattle.read.proofs.Fills.{count-most}
+use Rattle.spans.proofs.Fills.{count-most}
 use Rattle.read.proofs.Spanned.{cur, got, list-next, cursor-next, count-some}
 use Rattle.cursor.proofs.Cursor as K
 use Rattle.cursor.proofs.Cursor.Laws as K′
-use Rattle.read.proofs.spans.Span as R
-use Rattle.read.proofs.spans.Span.Laws as R′
-use Rattle.read.proofs.spans.span_at as span-at
-use Rattle.read.proofs.spans.moved as moved
-use Rattle.read.proofs.fill as fill
+use Rattle.spans.proofs.Span as R
+use Rattle.spans.proofs.Span.Laws as R′
+use Rattle.spans.proofs.span_at as span-at
+use Rattle.read.proofs.moved as moved
+use Rattle.spans.proofs.fill as fill
 use Rattle.read.proofs.answer as answer
 use Rattle.read.proofs.stored as stored
 use Rattle.cursor.proofs.Cursor.first as first-fn
@@ -130,7 +131,7 @@ module _ {M : Type 1} (𝓤 : kit.URA M) (H : kit.Heap 𝓤) (𝓜 : kit.Model �
   place-fits i =
       let h : count i ≤ 0 + span i .most = count-most xs (span i) (span i .most) 0 in
       let f = span-fits xs (cur xs ys i) (n - i) in
-      (λ e. (let k = f .of-ones e in omega (arith, h, k, s-fits)), λ e. (let k = f .of-twos e in omega (arith, h, k, s-fits)))
+      (λ e. omega (arith, h, of-ones (length xs) (span i) f e, s-fits), λ e. omega (arith, h, of-twos (length xs) (span i) f e, s-fits))
 
   -- ---- the loop: its variant is a turn's number with what is known there
   abbrev Turn : Type 0
@@ -150,6 +151,10 @@ module _ {M : Type 1} (𝓤 : kit.URA M) (H : kit.Heap 𝓤) (𝓜 : kit.Model �
 
   left-got : (i : ℕ) → i < n → i + span i .most ≤ length (got xs ys i)
   left-got i less = subst (λ (m : ℕ). i + span i .most ≤ m) (kit.sym (same i)) (left-most i less)
+
+  -- so all of them may be stored
+  all-of : (i : ℕ) → i < n → mostOf (length xs) (span i) (length (got xs ys i)) i ≡ span i .most
+  all-of i less = kit.sym (most-all (length xs) (span i) (length (got xs ys i)) i (span-fits xs (cur xs ys i) (n - i)) (left-got i less))
 
   count-in : (i : ℕ) → i < n → i + count i ≤ n
   count-in i less =
@@ -195,7 +200,7 @@ module _ {M : Type 1} (𝓤 : kit.URA M) (H : kit.Heap 𝓤) (𝓜 : kit.Model �
         -- the span at the cursor
         sets ! 7 (bin ! (var ! 21 refl) (var ! 17 refl) (i .1 .0)) refl (in64 (omega (arith, n-fits))) $
         calls ! 𝓣 0 refl twice span-at.ended (span-at.clauses 𝓤 H A (𝓜 .mem) (𝓡 .run))
-        (cites 𝓤 H 𝓜 𝓖 𝓡 code.env code.calls-read·spans·span-at (span-at.Met.met 𝓤 H 𝓜 𝓖 𝓡)) (
+        (cites 𝓤 H 𝓜 𝓖 𝓡 code.env code.calls-spans·span-at (span-at.Met.met 𝓤 H 𝓜 𝓖 𝓡)) (
           (
             (κ, tt),
             (q, tt),
@@ -213,7 +218,7 @@ module _ {M : Type 1} (𝓤 : kit.URA M) (H : kit.Heap 𝓤) (𝓜 : kit.Model �
         sets ! 3 (resliced ! 5 25 refl refl refl) refl (sliced (room .0)) $
         lends ! 𝓣 U.the-row κ′ q′ γ b o (length ys) (got xs ys (i .0)) twice room (same (i .0)) fill.ended
         (fill.clauses 𝓤 H A (𝓜 .mem) (𝓡 .run))
-        (cites 𝓤 H 𝓜 𝓖 𝓡 code.env code.calls-read·fill (fill.Met.met 𝓤 H 𝓜 𝓖 𝓡)) (vint w64 (count (i .0)))
+        (cites 𝓤 H 𝓜 𝓖 𝓡 code.env code.calls-spans·fill (fill.Met.met 𝓤 H 𝓜 𝓖 𝓡)) (vint w64 (count (i .0)))
         (Is kit.usize (count (i .0)) (vint w64 (count (i .0)) ∷ [])) (λ l. l ≡ got xs ys (i .0 + count (i .0)))
         (λ ν δ. (
           (
@@ -229,19 +234,22 @@ module _ {M : Type 1} (𝓤 : kit.URA M) (H : kit.Heap 𝓤) (𝓜 : kit.Model �
           tokens = λ ν δ. beside W κ q (ν ∷ []) fullShare;
           parts = λ ν δ. id⊢ 𝓤 _ &′ plain W O a-span (span (i .0)) is-r &′
               but (id⊢ 𝓤 _) (plain W O number (i .0) (refl, omega (arith, less, n-fits)) & all);
-          asked = λ ν δ. kit.factI 𝓤 _ (kit.emp 𝓤) (span-fits xs (cur xs ys (i .0)) (n - i .0), left-got (i .0) less);
+          asked = λ ν δ. id⊢ 𝓤 _;
           result = λ ν δ. count (i .0);
           data-of = λ ν δ. number;
           tells = λ ν δ. (refl, λ is. is);
           same = λ l e. ap length e ∙ same (i .0 + count (i .0));
           left = λ ν δ ws. ws .1 .1 .0;
-          says = λ ν δ r ws. kit.fact-mono 𝓤 _ _ (λ e. (e .0, e .1 ∙ stored-next (i .0) less));
+          says = λ ν δ r ws. kit.fact-mono 𝓤 _ _ (λ e. (
+            e .0 ∙ ap (λ (m : ℕ). countFrom xs (span (i .0)) m 0) (all-of (i .0) less),
+            e .1 ∙ ap (λ (m : ℕ). storedFrom xs (span (i .0)) (i .0) m 0 (got xs ys (i .0))) (all-of (i .0) less) ∙ stored-next (i .0) less,
+          ));
           picks = λ ν δ ws. past ! $ past ! $ front ! $ front ! $ done !;
         }) (λ ν δ. arg ! 27 refl (arg ! 15 refl (arg ! 3 refl (arg ! 17 refl (no-more !))))) (λ l is-k e.
         kit.rewrite ! 1 (λ (w : List UnitRecord). ‵ (Units w)) e refl $ lands-in ! 13 refl (number .typed 𝓤 H A W (count (i .0)) is-k) $
         -- the cursor and the number move on
         calls ! 𝓣 0 refl twice moved.ended (moved.clauses 𝓤 H A (𝓜 .mem) (𝓡 .run))
-        (cites 𝓤 H 𝓜 𝓖 𝓡 code.env code.calls-read·spans·moved (moved.Met.met 𝓤 H 𝓜 𝓖 𝓡))
+        (cites 𝓤 H 𝓜 𝓖 𝓡 code.env code.calls-read·moved (moved.Met.met 𝓤 H 𝓜 𝓖 𝓡))
         ((tt, tt, tt, (span (i .0), (count (i .0), tt)), (R′.lowered (span (i .0)) ∷ [], (vint w64 (count (i .0)) ∷ [], tt))), tt) (none W (A .lft κ q))
         (plain W O a-span (span (i .0)) is-r & plain W O number (count (i .0)) is-k & all) (kit.factI 𝓤 _ (kit.emp 𝓤) (place-fits (i .0)))
         (movedOf (span (i .0)) (count (i .0))) (λ r e. id⊢ 𝓤 _) a-cursor (arg ! 15 refl (arg ! 13 refl (no-more !))) (λ is-c ok.

@@ -1,0 +1,280 @@
+// Units of one form, one after another in an accepted string, found by their octets alone.
+ghost use mathlib.Core.Path.{_≡_};
+ghost use mathlib.Core.Bool.{true};
+ghost use Prim.Native.Nat.{_+_, _<_};
+ghost use lib.Dec.{leb};
+ghost use lib.ListN.{length, getD};
+ghost use Rattle.state.specs.State.{sets};
+ghost use Rattle.spans.specs.Spans.{singleUnder, leftFirst, hasTwo, formAt, lesserOf, anyOf, ofForm, spanOf, fitsIn, mostOf, standsAfter};
+ghost use Rattle.spans.specs.Spans.{oneUnitAt, twoOctetUnitAt, unitAfter, filledOf, listFilled};
+use base::Unit;
+use charset::NO_SET;
+use cursor::Cursor;
+use cursor::FIRST_DOUBLE;
+use cursor::advance;
+use cursor::octets::one_octet;
+use cursor::octets::two_octets;
+use cursor::set_at;
+
+// The forms: any one unit, units of one octet, characters of two octets in GL, and in GR.
+const ANY: u8 = 0;
+
+pub const ONES: u8 = 1;
+
+const LEFT_TWOS: u8 = 2;
+
+const RIGHT_TWOS: u8 = 3;
+
+// The units of a form that start at a place, so many at most, under these sets. Of any one unit the unit is given, and the place and the
+// sets are those after it.
+pub struct Span {
+    pub place: usize,
+    pub most: usize,
+    pub unit: Unit,
+    pub form: u8,
+    pub gl: u8,
+    pub gr: u8,
+}
+
+// An octet that is a unit: a tab, a newline, a space or a character.
+fn single(b: u8, gl: u8, gr: u8) -> bool
+    ensures { λ r. ⌜ r ≡ singleUnder b (sets gl gr) ⌝ }
+{
+    if b < 0x20 {
+        if b < 0x09 {
+            return false;
+        }
+        return b <= 0x0A;
+    }
+    if b < 0x7F {
+        return gl < FIRST_DOUBLE;
+    }
+    if b < 0xA0 {
+        return false;
+    }
+    gr < FIRST_DOUBLE
+}
+
+// The first octet of a character of two in GL.
+fn left_first(b: u8) -> bool
+    ensures { λ r. ⌜ r ≡ leftFirst b ⌝ }
+{
+    if b <= 0x20 {
+        return false;
+    }
+    b < 0x7F
+}
+
+fn has_two(set: u8) -> bool
+    ensures { λ r. ⌜ r ≡ hasTwo set ⌝ }
+{
+    if set < FIRST_DOUBLE {
+        return false;
+    }
+    set < NO_SET
+}
+
+// The form of the unit that an octet begins.
+fn form_at(b: u8, gl: u8, gr: u8) -> u8
+    ensures { λ r. ⌜ r ≡ formAt b (sets gl gr) ⌝ }
+{
+    if single(b, gl, gr) {
+        return ONES;
+    }
+    if left_first(b) {
+        if has_two(gl) {
+            return LEFT_TWOS;
+        }
+        return ANY;
+    }
+    if b < 0xA0 {
+        return ANY;
+    }
+    if has_two(gr) {
+        return RIGHT_TWOS;
+    }
+    ANY
+}
+
+fn lesser(m: usize, n: usize) -> usize
+    ensures { λ r. ⌜ r ≡ lesserOf m n ⌝ }
+{
+    if m < n {
+        return m;
+    }
+    n
+}
+
+// Any one unit.
+fn any_unit(s: &[u8], c: Cursor) -> Span
+    ensures { λ r. ⌜ r ≡ anyOf (now (s .entry)) c ⌝ }
+{
+    let t = advance(s, c);
+    let next = t.cursor;
+    let unit = t.unit;
+    Span {
+        place: next.place,
+        most: 1,
+        unit: unit,
+        form: ANY,
+        gl: next.gl,
+        gr: next.gr,
+    }
+}
+
+fn of_form(c: Cursor, form: u8, most: usize) -> Span
+    ensures { λ r. ⌜ r ≡ ofForm c form most ⌝ }
+{
+    Span {
+        place: c.place,
+        most: most,
+        unit: Unit::BLANK,
+        form: form,
+        gl: c.gl,
+        gr: c.gr,
+    }
+}
+
+// The span at a cursor, of n units at most.
+pub fn span_at(s: &[u8], c: Cursor, n: usize) -> Span
+    ensures { λ r. ⌜ r ≡ spanOf (now (s .entry)) c n ⌝ }
+{
+    let at = c.place;
+    if s.len() <= at {
+        return any_unit(s, c);
+    }
+    let form = form_at(s[at], c.gl, c.gr);
+    if form == ANY {
+        return any_unit(s, c);
+    }
+    let octets = s.len() - at;
+    if form == ONES {
+        return of_form(c, form, lesser(octets, n));
+    }
+    if octets < 2 {
+        return any_unit(s, c);
+    }
+    of_form(c, form, lesser(octets / 2, n))
+}
+
+// Whether the octets of the units of a span lie in a string of so many.
+fn fits(octets: usize, r: Span) -> bool
+    ensures { λ b. ⌜ b ≡ fitsIn octets r ⌝ }
+{
+    if r.form == ANY {
+        return true;
+    }
+    if octets < r.place {
+        return false;
+    }
+    if r.form == ONES {
+        return r.most <= octets - r.place;
+    }
+    r.most <= (octets - r.place) / 2
+}
+
+// How many units of a span may be stored from a place of a list on: none where the string or the list is too short for it.
+fn most_in(octets: usize, r: Span, room: usize, start: usize) -> usize
+    ensures { λ n. ⌜ n ≡ mostOf octets r room start ⌝ }
+{
+    if room < start {
+        return 0;
+    }
+    if room - start < r.most {
+        return 0;
+    }
+    if fits(octets, r) {
+        return r.most;
+    }
+    0
+}
+
+// The octet at a place, as `single` and `left_first` take it, and as the first of two in GR. Each reads it by itself, so that the compiler
+// makes a loop of each form.
+fn single_at(s: &[u8], at: usize, gl: u8, gr: u8) -> bool
+    requires { ⌜ at < length (now s) ⌝ }
+    ensures { λ r. ⌜ r ≡ singleUnder (getD (now (s .entry)) at 0) (sets gl gr) ⌝ }
+{
+    single(s[at], gl, gr)
+}
+
+fn left_at(s: &[u8], at: usize) -> bool
+    requires { ⌜ at < length (now s) ⌝ }
+    ensures { λ r. ⌜ r ≡ leftFirst (getD (now (s .entry)) at 0) ⌝ }
+{
+    left_first(s[at])
+}
+
+fn right_at(s: &[u8], at: usize) -> bool
+    requires { ⌜ at < length (now s) ⌝ }
+    ensures { λ r. ⌜ r ≡ leb 0xA0 (getD (now (s .entry)) at 0) ⌝ }
+{
+    0xA0 <= s[at]
+}
+
+// Whether the unit after j units of a span is of its form.
+pub fn stands_at(s: &[u8], r: Span, j: usize) -> bool
+    requires { ⌜ (fitsIn (length (now s)) r ≡ true) × (j < r .most) ⌝ }
+    ensures { λ b. ⌜ b ≡ standsAfter (now (s .entry)) r j ⌝ }
+{
+    if r.form == ONES {
+        return single_at(s, r.place + j, r.gl, r.gr);
+    }
+    if r.form == LEFT_TWOS {
+        return left_at(s, r.place + 2 * j);
+    }
+    if r.form == RIGHT_TWOS {
+        return right_at(s, r.place + 2 * j);
+    }
+    true
+}
+
+fn one(s: &[u8], at: usize, gl: u8, gr: u8) -> Unit
+    requires { ⌜ at < length (now s) ⌝ }
+    ensures { λ r. ⌜ r ≡ oneUnitAt (now (s .entry)) at (sets gl gr) ⌝ }
+{
+    let b = s[at];
+    one_octet(at, b, set_at(b, gl, gr))
+}
+
+fn two(s: &[u8], at: usize, set: u8) -> Unit
+    requires { ⌜ at + 1 < length (now s) ⌝ }
+    ensures { λ r. ⌜ r ≡ twoOctetUnitAt (now (s .entry)) at set ⌝ }
+{
+    two_octets(at, s[at], s[at + 1], set)
+}
+
+// The unit after j units of a span.
+pub fn nth(s: &[u8], r: Span, j: usize) -> Unit
+    requires { ⌜ (fitsIn (length (now s)) r ≡ true) × (j < r .most) ⌝ }
+    ensures { λ u. ⌜ u ≡ unitAfter (now (s .entry)) r j ⌝ }
+{
+    if r.form == ONES {
+        return one(s, r.place + j, r.gl, r.gr);
+    }
+    if r.form == LEFT_TWOS {
+        return two(s, r.place + 2 * j, r.gl);
+    }
+    if r.form == RIGHT_TWOS {
+        return two(s, r.place + 2 * j, r.gr);
+    }
+    r.unit
+}
+
+// Stores the units of a span from a place of the list on, and answers how many.
+pub fn fill(s: &[u8], r: Span, units: &mut [Unit], start: usize) -> usize
+    ensures { λ k. ⌜ (k ≡ filledOf (now (s .entry)) r (length (now (units .entry))) start)
+        × (now (units .exit) ≡ listFilled (now (s .entry)) r start (now (units .entry))) ⌝ }
+{
+    let n = most_in(s.len(), r, units.len(), start);
+    let mut j: usize = 0;
+    while j < n {
+        if stands_at(s, r, j) {
+            units[start + j] = nth(s, r, j);
+            j += 1;
+        } else {
+            return j;
+        }
+    }
+    j
+}
