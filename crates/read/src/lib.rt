@@ -1,17 +1,12 @@
 // The units of a string, in a list that the caller lends.
 ghost use mathlib.Core.Path.{_≡_};
-ghost use Prim.Native.Nat.{_+_, _*_, _<_, _^_};
 ghost use lib.ListN.{length};
-ghost use Rattle.spans.specs.Spans.{ones, movedOf};
 ghost use Rattle.read.specs.Listing.{readAnswer, storedOf, listAfter};
 use base::Answer;
 use base::Unit;
 use base::refusal;
 use cursor::Cursor;
-use spans::ONES;
-use spans::Span;
 use spans::fill;
-use spans::span_at;
 
 // What a string and a list of so many records are answered.
 pub fn answer(s: &[u8], room: usize) -> Answer
@@ -42,34 +37,6 @@ pub fn stored(a: Answer) -> usize
     0
 }
 
-// The cursor after j units of a span.
-fn moved(r: Span, j: usize) -> Cursor
-    requires { ⌜ (r .form ≡ ones → r .place + j < 2 ^ 64) × (ones < r .form → r .place + 2 * j < 2 ^ 64) ⌝ }
-    ensures { λ c. ⌜ c ≡ movedOf r j ⌝ }
-{
-    if r.form == ONES {
-        let place = r.place + j;
-        return Cursor {
-            place: place,
-            gl: r.gl,
-            gr: r.gr,
-        };
-    }
-    if ONES < r.form {
-        let place = r.place + 2 * j;
-        return Cursor {
-            place: place,
-            gl: r.gl,
-            gr: r.gr,
-        };
-    }
-    Cursor {
-        place: r.place,
-        gl: r.gl,
-        gr: r.gr,
-    }
-}
-
 // The units of a string are stored from the list's first place on, and the rest of it stays; a refusal stores none.
 pub fn read(s: &[u8], units: &mut [Unit]) -> Answer
     ensures { λ r. ⌜ (r ≡ readAnswer (now (s .entry)) (length (now (units .entry))))
@@ -80,10 +47,9 @@ pub fn read(s: &[u8], units: &mut [Unit]) -> Answer
     let mut c = Cursor::first();
     let mut i: usize = 0;
     while i < n {
-        let r = span_at(s, c, n - i);
-        let k = fill(s, r, units, i);
-        c = moved(r, k);
-        i += k;
+        let t = fill(s, c, n - i, units, i);
+        c = t.cursor;
+        i += t.count;
     }
     a
 }

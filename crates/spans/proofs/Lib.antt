@@ -1,3 +1,3 @@
-pub mod Within
+pub mod Bounds
 pub mod Stood
 pub mod Fills

@@ -18,8 +18,9 @@ use Rattle.cursor.specs.declared.Cursor.{Cursor}
 use Rattle.cursor.specs.declared.Turn.{Turn}
 use Rattle.cursor.proofs.Rules.{on-quick, on-text, on-double, on-advance}
 use Rattle.spans.specs.Spans.{any, ones, left-twos, right-twos, singleUnder, leftFirst, hasTwo, formAt, lesserOf, anyOf, ofForm, byForm, spanOf}
-use Rattle.spans.specs.Spans.{fitsIn, movedOf, standsAfter, oneUnitAt, twoOctetUnitAt, unitAfter}
+use Rattle.spans.specs.Spans.{Fits, movedOf, standsAfter, oneUnitAt, twoOctetUnitAt, unitAfter}
 use Rattle.spans.specs.declared.Span.{Span}
+use Rattle.spans.proofs.Bounds.{least}
 
 -- ---- what an octet is taken for
 
@@ -120,12 +121,6 @@ module _ (s : List ℕ) (at : ℕ) (to : Sets) (inside : at < length s) where
 
 -- ---- the spans
 
-least : (m n : ℕ) → (lesserOf m n ≤ m) × ((lesserOf m n ≤ n) × (1 ≤ m → 1 ≤ n → 1 ≤ lesserOf m n))
-unfolding lesserOf
-least m n =
-    pick-by (λ x. (x ≤ m) × ((x ≤ n) × (1 ≤ m → 1 ≤ n → 1 ≤ x))) (ltb m n) (λ e. (omega arith, (omega (tested, e), λ i j. i)))
-    (λ e. (omega (tested, e), (omega arith, λ i j. j)))
-
 module _ (s : List ℕ) (c : Cursor) (n : ℕ) where
   abbrev to : Sets
   to = stateIn c .sets
@@ -142,31 +137,31 @@ module _ (s : List ℕ) (c : Cursor) (n : ℕ) where
     unit : (m j : ℕ) → unitAfter s (ofForm c form m) j ≡ twoOctetUnitAt s (c .place + 2 * j) set
     moved : (m j : ℕ) → movedOf (ofForm c form m) j ≡ cursor (c .place + 2 * j) (stateIn c)
     span : byForm s c n form octets ≡ pick (ltb octets 2) (anyOf s c) (ofForm c form (lesserOf (octets / 2) n))
-    fit : (m : ℕ) → fitsIn (length s) (ofForm c form m) ≡ pick (ltb (length s) (c .place)) false (leb m (octets / 2))
+    two : ones < form
     starts : (b : ℕ) → first b ≡ true → (0x20 < b) × Text b set to
 
   in-left : Twos left-twos (c .gl) leftFirst
-  unfolding standsAfter unitAfter movedOf byForm fitsIn leftFirst pick
+  unfolding standsAfter unitAfter movedOf byForm leftFirst pick
   in-left =
       record {
         stands = λ m j. refl;
         unit = λ m j. refl;
         moved = λ m j. refl;
         span = refl;
-        fit = λ m. refl;
+        two = omega arith;
         starts = λ b e. (let k = pick-last (leb b 0x20) (ltb b 0x7F) e in
             (leb-false b 0x20 (k .0), left b to (omega (tested, k .0)) (ltb-true b 0x7F (k .1))));
       }
 
   in-right : Twos right-twos (c .gr) (leb 0xA0)
-  unfolding standsAfter unitAfter movedOf byForm fitsIn pick
+  unfolding standsAfter unitAfter movedOf byForm pick
   in-right =
       record {
         stands = λ m j. refl;
         unit = λ m j. refl;
         moved = λ m j. refl;
         span = refl;
-        fit = λ m. refl;
+        two = omega arith;
         starts = λ b e. (omega (tested, e), right b to (leb-true 0xA0 b e));
       }
 
@@ -199,12 +194,15 @@ module _ (s : List ℕ) (c : Cursor) (n : ℕ) where
       (λ l. pick-by P (hasTwo (c .gr)) (λ t. by-twos in-right (le-leb 0xA0 octet (ltb-false octet 0xA0 l)) t) (λ _. by-any)))))
 
   -- ---- its units are in the string, and there is one
-  fits-by : {r : Span} → Spans r → fitsIn (length s) r ≡ true
-  unfolding fitsIn pick
-  fits-by as-any = refl
-  fits-by (as-ones h e) = sym (on-ge (length s) (c .place) _ _ _ (omega (arith, h)) (sym (le-leb _ _ (least octets n .0))))
+  fits-by : {r : Span} → Spans r → Fits s r
+  fits-by as-any = record {
+    of-ones = λ e. absurd (let z : _≡_ {A = ℕ} any ones = e in omega (arith, z));
+    of-twos = λ e. absurd (let z : ones < any = e in omega (arith, z));
+  }
+  fits-by (as-ones h e) =
+      record { of-ones = λ _. omega (arith, h, least octets n .0); of-twos = λ e. absurd (let z : ones < ones = e in omega (arith, z)) }
   fits-by (as-twos w h l t) =
-      w .fit _ ∙ sym (on-ge (length s) (c .place) _ _ _ (omega (arith, h)) (sym (le-leb _ _ (least (octets / 2) n .0))))
+      record { of-ones = λ e. absurd (omega (arith, e, w .two)); of-twos = λ _. omega (arith, h, least (octets / 2) n .0) }
 
   most-by : {r : Span} → 1 ≤ n → Spans r → (r .most ≤ n) × (1 ≤ r .most)
   most-by i as-any = (i, omega arith)
@@ -223,7 +221,7 @@ module _ (s : List ℕ) (c : Cursor) (n : ℕ) where
   first-by (as-ones h e) = rw (← none) e
   first-by (as-twos w h l t) = rw (w .stands _ 0, ← nothing) l
 
-  pub span-fits : fitsIn (length s) (spanOf s c n) ≡ true
+  pub span-fits : Fits s (spanOf s c n)
   span-fits = fits-by spanned
 
   pub span-most : 1 ≤ n → spanOf s c n .most ≤ n

@@ -1,6 +1,7 @@
 -- Units of one form, one after another. Nothing has to be believed of them: that they are the units that `advance` gives one by one is proved
 -- (`span-turns`).
-use Prim.Native.Nat.{ℕ, zero, suc, _+_, _-_, _*_, _/_}
+use Prim.Native.Nat.{ℕ, zero, suc, _+_, _-_, _*_, _/_, _≤_, _<_}
+use mathlib.Core.Path.{_≡_}
 use mathlib.Core.Bool.{Bool, true, false}
 use mathlib.Core.List.{List}
 use lib.Dec.{eqb, leb, ltb}
@@ -13,6 +14,7 @@ use Rattle.state.specs.declared.Sets.{Sets}
 use Rattle.units.specs.Records.{blank}
 use Rattle.cursor.specs.Cursor.{freed, cursor, stateIn, first-double, setAt, oneOf, twoOf, advanceOf}
 use Rattle.cursor.specs.declared.Cursor.{Cursor}
+use Rattle.spans.specs.declared.Filled.{Filled}
 use Rattle.spans.specs.declared.Span.{Span}
 
 -- ---- the forms: any one unit, units of one octet, characters of two octets in GL, and in GR
@@ -85,17 +87,10 @@ spanOf s c n =
     pick (leb (length s) (c .place)) (anyOf s c)
     (byForm s c n (formAt (getD s (c .place) 0) (stateIn c .sets)) (length s - c .place))
 
--- whether the octets of its units lie in a string of so many
-unfoldable pub fitsIn : ℕ → Span → Bool
-fitsIn octets r =
-    pick (eqb (r .form) any) true
-    (pick (ltb octets (r .place)) false
-    (pick (eqb (r .form) ones) (leb (r .most) (octets - r .place)) (leb (r .most) ((octets - r .place) / 2))))
-
--- how many of them may be stored from a place of a list on: none where the string or the list is too short for all
-unfoldable pub mostOf : ℕ → Span → ℕ → ℕ → ℕ
-mostOf octets r room start =
-    pick (ltb room start) 0 (pick (ltb (room - start) (r .most)) 0 (pick (fitsIn octets r) (r .most) 0))
+-- the octets of its units are in the string
+pub record Fits (s : List ℕ) (r : Span) : Type 0 where
+  pub of-ones : r .form ≡ ones → r .place + r .most ≤ length s
+  pub of-twos : ones < r .form → r .place + 2 * r .most ≤ length s
 
 -- the cursor after j of its units
 unfoldable pub movedOf : Span → ℕ → Cursor
@@ -137,9 +132,19 @@ unfoldable pub storedFrom : List ℕ → Span → ℕ → ℕ → ℕ → List U
 storedFrom s r start zero j l = l
 storedFrom s r start (suc m) j l = pick (standsAfter s r j) (storedFrom s r start m (suc j) (set l (start + j) (unitAfter s r j))) l
 
--- how many are stored from a place of the list on, and the list after it
-abbrev pub filledOf : List ℕ → Span → ℕ → ℕ → ℕ
-filledOf s r room start = countFrom s r (mostOf (length s) r room start) 0
+-- ---- what is stored of the span at a cursor, of so many units at most, from a place of a list on
 
-abbrev pub listFilled : List ℕ → Span → ℕ → List UnitRecord → List UnitRecord
-listFilled s r start l = storedFrom s r start (mostOf (length s) r (length l) start) 0 l
+-- how many may be, where the list has so much room
+unfoldable pub boundOf : ℕ → ℕ → ℕ → ℕ
+boundOf most room start = pick (ltb room start) 0 (lesserOf most (room - start))
+
+abbrev pub filledOf : List ℕ → Cursor → ℕ → ℕ → ℕ → Filled
+filledOf s c most room start =
+    let r = spanOf s c most in
+    let count = countFrom s r (boundOf (r .most) room start) 0 in
+    record { cursor = movedOf r count; count = count }
+
+abbrev pub listFilled : List ℕ → Cursor → ℕ → ℕ → List UnitRecord → List UnitRecord
+listFilled s c most start l =
+    let r = spanOf s c most in
+    storedFrom s r start (boundOf (r .most) (length l) start) 0 l

@@ -1,12 +1,11 @@
 // Units of one form, one after another in an accepted string, found by their octets alone.
 ghost use mathlib.Core.Path.{_≡_};
-ghost use mathlib.Core.Bool.{true};
-ghost use Prim.Native.Nat.{_+_, _<_};
+ghost use Prim.Native.Nat.{_+_, _*_, _<_, _^_};
 ghost use lib.Dec.{leb};
 ghost use lib.ListN.{length, getD};
 ghost use Rattle.state.specs.State.{sets};
-ghost use Rattle.spans.specs.Spans.{singleUnder, leftFirst, hasTwo, formAt, lesserOf, anyOf, ofForm, spanOf, fitsIn, mostOf, standsAfter};
-ghost use Rattle.spans.specs.Spans.{oneUnitAt, twoOctetUnitAt, unitAfter, filledOf, listFilled};
+ghost use Rattle.spans.specs.Spans.{ones, singleUnder, leftFirst, hasTwo, formAt, lesserOf, anyOf, ofForm, spanOf, boundOf, Fits, movedOf};
+ghost use Rattle.spans.specs.Spans.{standsAfter, oneUnitAt, twoOctetUnitAt, unitAfter, filledOf, listFilled};
 use base::Unit;
 use charset::NO_SET;
 use cursor::Cursor;
@@ -19,7 +18,7 @@ use cursor::set_at;
 // The forms: any one unit, units of one octet, characters of two octets in GL, and in GR.
 const ANY: u8 = 0;
 
-pub const ONES: u8 = 1;
+const ONES: u8 = 1;
 
 const LEFT_TWOS: u8 = 2;
 
@@ -136,7 +135,7 @@ fn of_form(c: Cursor, form: u8, most: usize) -> Span
 }
 
 // The span at a cursor, of n units at most.
-pub fn span_at(s: &[u8], c: Cursor, n: usize) -> Span
+fn span_at(s: &[u8], c: Cursor, n: usize) -> Span
     ensures { λ r. ⌜ r ≡ spanOf (now (s .entry)) c n ⌝ }
 {
     let at = c.place;
@@ -157,36 +156,14 @@ pub fn span_at(s: &[u8], c: Cursor, n: usize) -> Span
     of_form(c, form, lesser(octets / 2, n))
 }
 
-// Whether the octets of the units of a span lie in a string of so many.
-fn fits(octets: usize, r: Span) -> bool
-    ensures { λ b. ⌜ b ≡ fitsIn octets r ⌝ }
-{
-    if r.form == ANY {
-        return true;
-    }
-    if octets < r.place {
-        return false;
-    }
-    if r.form == ONES {
-        return r.most <= octets - r.place;
-    }
-    r.most <= (octets - r.place) / 2
-}
-
-// How many units of a span may be stored from a place of a list on: none where the string or the list is too short for it.
-fn most_in(octets: usize, r: Span, room: usize, start: usize) -> usize
-    ensures { λ n. ⌜ n ≡ mostOf octets r room start ⌝ }
+// How many of so many units may be stored from a place of a list on.
+fn bounded(most: usize, room: usize, start: usize) -> usize
+    ensures { λ n. ⌜ n ≡ boundOf most room start ⌝ }
 {
     if room < start {
         return 0;
     }
-    if room - start < r.most {
-        return 0;
-    }
-    if fits(octets, r) {
-        return r.most;
-    }
-    0
+    lesser(most, room - start)
 }
 
 // The octet at a place, as `single` and `left_first` take it, and as the first of two in GR. Each reads it by itself, so that the compiler
@@ -213,8 +190,8 @@ fn right_at(s: &[u8], at: usize) -> bool
 }
 
 // Whether the unit after j units of a span is of its form.
-pub fn stands_at(s: &[u8], r: Span, j: usize) -> bool
-    requires { ⌜ (fitsIn (length (now s)) r ≡ true) × (j < r .most) ⌝ }
+fn stands_at(s: &[u8], r: Span, j: usize) -> bool
+    requires { ⌜ Fits (now s) r × (j < r .most) ⌝ }
     ensures { λ b. ⌜ b ≡ standsAfter (now (s .entry)) r j ⌝ }
 {
     if r.form == ONES {
@@ -245,8 +222,8 @@ fn two(s: &[u8], at: usize, set: u8) -> Unit
 }
 
 // The unit after j units of a span.
-pub fn nth(s: &[u8], r: Span, j: usize) -> Unit
-    requires { ⌜ (fitsIn (length (now s)) r ≡ true) × (j < r .most) ⌝ }
+fn nth(s: &[u8], r: Span, j: usize) -> Unit
+    requires { ⌜ Fits (now s) r × (j < r .most) ⌝ }
     ensures { λ u. ⌜ u ≡ unitAfter (now (s .entry)) r j ⌝ }
 {
     if r.form == ONES {
@@ -261,20 +238,59 @@ pub fn nth(s: &[u8], r: Span, j: usize) -> Unit
     r.unit
 }
 
-// Stores the units of a span from a place of the list on, and answers how many.
-pub fn fill(s: &[u8], r: Span, units: &mut [Unit], start: usize) -> usize
-    ensures { λ k. ⌜ (k ≡ filledOf (now (s .entry)) r (length (now (units .entry))) start)
-        × (now (units .exit) ≡ listFilled (now (s .entry)) r start (now (units .entry))) ⌝ }
+// The cursor after j units of a span.
+fn moved(r: Span, j: usize) -> Cursor
+    requires { ⌜ (r .form ≡ ones → r .place + j < 2 ^ 64) × (ones < r .form → r .place + 2 * j < 2 ^ 64) ⌝ }
+    ensures { λ c. ⌜ c ≡ movedOf r j ⌝ }
 {
-    let n = most_in(s.len(), r, units.len(), start);
+    if r.form == ONES {
+        let place = r.place + j;
+        return Cursor {
+            place: place,
+            gl: r.gl,
+            gr: r.gr,
+        };
+    }
+    if ONES < r.form {
+        let place = r.place + 2 * j;
+        return Cursor {
+            place: place,
+            gl: r.gl,
+            gr: r.gr,
+        };
+    }
+    Cursor {
+        place: r.place,
+        gl: r.gl,
+        gr: r.gr,
+    }
+}
+
+// What is stored of a span: the cursor after it, and how many units.
+pub struct Filled {
+    pub cursor: Cursor,
+    pub count: usize,
+}
+
+// Stores the units of the span at a cursor, so many at most, from a place of the list on.
+pub fn fill(s: &[u8], c: Cursor, most: usize, units: &mut [Unit], start: usize) -> Filled
+    ensures { λ r. ⌜ (r ≡ filledOf (now (s .entry)) c most (length (now (units .entry))) start)
+        × (now (units .exit) ≡ listFilled (now (s .entry)) c most start (now (units .entry))) ⌝ }
+{
+    let r = span_at(s, c, most);
+    let n = bounded(r.most, units.len(), start);
     let mut j: usize = 0;
     while j < n {
         if stands_at(s, r, j) {
             units[start + j] = nth(s, r, j);
             j += 1;
         } else {
-            return j;
+            break;
         }
     }
-    j
+    let next = moved(r, j);
+    Filled {
+        cursor: next,
+        count: j,
+    }
 }

@@ -1,23 +1,22 @@
--- `spans::nth` meets its contract: the unit is in the string (`Within`), and the tests are those of its definition. Assumes nothing.
+-- `spans::nth` meets its contract: the unit is in the string (`Fits`), and the tests are those of its definition. Assumes nothing.
 use Rattle.element.proofs.Names.{ladder, arith}
-use Rattle.spans.proofs.Within.{of-ones, of-twos}
 use Rattle.spans.specs.Spans.{unitAfter}
 use Rattle.spans.proofs.nth.Statement.{statement}
 use Rattle.spans.proofs.nth.Tie as tie
 
 mul-two-2 : tie.Need-mul-two-2
 mul-two-2 c =
-    let h = of-twos _ _ (c .before .before .before .before .before .before .before .pre .0) (omega (arith, c .if3 .taken)) in
+    let h = c .before .before .before .before .before .before .before .pre .0 .of-twos (omega (arith, c .if3 .taken)) in
     record { fits = omega (arith, h) }
 
 add-two-2 : tie.Need-add-two-2
 add-two-2 c =
-    let h = of-twos _ _ (c .before .before .before .before .before .before .before .before .pre .0) (omega (arith, c .before .if3 .taken)) in
+    let h = c .before .before .before .before .before .before .before .before .pre .0 .of-twos (omega (arith, c .before .if3 .taken)) in
     omega (arith, h)
 
 two-requires-2 : tie.Need-two-requires-2
 two-requires-2 c κs =
-    let h = of-twos _ _ (c .before .before .before .before .before .before .before .before .pre .0) (omega (arith, c .before .if3 .taken)) in
+    let h = c .before .before .before .before .before .before .before .before .pre .0 .of-twos (omega (arith, c .before .if3 .taken)) in
     omega (arith, h)
 
 pub nth-spec : {M : Type 1} → statement M
@@ -25,12 +24,12 @@ unfolding unitAfter
 nth-spec =
     tie.close
     (tie.spec
-    (λ c. omega (arith, of-ones _ _ (c .before .before .before .before .pre .0) (c .before .if1 .taken)))
-    (λ c κs. omega (arith, of-ones _ _ (c .before .before .before .before .pre .0) (c .before .if1 .taken)))
+    (λ c. omega (arith, c .before .before .before .before .pre .0 .of-ones (c .before .if1 .taken)))
+    (λ c κs. omega (arith, c .before .before .before .before .pre .0 .of-ones (c .before .if1 .taken)))
     (λ c. search ladder depth 9)
-    (λ c. record { fits = omega (arith, of-twos _ _ (c .before .before .before .before .before .pre .0) (omega (arith, c .if2 .taken))) })
-    (λ c. omega (arith, of-twos _ _ (c .before .before .before .before .before .before .pre .0) (omega (arith, c .before .if2 .taken))))
-    (λ c κs. omega (arith, of-twos _ _ (c .before .before .before .before .before .before .pre .0) (omega (arith, c .before .if2 .taken))))
+    (λ c. record { fits = omega (arith, c .before .before .before .before .before .pre .0 .of-twos (omega (arith, c .if2 .taken))) })
+    (λ c. omega (arith, c .before .before .before .before .before .before .pre .0 .of-twos (omega (arith, c .before .if2 .taken))))
+    (λ c κs. omega (arith, c .before .before .before .before .before .before .pre .0 .of-twos (omega (arith, c .before .if2 .taken))))
     (λ c. search ladder depth 9)
     mul-two-2
     add-two-2

@@ -1,23 +1,22 @@
--- `spans::stands_at` meets its contract: the unit is in the string (`Within`), and the tests are those of its definition. Assumes nothing.
+-- `spans::stands_at` meets its contract: the unit is in the string (`Fits`), and the tests are those of its definition. Assumes nothing.
 use Rattle.element.proofs.Names.{ladder, arith}
-use Rattle.spans.proofs.Within.{of-ones, of-twos}
 use Rattle.spans.specs.Spans.{standsAfter}
 use Rattle.spans.proofs.stands_at.Statement.{statement}
 use Rattle.spans.proofs.stands_at.Tie as tie
 
 mul-right-at : tie.Need-mul-right-at
 mul-right-at c =
-    let h = of-twos _ _ (c .before .before .before .before .before .before .before .pre .0) (omega (arith, c .if3 .taken)) in
+    let h = c .before .before .before .before .before .before .before .pre .0 .of-twos (omega (arith, c .if3 .taken)) in
     record { fits = omega (arith, h) }
 
 add-right-at : tie.Need-add-right-at
 add-right-at c =
-    let h = of-twos _ _ (c .before .before .before .before .before .before .before .before .pre .0) (omega (arith, c .before .if3 .taken)) in
+    let h = c .before .before .before .before .before .before .before .before .pre .0 .of-twos (omega (arith, c .before .if3 .taken)) in
     omega (arith, h)
 
 right-at-requires : tie.Need-right-at-requires
 right-at-requires c κs =
-    let h = of-twos _ _ (c .before .before .before .before .before .before .before .before .pre .0) (omega (arith, c .before .if3 .taken)) in
+    let h = c .before .before .before .before .before .before .before .before .pre .0 .of-twos (omega (arith, c .before .if3 .taken)) in
     omega (arith, h)
 
 pub stands-at-spec : {M : Type 1} → statement M
@@ -25,12 +24,12 @@ unfolding standsAfter
 stands-at-spec =
     tie.close
     (tie.spec
-    (λ c. omega (arith, of-ones _ _ (c .before .before .before .before .pre .0) (c .before .if1 .taken)))
-    (λ c κs. omega (arith, of-ones _ _ (c .before .before .before .before .pre .0) (c .before .if1 .taken)))
+    (λ c. omega (arith, c .before .before .before .before .pre .0 .of-ones (c .before .if1 .taken)))
+    (λ c κs. omega (arith, c .before .before .before .before .pre .0 .of-ones (c .before .if1 .taken)))
     (λ c. search ladder depth 9)
-    (λ c. record { fits = omega (arith, of-twos _ _ (c .before .before .before .before .before .pre .0) (omega (arith, c .if2 .taken))) })
-    (λ c. omega (arith, of-twos _ _ (c .before .before .before .before .before .before .pre .0) (omega (arith, c .before .if2 .taken))))
-    (λ c κs. omega (arith, of-twos _ _ (c .before .before .before .before .before .before .pre .0) (omega (arith, c .before .if2 .taken))))
+    (λ c. record { fits = omega (arith, c .before .before .before .before .before .pre .0 .of-twos (omega (arith, c .if2 .taken))) })
+    (λ c. omega (arith, c .before .before .before .before .before .before .pre .0 .of-twos (omega (arith, c .before .if2 .taken))))
+    (λ c κs. omega (arith, c .before .before .before .before .before .before .pre .0 .of-twos (omega (arith, c .before .if2 .taken))))
     (λ c. search ladder depth 9)
     mul-right-at
     add-right-at
