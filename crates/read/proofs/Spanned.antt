@@ -4,7 +4,7 @@ use Rattle.element.proofs.Names.{ℕ, zero, suc, _+_, _-_, _≤_, _<_, arith, _
 use Rattle.element.proofs.Names.{UnitRecord}
 use Rattle.base.specs.Limit as limit
 use Rattle.walks.proofs.Filling.{iter, iter-suc, length-fill, fill-suc}
-use Rattle.cursor.specs.Cursor.{first, advanceOf}
+use Rattle.cursor.specs.Cursor.{first}
 use Rattle.spans.specs.Spans.{spanOf, boundOf, movedOf, standsAfter, unitAfter, countFrom, storedFrom, filledOf, listFilled}
 use Rattle.cursor.specs.declared.Cursor.{Cursor}
 use Rattle.cursor.specs.declared.Turn.{Turn}

@@ -1,5 +1,5 @@
 -- The lesser of two numbers, and how many units may be stored: no more than there are, and those that are have a place in the list.
-use Rattle.element.proofs.Names.{ℕ, _+_, _-_, _<_, _≤_, arith, _≡_, refl, sym, ltb, pick-by, tested, on-ge}
+use Rattle.element.proofs.Names.{ℕ, _+_, _-_, _<_, _≤_, arith, _≡_, refl, ltb, pick-by, tested, on-ge}
 use Rattle.spans.specs.Spans.{lesserOf, boundOf}
 
 pub least : (m n : ℕ) → (lesserOf m n ≤ m) × ((lesserOf m n ≤ n) × (1 ≤ m → 1 ≤ n → 1 ≤ lesserOf m n))

@@ -1,6 +1,6 @@
 -- `by_value::nth` meets its contract: the step of turn i is that of a reader after i steps, and its item is item k of the string (`opened-items`).
 use native.Mathlib.Nat.{le-antisymm}
-use Rattle.element.proofs.Names.{ℕ, suc, _-_, _≤_, add-one, arith, _≡_, refl, ap, _∙_, List}
+use Rattle.element.proofs.Names.{ℕ, suc, _-_, _≤_, add-one, arith, _≡_, ap, _∙_, List}
 use denote.Ref.{RefT}
 use Rattle.reader.specs.Reader.{itemAt, moved, opened, readerAfter}
 use Rattle.reader.specs.declared.Reader.{Reader}

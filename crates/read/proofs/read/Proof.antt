@@ -2,8 +2,8 @@
 -- which stores the units of the span at the cursor; that they are those of as many single steps is shown of the definitions (`Spanned`). Of the
 -- functions that it calls the proof knows their contracts alone.
 -- Assumes nothing.
-use Rattle.walks.proofs.Names.{_≡_, refl, _∙_, ap, subst, ℕ, _+_, _-_, _*_, _≤_, _<_, _^_, [], _∷_, List, length, fullShare, named, w64, Val, vint}
-use Rattle.walks.proofs.Names.{SProp, id⊢, GName, Fml, flft, ‵, _⊛_, prop, atRet, Sq, _$_, !, move, join, done, lit, of-opd, bin, no-more, Is, u8, RefT}
+use Rattle.walks.proofs.Names.{_≡_, refl, _∙_, ap, ℕ, _+_, _-_, _≤_, _<_, _^_, [], _∷_, List, length, fullShare, named, w64, Val, vint}
+use Rattle.walks.proofs.Names.{SProp, id⊢, GName, Fml, flft, ‵, _⊛_, atRet, _$_, !, move, join, done, lit, of-opd, bin, no-more, Is, u8, RefT}
 use Rattle.walks.proofs.Names as kit
 use native.Mathlib.Nat.{le-antisymm}
 use Rattle.element.proofs.Names.{arith, ltb→lt, nltb→le, lit<, afterTurn, Answer, UnitRecord}

@@ -1,6 +1,6 @@
 -- `spans::any_unit` meets its contract. Assumes nothing.
-use Rattle.element.proofs.Names.{ladder, arith}
-use Rattle.spans.specs.Spans.{anyOf}
+use Rattle.element.proofs.Names.{arith}
+
 use Rattle.spans.proofs.any_unit.Statement.{statement}
 use Rattle.spans.proofs.any_unit.Tie as tie
 

@@ -3,8 +3,8 @@
 -- proof knows their contracts alone.
 -- Assumes nothing.
 use Rattle.walks.proofs.Names.{_≡_, refl, sym, _∙_, ap, subst, ℕ, suc, _+_, _-_, _*_, _≤_, _<_, _^_, [], _∷_, List, length, fullShare, named, w64}
-use Rattle.walks.proofs.Names.{Val, vint, SProp, id⊢, flft, fobs, ‵, _⊛_, prop, atRet, Sq, _$_, !, move, let-go, split, join, fsplit, fjoin, frame, done}
-use Rattle.walks.proofs.Names.{look, lit, of-opd, bin, Is, u8, usize, RefT, sliceVal, Room, heres, Held, owned, nothing}
+use Rattle.walks.proofs.Names.{Val, vint, SProp, id⊢, flft, fobs, ‵, _⊛_, prop, atRet, Sq, _$_, !, move, let-go, join, fsplit, fjoin}
+use Rattle.walks.proofs.Names.{look, lit, of-opd, bin, Is, u8, RefT, sliceVal, Room, heres, Held, owned}
 use Rattle.walks.proofs.Names as kit
 use types.Kit.{runs}
 use types.Run.{jumps}
