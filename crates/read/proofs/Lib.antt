@@ -1,4 +1,6 @@
 pub mod Cases
 pub mod Filled
 pub mod Promises
+pub mod Within
+pub mod Fills
 pub mod Spanned

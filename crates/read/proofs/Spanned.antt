@@ -1,18 +1,18 @@
 -- A turn of `read`: the units of the span at its cursor are stored one after another, and the list and the cursor are those after so many
--- single steps (`list-next`, `turn-next`). By induction on how many may follow, since each unit of a span is the one that `advance` gives.
+-- single steps (`list-next`, `cursor-next`). By induction on how many may follow, since each unit of a span is the one that `advance` gives.
 use Rattle.element.proofs.Names.{ℕ, zero, suc, _+_, _-_, _≤_, _<_, arith, _≡_, refl, ap, sym, _∙_, Bool, true, false, List, length, set, pick}
 use Rattle.element.proofs.Names.{UnitRecord}
 use Rattle.base.specs.Limit as limit
-use Rattle.walks.proofs.Filling.{iter, iter-suc, length-fill, fill-suc}
+use Rattle.walks.proofs.Filling.{iter, iter-suc, fill-suc}
 use Rattle.cursor.specs.Cursor.{first}
-use Rattle.spans.specs.Spans.{spanOf, boundOf, movedOf, standsAfter, unitAfter, countFrom, storedFrom, filledOf, listFilled}
+use Rattle.spans.specs.Spans.{spanOf, movedOf, standsAfter, unitAfter}
+use Rattle.read.specs.Stores.{countFrom, storedFrom}
 use Rattle.cursor.specs.declared.Cursor.{Cursor}
 use Rattle.cursor.specs.declared.Turn.{Turn}
 use Rattle.spans.specs.declared.Span.{Span}
-use Rattle.spans.proofs.Bounds.{bound-all}
-use Rattle.spans.proofs.Stood.{stood, span-turns, span-first, span-some, span-most}
+use Rattle.spans.proofs.Stood.{stood, span-turns, span-first, span-some}
 use Rattle.read.proofs.Filled.{unitAt, after, filledTo}
-use Rattle.spans.proofs.Fills.{count-goes, count-least, count-most}
+use Rattle.read.proofs.Fills.{count-goes, count-least}
 
 module _ (s : List ℕ) (ys : List UnitRecord) where
   -- the cursor and the list after so many steps
@@ -21,10 +21,6 @@ module _ (s : List ℕ) (ys : List UnitRecord) where
 
   abbrev pub got : ℕ → List UnitRecord
   got i = filledTo s i first ys
-
-  -- how many units are stored from the span there, of n at most
-  abbrev pub countAt : ℕ → ℕ → ℕ
-  countAt i n = countFrom s (spanOf s (cur i) n) (spanOf s (cur i) n .most) 0
 
   module _ (short : length s ≤ limit.octets) (i n : ℕ) where
     abbrev r : Span
@@ -63,41 +59,28 @@ module _ (s : List ℕ) (ys : List UnitRecord) where
         by false t onward = e
 
     abbrev count : ℕ
-    count = countAt i n
+    count = countFrom s r (r .most) 0
 
     none : i ≡ i + 0
     none = omega arith
+
+    all-on : i + r .most ≤ length ys → Reached count (storedFrom s r i (r .most) 0 (got i))
+    all-on k = goes-on (r .most) 0 (got i) (omega arith) k (ap got none, ap cur none)
+
+    pub list-next : i + r .most ≤ length ys → storedFrom s r i (r .most) 0 (got i) ≡ got (i + count)
+    list-next k = all-on k .0
+
+    -- at least one unit is stored
+    pub count-some : 1 ≤ n → 1 ≤ count
+    count-some h =
+        let k : r .most ≡ suc (r .most - 1) = (let z = span-some s (cur i) n h in omega (arith, z)) in
+        let e = count-goes s r (r .most) 0 (r .most - 1) k (span-first s (cur i) n) in
+        let l = count-least s r (r .most - 1) 1 in
+        omega (arith, e, l)
 
     moved-is : (k : ℕ) → 1 ≤ k → movedOf r k ≡ at k
     moved-is zero h = absurd (omega (arith, h))
     moved-is (suc k) h = refl
 
-    module _ (wanted : 1 ≤ n) (room : i + n ≤ length ys) where
-      few : r .most ≤ n
-      few = span-most s (cur i) n wanted
-
-      -- so all units of the span may be stored
-      whole : boundOf (r .most) (length (got i)) i ≡ r .most
-      whole = sym (bound-all (r .most) (length (got i)) i (rw (length-fill (unitAt s) (after s) i first ys) (omega (arith, few, room))))
-
-      all-on : Reached count (storedFrom s r i (r .most) 0 (got i))
-      all-on = goes-on (r .most) 0 (got i) (omega arith) (omega (arith, few, room)) (ap got none, ap cur none)
-
-      pub list-next : listFilled s (cur i) n i (got i) ≡ got (i + count)
-      list-next = ap (λ (m : ℕ). storedFrom s r i m 0 (got i)) whole ∙ all-on .0
-
-      -- at least one unit is stored
-      pub count-some : 1 ≤ count
-      count-some =
-          let k : r .most ≡ suc (r .most - 1) = (let z = span-some s (cur i) n wanted in omega (arith, z)) in
-          let e = count-goes s r (r .most) 0 (r .most - 1) k (span-first s (cur i) n) in
-          let l = count-least s r (r .most - 1) 1 in
-          omega (arith, e, l)
-
-      pub count-in : count ≤ n
-      count-in = let h : count ≤ 0 + r .most = count-most s r (r .most) 0 in omega (arith, h, few)
-
-      pub turn-next : filledOf s (cur i) n (length (got i)) i ≡ record { cursor = cur (i + count); count = count }
-      turn-next =
-          ap (λ (m : ℕ). record { cursor = movedOf r (countFrom s r m 0); count = countFrom s r m 0 }) whole
-          ∙ ap (λ (c : Cursor). record { cursor = c; count = count }) (moved-is count count-some ∙ all-on .1)
+    pub cursor-next : 1 ≤ n → i + r .most ≤ length ys → movedOf r count ≡ cur (i + count)
+    cursor-next h k = moved-is count (count-some h) ∙ all-on k .1

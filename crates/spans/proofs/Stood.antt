@@ -20,7 +20,6 @@ use Rattle.cursor.proofs.Rules.{on-quick, on-text, on-double, on-advance}
 use Rattle.spans.specs.Spans.{any, ones, left-twos, right-twos, singleUnder, leftFirst, hasTwo, formAt, lesserOf, anyOf, ofForm, byForm, spanOf}
 use Rattle.spans.specs.Spans.{Fits, movedOf, standsAfter, oneUnitAt, twoOctetUnitAt, unitAfter}
 use Rattle.spans.specs.declared.Span.{Span}
-use Rattle.spans.proofs.Bounds.{least}
 
 -- ---- what an octet is taken for
 
@@ -120,6 +119,12 @@ module _ (s : List ℕ) (at : ℕ) (to : Sets) (inside : at < length s) where
     one-by (text set t l) = one-text set t l
 
 -- ---- the spans
+
+least : (m n : ℕ) → (lesserOf m n ≤ m) × ((lesserOf m n ≤ n) × (1 ≤ m → 1 ≤ n → 1 ≤ lesserOf m n))
+unfolding lesserOf
+least m n =
+    pick-by (λ x. (x ≤ m) × ((x ≤ n) × (1 ≤ m → 1 ≤ n → 1 ≤ x))) (ltb m n) (λ e. (omega arith, (omega (tested, e), λ i j. i)))
+    (λ e. (omega (tested, e), (omega arith, λ i j. j)))
 
 module _ (s : List ℕ) (c : Cursor) (n : ℕ) where
   abbrev to : Sets

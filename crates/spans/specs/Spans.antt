@@ -1,11 +1,11 @@
 -- Units of one form, one after another. Nothing has to be believed of them: that they are the units that `advance` gives one by one is proved
 -- (`span-turns`).
-use Prim.Native.Nat.{ℕ, zero, suc, _+_, _-_, _*_, _/_, _≤_, _<_}
-use mathlib.Core.Path.{_≡_}
+use Prim.Native.Nat.{ℕ, _+_, _-_, _*_, _/_, _≤_, _<_}
 use mathlib.Core.Bool.{Bool, true, false}
+use mathlib.Core.Path.{_≡_}
 use mathlib.Core.List.{List}
 use lib.Dec.{eqb, leb, ltb}
-use lib.ListN.{length, getD, set}
+use lib.ListN.{length, getD}
 use Rattle.base.specs.Choice.{pick}
 use Rattle.base.specs.declared.Unit.{Unit as UnitRecord}
 use Rattle.charset.specs.Charsets.{no-set}
@@ -14,7 +14,6 @@ use Rattle.state.specs.declared.Sets.{Sets}
 use Rattle.units.specs.Records.{blank}
 use Rattle.cursor.specs.Cursor.{freed, cursor, stateIn, first-double, setAt, oneOf, twoOf, advanceOf}
 use Rattle.cursor.specs.declared.Cursor.{Cursor}
-use Rattle.spans.specs.declared.Filled.{Filled}
 use Rattle.spans.specs.declared.Span.{Span}
 
 -- ---- the forms: any one unit, units of one octet, characters of two octets in GL, and in GR
@@ -121,30 +120,3 @@ unitAfter s r j =
     pick (eqb (r .form) ones) (oneUnitAt s (r .place + j) (setsOf r))
     (pick (eqb (r .form) left-twos) (twoOctetUnitAt s (r .place + 2 * j) (r .gl))
     (pick (eqb (r .form) right-twos) (twoOctetUnitAt s (r .place + 2 * j) (r .gr)) (r .unit)))
-
--- of a span, of which j units are passed and m more may follow: how many there are
-unfoldable pub countFrom : List ℕ → Span → ℕ → ℕ → ℕ
-countFrom s r zero j = j
-countFrom s r (suc m) j = pick (standsAfter s r j) (countFrom s r m (suc j)) j
-
--- and the list, with those that follow stored to it
-unfoldable pub storedFrom : List ℕ → Span → ℕ → ℕ → ℕ → List UnitRecord → List UnitRecord
-storedFrom s r start zero j l = l
-storedFrom s r start (suc m) j l = pick (standsAfter s r j) (storedFrom s r start m (suc j) (set l (start + j) (unitAfter s r j))) l
-
--- ---- what is stored of the span at a cursor, of so many units at most, from a place of a list on
-
--- how many may be, where the list has so much room
-unfoldable pub boundOf : ℕ → ℕ → ℕ → ℕ
-boundOf most room start = pick (ltb room start) 0 (lesserOf most (room - start))
-
-abbrev pub filledOf : List ℕ → Cursor → ℕ → ℕ → ℕ → Filled
-filledOf s c most room start =
-    let r = spanOf s c most in
-    let count = countFrom s r (boundOf (r .most) room start) 0 in
-    record { cursor = movedOf r count; count = count }
-
-abbrev pub listFilled : List ℕ → Cursor → ℕ → ℕ → List UnitRecord → List UnitRecord
-listFilled s c most start l =
-    let r = spanOf s c most in
-    storedFrom s r start (boundOf (r .most) (length l) start) 0 l

@@ -1,8 +1,8 @@
--- `spans::one` meets its contract, by what it calls.
+-- `numbered::one` meets its contract, by what it calls.
 use Rattle.element.proofs.Names.{arith, ap, _∙_}
 use Rattle.cursor.specs.Cursor.{oneOf}
-use Rattle.spans.proofs.one.Statement.{statement}
-use Rattle.spans.proofs.one.Tie as tie
+use Rattle.read.proofs.numbered.one.Statement.{statement}
+use Rattle.read.proofs.numbered.one.Tie as tie
 
 returns : tie.Need-returns
 returns c = c .one-octet .ensures ∙ ap (oneOf _ _) (c .before .set-at .ensures)

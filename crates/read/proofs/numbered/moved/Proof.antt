@@ -1,8 +1,8 @@
--- `spans::moved` meets its contract, test by test. Assumes nothing.
+-- `numbered::moved` meets its contract, test by test. Assumes nothing.
 use Rattle.element.proofs.Names.{ladder, arith}
 use Rattle.spans.specs.Spans.{movedOf}
-use Rattle.spans.proofs.moved.Statement.{statement}
-use Rattle.spans.proofs.moved.Tie as tie
+use Rattle.read.proofs.numbered.moved.Statement.{statement}
+use Rattle.read.proofs.numbered.moved.Tie as tie
 
 add-place : tie.Need-add-place
 add-place c = let h = c .before .before .before .pre .0 (c .before .if1 .taken) in omega (arith, h)
