@@ -1,6 +1,5 @@
 -- `spans::any_unit` meets its contract. Assumes nothing.
 use Rattle.element.proofs.Names.{arith}
-
 use Rattle.spans.proofs.any_unit.Statement.{statement}
 use Rattle.spans.proofs.any_unit.Tie as tie
 
