@@ -57,12 +57,11 @@ singled : (b : ℕ) (to : Sets) → singleUnder b to ≡ true → Single b to
 unfolding singleUnder
 singled b to =
     let P : Bool → Type 0 = λ x. x ≡ true → Single b to in
-    pick-by P (ltb b 0x20)
-    (λ _. pick-by P (ltb b 0x09) (λ _ e. off e)
+    pick-by P _
+    (λ _. pick-by P _ (λ _ e. off e)
     (λ h e. test (eqb b 0x09) (λ i. tab (eqb-true b 0x09 i)) (λ i. newline (omega (tested, h, e, i)))))
-    (λ h. pick-by P (ltb b 0x7F) (λ k e. text _ (left b to (ltb-false b 0x20 h) (ltb-true b 0x7F k)) (ltb-true (to .gl) first-double e))
-    (λ _. pick-by P (ltb b 0xA0) (λ _ e. off e)
-    (λ k e. text _ (right b to (ltb-false b 0xA0 k)) (ltb-true (to .gr) first-double e))))
+    (λ h. pick-by P _ (λ k e. text (to .gl) (left b to (omega (tested, h)) (omega (tested, k))) (omega (tested, e)))
+    (λ _. pick-by P _ (λ _ e. off e) (λ k e. text (to .gr) (right b to (omega (tested, k))) (omega (tested, e)))))
 
 -- ---- the turn there
 module _ (s : List ℕ) (at : ℕ) (to : Sets) (inside : at < length s) where
@@ -141,7 +140,6 @@ module _ (s : List ℕ) (c : Cursor) (n : ℕ) where
     stands : (m j : ℕ) → standsAfter s (ofForm c form m) j ≡ first (getD s (c .place + 2 * j) 0)
     unit : (m j : ℕ) → unitAfter s (ofForm c form m) j ≡ twoOctetUnitAt s (c .place + 2 * j) set
     moved : (m j : ℕ) → movedOf (ofForm c form m) j ≡ cursor (c .place + 2 * j) (stateIn c)
-    span : byForm s c n form octets ≡ pick (ltb octets 2) (anyOf s c) (ofForm c form (lesserOf (octets / 2) n))
     two : ones < form
     starts : (b : ℕ) → first b ≡ true → (0x20 < b) × Text b set to
 
@@ -152,7 +150,6 @@ module _ (s : List ℕ) (c : Cursor) (n : ℕ) where
         stands = λ m j. refl;
         unit = λ m j. refl;
         moved = λ m j. refl;
-        span = refl;
         two = omega arith;
         starts = λ b e. (let k = pick-last (leb b 0x20) (ltb b 0x7F) e in
             (leb-false b 0x20 (k .0), left b to (omega (tested, k .0)) (ltb-true b 0x7F (k .1))));
@@ -165,7 +162,6 @@ module _ (s : List ℕ) (c : Cursor) (n : ℕ) where
         stands = λ m j. refl;
         unit = λ m j. refl;
         moved = λ m j. refl;
-        span = refl;
         two = omega arith;
         starts = λ b e. (omega (tested, e), right b to (leb-true 0xA0 b e));
       }
@@ -174,11 +170,24 @@ module _ (s : List ℕ) (c : Cursor) (n : ℕ) where
   data Spans : Span → Type 0 where
     as-any : Spans (anyOf s c)
     as-ones : c .place < length s → singleUnder octet to ≡ true → Spans (ofForm c ones (lesserOf octets n))
-    as-twos : {form set : ℕ} {first : ℕ → Bool} → Twos form set first → 2 ≤ octets → first octet ≡ true → hasTwo set ≡ true
-        → Spans (ofForm c form (lesserOf (octets / 2) n))
+    as-twos : {form set m : ℕ} {first : ℕ → Bool} → Twos form set first → 2 ≤ octets → 2 * m ≤ octets → (1 ≤ n → (m ≤ n) × (1 ≤ m))
+        → first octet ≡ true → hasTwo set ≡ true → Spans (ofForm c form m)
 
-  by-twos : {form set : ℕ} {first : ℕ → Bool} → Twos form set first → first octet ≡ true → hasTwo set ≡ true → Spans (byForm s c n form octets)
-  by-twos w l t = rw (w .span) (pick-by Spans (ltb octets 2) (λ _. as-any) (λ k. as-twos w (ltb-false octets 2 k) l t))
+  -- so many characters of two are in the string
+  halves : 2 ≤ octets → (2 * lesserOf (octets / 2) n ≤ octets) × (1 ≤ n → (lesserOf (octets / 2) n ≤ n) × (1 ≤ lesserOf (octets / 2) n))
+  halves h = let k = least (octets / 2) n in (omega (arith, k .0), λ i. (k .1 .0, k .1 .1 (omega (arith, h)) i))
+
+  by-left : leftFirst octet ≡ true → hasTwo (c .gl) ≡ true → Spans (byForm s c n left-twos octets)
+  unfolding byForm pick
+  by-left l t = 
+      pick-by Spans (ltb octets 2) (λ _. as-any)
+      (λ k. (let h = ltb-false octets 2 k in as-twos in-left h (halves h .0) (halves h .1) l t))
+
+  by-right : leb 0xA0 octet ≡ true → hasTwo (c .gr) ≡ true → Spans (byForm s c n right-twos octets)
+  unfolding byForm pick
+  by-right l t = 
+      pick-by Spans (ltb octets 2) (λ _. as-any)
+      (λ k. (let h = ltb-false octets 2 k in as-twos in-right h (halves h .0) (halves h .1) l t))
 
   by-ones : c .place < length s → singleUnder octet to ≡ true → Spans (byForm s c n ones octets)
   unfolding byForm pick
@@ -194,9 +203,9 @@ module _ (s : List ℕ) (c : Cursor) (n : ℕ) where
       let P : ℕ → Type 0 = λ f. Spans (byForm s c n f octets) in
       pick-by Spans (leb (length s) (c .place)) (λ _. as-any)
       (λ h. pick-by P (singleUnder octet to) (λ e. by-ones (leb-false (length s) (c .place) h) e)
-      (λ _. pick-by P (leftFirst octet) (λ l. pick-by P (hasTwo (c .gl)) (λ t. by-twos in-left l t) (λ _. by-any))
+      (λ _. pick-by P (leftFirst octet) (λ l. pick-by P (hasTwo (c .gl)) (λ t. by-left l t) (λ _. by-any))
       (λ _. pick-by P (ltb octet 0xA0) (λ _. by-any)
-      (λ l. pick-by P (hasTwo (c .gr)) (λ t. by-twos in-right (le-leb 0xA0 octet (ltb-false octet 0xA0 l)) t) (λ _. by-any)))))
+      (λ l. pick-by P (hasTwo (c .gr)) (λ t. by-right (le-leb 0xA0 octet (ltb-false octet 0xA0 l)) t) (λ _. by-any)))))
 
   -- ---- its units are in the string, and there is one
   fits-by : {r : Span} → Spans r → Fits s r
@@ -206,13 +215,12 @@ module _ (s : List ℕ) (c : Cursor) (n : ℕ) where
   }
   fits-by (as-ones h e) =
       record { of-ones = λ _. omega (arith, h, least octets n .0); of-twos = λ e. absurd (let z : ones < ones = e in omega (arith, z)) }
-  fits-by (as-twos w h l t) =
-      record { of-ones = λ e. absurd (omega (arith, e, w .two)); of-twos = λ _. omega (arith, h, least (octets / 2) n .0) }
+  fits-by (as-twos w h i k l t) = record { of-ones = λ e. absurd (omega (arith, e, w .two)); of-twos = λ _. omega (arith, h, i) }
 
   most-by : {r : Span} → 1 ≤ n → Spans r → (r .most ≤ n) × (1 ≤ r .most)
   most-by i as-any = (i, omega arith)
   most-by i (as-ones h e) = (least octets n .1 .0, least octets n .1 .1 (omega (arith, h)) i)
-  most-by i (as-twos w h l t) = (least (octets / 2) n .1 .0, least (octets / 2) n .1 .1 (omega (arith, h)) i)
+  most-by i (as-twos w h u k l t) = k i
 
   none : c .place ≡ c .place + 0
   none = omega arith
@@ -224,7 +232,7 @@ module _ (s : List ℕ) (c : Cursor) (n : ℕ) where
   unfolding standsAfter pick
   first-by as-any = refl
   first-by (as-ones h e) = rw (← none) e
-  first-by (as-twos w h l t) = rw (w .stands _ 0, ← nothing) l
+  first-by (as-twos w h i k l t) = rw (w .stands _ 0, ← nothing) l
 
   pub span-fits : Fits s (spanOf s c n)
   span-fits = fits-by spanned
@@ -266,11 +274,11 @@ module _ (s : List ℕ) (c : Cursor) (n : ℕ) where
         let on : c .place + j + 1 ≡ c .place + suc j = omega arith in
         rw (ones-at (lesserOf octets n) j, ones-at (lesserOf octets n) (suc j), ← on)
         (one-by s (c .place + j) to (omega (arith, h, k, least octets n .0)) short (singled _ to e))
-    turns-by (as-twos w k l t) j h e =
+    turns-by (as-twos {m = m} w i k f l t) j h e =
         let on : c .place + 2 * j + 2 ≡ c .place + 2 * suc j = omega arith in
-        let in-string : c .place + 2 * j + 1 < length s = omega (arith, h, k, least (octets / 2) n .0) in
-        let first = w .starts (getD s (c .place + 2 * j) 0) (sym (w .stands (lesserOf (octets / 2) n) j) ∙ e) in
-        rw (w .unit (lesserOf (octets / 2) n) j, twos-at w (lesserOf (octets / 2) n) j, twos-at w (lesserOf (octets / 2) n) (suc j), ← on)
+        let in-string : c .place + 2 * j + 1 < length s = omega (arith, h, i, k) in
+        let first = w .starts (getD s (c .place + 2 * j) 0) (sym (w .stands m j) ∙ e) in
+        rw (w .unit m j, twos-at w m j, twos-at w m (suc j), ← on)
         (two-text s (c .place + 2 * j) to (omega (arith, in-string)) _ (first .1) (first .0) in-string t)
 
     pub span-turns : (j : ℕ) → j < spanOf s c n .most → standsAfter s (spanOf s c n) j ≡ true
