@@ -1,8 +1,9 @@
--- The loop of `fill`, turn by turn: where no unit of the form standsAfter, the number and the list are what they are (`count-stops`,
--- `stored-stops`); where one standsAfter, they are those of the next turn (`count-goes`, `stored-goes`).
-use Rattle.element.proofs.Names.{ℕ, zero, suc, _+_, _-_, _<_, _≤_, arith, _≡_, refl, Bool, true, false, List, length, set, pick, UnitRecord}
-use Rattle.read.specs.Spans.{standsAfter, unitAfter, countFrom, storedFrom}
-use Rattle.read.specs.declared.spans.Span.{Span}
+-- The loop of `fill`, turn by turn: where no unit of the form stands, the number and the list are what they are (`count-stops`,
+-- `stored-stops`); where one stands, they are those of the next turn (`count-goes`, `stored-goes`).
+use Rattle.element.proofs.Names.{ℕ, zero, suc, _+_, _≤_, arith, _≡_, refl, Bool, true, false, List, set, pick, UnitRecord}
+use Rattle.spans.specs.Spans.{standsAfter, unitAfter}
+use Rattle.read.specs.Stores.{countFrom, storedFrom}
+use Rattle.spans.specs.declared.Span.{Span}
 
 module _ (s : List ℕ) (r : Span) where
   pub count-over : (m j : ℕ) → m ≡ 0 → countFrom s r m j ≡ j

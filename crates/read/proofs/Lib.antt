@@ -2,6 +2,5 @@ pub mod Cases
 pub mod Filled
 pub mod Promises
 pub mod Within
-pub mod Stood
 pub mod Fills
 pub mod Spanned

@@ -1,6 +1,6 @@
 -- What `read` promises where it accepts, of the list after it: the records that it stores are read as the string is (`list-reads`), their fields
 -- that mean nothing are 0 (`list-meant`), and the rest stays (`list-rest`). Where it refuses, the whole list stays (`list-stays`).
-use Rattle.element.proofs.Names.{ℕ, arith, _≡_, refl, ap, sym, _∙_, List, _++_, some, length, take, drop, take-append-seam, Answer, UnitRecord}
+use Rattle.element.proofs.Names.{ℕ, arith, _≡_, refl, ap, _∙_, List, some, length, take, drop, take-append-seam, Answer, UnitRecord}
 use lib.Seq.{drop-append-seam}
 use Rattle.base.specs.Refusal as refusal
 use Rattle.grammar.specs.Reading.{checkOf, readingOf}

@@ -4,12 +4,13 @@ use Rattle.element.proofs.Names.{ℕ, zero, suc, _+_, _-_, _≤_, _<_, arith, _
 use Rattle.element.proofs.Names.{UnitRecord}
 use Rattle.base.specs.Limit as limit
 use Rattle.walks.proofs.Filling.{iter, iter-suc, fill-suc}
-use Rattle.cursor.specs.Cursor.{first, advanceOf}
-use Rattle.read.specs.Spans.{spanOf, movedOf, standsAfter, unitAfter, countFrom, storedFrom}
+use Rattle.cursor.specs.Cursor.{first}
+use Rattle.spans.specs.Spans.{spanOf, movedOf, standsAfter, unitAfter}
+use Rattle.read.specs.Stores.{countFrom, storedFrom}
 use Rattle.cursor.specs.declared.Cursor.{Cursor}
 use Rattle.cursor.specs.declared.Turn.{Turn}
-use Rattle.read.specs.declared.spans.Span.{Span}
-use Rattle.read.proofs.Stood.{stood, span-turns, span-first, span-some}
+use Rattle.spans.specs.declared.Span.{Span}
+use Rattle.spans.proofs.Stood.{stood, span-turns, span-first, span-some}
 use Rattle.read.proofs.Filled.{unitAt, after, filledTo}
 use Rattle.read.proofs.Fills.{count-goes, count-least}
 

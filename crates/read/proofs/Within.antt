@@ -1,7 +1,7 @@
 -- The octets of the unit after j units of a span that fits are in the string.
 use Rattle.element.proofs.Names.{ℕ, _+_, _*_, _<_, arith, _≡_, List, length}
-use Rattle.read.specs.Spans.{ones, Fits}
-use Rattle.read.specs.declared.spans.Span.{Span}
+use Rattle.spans.specs.Spans.{ones, Fits}
+use Rattle.spans.specs.declared.Span.{Span}
 
 module _ {s : List ℕ} {r : Span} {j : ℕ} where
   pub one-within : Fits s r × (j < r .most) → r .form ≡ ones → r .place + j < length s

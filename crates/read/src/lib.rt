@@ -2,19 +2,20 @@
 ghost use mathlib.Core.Path.{_≡_};
 ghost use Prim.Native.Nat.{_+_, _≤_};
 ghost use lib.ListN.{length};
-ghost use Rattle.read.specs.Spans.{Fits, countFrom, storedFrom};
+ghost use Rattle.spans.specs.Spans.{Fits};
+ghost use Rattle.read.specs.Stores.{countFrom, storedFrom};
 ghost use Rattle.read.specs.Listing.{readAnswer, storedOf, listAfter};
-use crate::spans::Span;
-use crate::spans::moved;
-use crate::spans::nth;
-use crate::spans::span_at;
-use crate::spans::stands_at;
+use crate::numbered::moved;
+use crate::numbered::nth;
+use crate::numbered::stands_at;
 use base::Answer;
 use base::Unit;
 use base::refusal;
 use cursor::Cursor;
+use spans::Span;
+use spans::span_at;
 
-mod spans;
+mod numbered;
 
 // What a string and a list of so many records are answered.
 pub fn answer(s: &[u8], room: usize) -> Answer
@@ -35,7 +36,7 @@ pub fn answer(s: &[u8], room: usize) -> Answer
 }
 
 // How many records an answer stores.
-fn stored(a: Answer) -> usize
+pub fn stored(a: Answer) -> usize
     ensures { λ r. ⌜ r ≡ storedOf a ⌝ }
 {
     let number = a.number;

@@ -1,7 +1,7 @@
 -- What a reader opened on a string hands out, by the values of each item (`unitIn`, `answerIn`): as many units as stand before the end or the
 -- refusal, the k-th at step k and no answer beside it (`opened-unit`), and from then on the string's answer and no unit (`opened-answer`).
 -- By `opened-items`, and induction on the units.
-use Rattle.element.proofs.Names.{ℕ, zero, suc, _≤_, _<_, arith, _≡_, refl, ap, _∙_, List, [], _∷_, Option, none, some, length, getD, now, Answer}
+use Rattle.element.proofs.Names.{ℕ, zero, suc, _≤_, _<_, arith, _≡_, refl, ap, _∙_, List, [], _∷_, none, some, length, getD, now, Answer}
 use Rattle.element.proofs.Names.{UnitRecord}
 use denote.Ref.{RefT}
 use Rattle.grammar.specs.Reading.{checkOf}

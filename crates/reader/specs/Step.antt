@@ -1,7 +1,7 @@
 -- One step of a reader that stands at a place of a string, after so many units, under a state: the item that it hands out, and where it
 -- stands then.
 use Prim.Native.Nat.{ℕ, _+_}
-use mathlib.Core.Bool.{Bool, true, false}
+use mathlib.Core.Bool.{Bool, false}
 use mathlib.Core.List.{List}
 use mathlib.Core.Option.{Option, none, some}
 use lib.ListN.{length}

@@ -1,5 +1,5 @@
 -- `cursor::passed` meets its contract. Assumes nothing.
-use Rattle.element.proofs.Names.{arith, _≡_, ap, _∙_}
+use Rattle.element.proofs.Names.{arith, ap, _∙_}
 use Rattle.cursor.specs.Cursor.{placedOf, passedOf}
 use Rattle.cursor.proofs.passed.Statement.{statement}
 use Rattle.cursor.proofs.passed.Tie as tie

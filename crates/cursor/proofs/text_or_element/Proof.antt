@@ -1,13 +1,13 @@
 -- `cursor::text_or_element` meets its contract, test by test.
-use Rattle.element.proofs.Names.{arith, on-lt, on-ge, sym, _∙_}
+use Rattle.element.proofs.Names.{arith, on-false, on-lt, on-ge, sym, _∙_}
 use Rattle.cursor.specs.Cursor.{octetOf, quickOf, textTurn}
-use Rattle.cursor.proofs.Rules.{reading, on-quick, on-text}
+use Rattle.cursor.proofs.Rules.{on-quick, on-quick-end, on-text}
 use Rattle.cursor.proofs.text_or_element.Statement.{statement}
 use Rattle.cursor.proofs.text_or_element.Tie as tie
 
 returns : tie.Need-returns
 unfolding quickOf textTurn
-returns c = search reading depth 9
+returns c = on-quick-end _ _ _ _ _ (c .before .if1 .taken) (c .by-element .ensures)
 
 returns-2 : tie.Need-returns-2
 unfolding octetOf textTurn
@@ -27,7 +27,10 @@ returns-3 c =
 
 returns-4 : tie.Need-returns-4
 unfolding quickOf textTurn
-returns-4 c = search reading depth 9
+returns-4 c =
+    let read = c .before in
+    on-quick _ _ _ _ _ (read .before .before .before .if1 .left)
+    (on-false _ _ _ _ (sym (read .before .text-octet .ensures) ∙ read .if2 .left) (c .by-element2 .ensures))
 
 pub text-or-element-spec : {M : Type 1} → statement M
 text-or-element-spec =

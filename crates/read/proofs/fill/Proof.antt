@@ -1,10 +1,10 @@
 -- `read::fill` meets its contract: its code is followed by hand, for the list lent is of structs. The borrow of the list is opened once,
--- before the loop, and closed once, after it or where no unit of the form standsAfter. In each other turn the unit is stored to its element of the
+-- before the loop, and closed once, after it or where no unit of the form stands. In each other turn the unit is stored to its element of the
 -- list. Of the functions that it calls the proof knows their contracts alone.
 -- Assumes nothing.
 use Rattle.walks.proofs.Names.{_≡_, refl, sym, _∙_, ap, subst, ℕ, suc, _+_, _-_, _*_, _≤_, _<_, _^_, [], _∷_, List, length, fullShare, named, w64}
-use Rattle.walks.proofs.Names.{Val, vint, SProp, id⊢, flft, fobs, ‵, _⊛_, prop, atRet, Sq, _$_, !, move, let-go, split, join, fsplit, fjoin, frame, done}
-use Rattle.walks.proofs.Names.{look, lit, of-opd, bin, Is, u8, usize, RefT, sliceVal, Room, heres, Held, owned, nothing}
+use Rattle.walks.proofs.Names.{Val, vint, SProp, id⊢, flft, fobs, ‵, _⊛_, prop, atRet, Sq, _$_, !, move, let-go, join, fsplit, fjoin}
+use Rattle.walks.proofs.Names.{look, lit, of-opd, bin, Is, u8, RefT, sliceVal, Room, heres, Held, owned}
 use Rattle.walks.proofs.Names as kit
 use Rattle.element.proofs.Names.{add-one, arith, ltb→lt, nltb→le, lit<, length-set, afterTurn, UnitRecord}
 use denote.Struct.Laws as LL
@@ -17,13 +17,14 @@ use Rattle.walks.proofs.Calls.{calls, plain, all, _&_, but, _&′_, the-one, be
 use Rattle.walks.proofs.Loop.{Turns, rounds, loop-by}
 use Rattle.walks.proofs.Frame.{empty, full, Blocks, envOf, laid, clears, leaves}
 use Rattle.walks.proofs.Steps.{var, arg, part, sets, resets-last, lands-in, recasts, in64, past}
-use Rattle.read.specs.Spans.{Fits, standsAfter, unitAfter, countFrom, storedFrom}
-use Rattle.read.specs.declared.spans.Span.{Span}
+use Rattle.spans.specs.Spans.{Fits, standsAfter, unitAfter}
+use Rattle.read.specs.Stores.{countFrom, storedFrom}
+use Rattle.spans.specs.declared.Span.{Span}
 use Rattle.read.proofs.Fills.{count-over, count-stops, count-goes, count-most, stored-over, stored-stops, stored-goes}
-use Rattle.read.proofs.spans.Span as R
-use Rattle.read.proofs.spans.Span.Laws as R′
-use Rattle.read.proofs.spans.stands_at as stands-at
-use Rattle.read.proofs.spans.nth as nth
+use Rattle.spans.proofs.Span as R
+use Rattle.spans.proofs.Span.Laws as R′
+use Rattle.read.proofs.numbered.stands_at as stands-at
+use Rattle.read.proofs.numbered.nth as nth
 use Rattle.read.proofs.fill as fill
 use Rattle.read.proofs.fill.Code as code
 
@@ -189,9 +190,9 @@ module _ {M : Type 1} (𝓤 : kit.URA M) (H : kit.Heap 𝓤) (𝓜 : kit.Model �
         tests ! (var ! 15 refl)
         (λ test.
         let less : g .0 < r .most = ltb→lt (g .0) (r .most) test in
-        -- whether a unit of the form standsAfter there
+        -- whether a unit of the form stands there
         calls ! 𝓣 0 refl twice stands-at.ended (stands-at.clauses 𝓤 H A (𝓜 .mem) (𝓡 .run))
-        (cites 𝓤 H 𝓜 𝓖 𝓡 code.env code.calls-read·spans·stands-at (stands-at.Met.met 𝓤 H 𝓜 𝓖 𝓡))
+        (cites 𝓤 H 𝓜 𝓖 𝓡 code.env code.calls-read·numbered·stands-at (stands-at.Met.met 𝓤 H 𝓜 𝓖 𝓡))
         (((κ, tt), (q, tt), tt, (s, (r, (g .0, tt))), (vs ∷ [], (R′.lowered r ∷ [], (vint w64 (g .0) ∷ [], tt)))), tt) (the-one W κ q)
         (id⊢ 𝓤 _ & plain W O span r is-r & plain W O number (g .0) (refl, omega (arith, less, most-fits)) & all)
         (kit.factI 𝓤 _ (kit.emp 𝓤) (fits, less))
@@ -201,7 +202,7 @@ module _ {M : Type 1} (𝓤 : kit.URA M) (H : kit.Heap 𝓤) (𝓜 : kit.Model �
         (λ yes-b.
         -- the unit
         calls ! 𝓣 0 refl twice nth.ended (nth.clauses 𝓤 H A (𝓜 .mem) (𝓡 .run))
-        (cites 𝓤 H 𝓜 𝓖 𝓡 code.env code.calls-read·spans·nth (nth.Met.met 𝓤 H 𝓜 𝓖 𝓡))
+        (cites 𝓤 H 𝓜 𝓖 𝓡 code.env code.calls-read·numbered·nth (nth.Met.met 𝓤 H 𝓜 𝓖 𝓡))
         (((κ, tt), (q, tt), tt, (s, (r, (g .0, tt))), (vs ∷ [], (R′.lowered r ∷ [], (vint w64 (g .0) ∷ [], tt)))), tt) (the-one W κ q)
         (id⊢ 𝓤 _ & plain W O span r is-r & plain W O number (g .0) (refl, omega (arith, less, most-fits)) & all)
         (kit.factI 𝓤 _ (kit.emp 𝓤) (fits, less))
@@ -223,7 +224,7 @@ module _ {M : Type 1} (𝓤 : kit.URA M) (H : kit.Heap 𝓤) (𝓜 : kit.Model �
         recasts ! 17 (vint w64) (add-one (g .0)) refl $
         clears ! 5 11 refl $ move ! (1 ∷ 0 ∷ []) $
         rounds ! μ At g (further g less (holds (standsAfter xs r (g .0)) yes-b)) (nearer g less))))
-        -- no unit of the form standsAfter there: the borrow is closed at the list so far
+        -- no unit of the form stands there: the borrow is closed at the list so far
         (λ no-b.
         let none : standsAfter xs r (g .0) ≡ kit.false = fails (standsAfter xs r (g .0)) no-b in
         sets ! 29 (of-opd ! (var ! 17 refl)) refl (in64 (omega (arith, less, most-fits))) $

@@ -3,7 +3,7 @@
 -- functions that it calls the proof knows their contracts alone.
 -- Assumes nothing.
 use Rattle.walks.proofs.Names.{_≡_, refl, _∙_, ap, subst, ℕ, _+_, _-_, _*_, _≤_, _<_, _^_, [], _∷_, List, length, fullShare, named, w64, Val, vint}
-use Rattle.walks.proofs.Names.{SProp, id⊢, GName, Fml, flft, ‵, _⊛_, prop, atRet, Sq, _$_, !, move, join, done, lit, of-opd, bin, no-more, Is, u8, RefT}
+use Rattle.walks.proofs.Names.{SProp, id⊢, GName, Fml, flft, ‵, _⊛_, atRet, _$_, !, move, join, done, lit, of-opd, bin, no-more, Is, u8, RefT}
 use Rattle.walks.proofs.Names as kit
 use native.Mathlib.Nat.{le-antisymm}
 use Rattle.element.proofs.Names.{arith, ltb→lt, nltb→le, lit<, afterTurn, Answer, UnitRecord}
@@ -19,20 +19,21 @@ use Rattle.walks.proofs.Frame.{empty, full, Blocks, envOf, laid, clears, leaves
 use Rattle.walks.proofs.Steps.{var, arg, part, sets, lands-in, lands-over, recasts, behind, resliced, in64, sliced, past, front}
 use Rattle.walks.proofs.Filling.{length-fill}
 use Rattle.cursor.specs.Cursor.{first}
-use Rattle.read.specs.Spans.{ones, spanOf, movedOf, countFrom, storedFrom}
+use Rattle.spans.specs.Spans.{ones, spanOf, movedOf}
+use Rattle.read.specs.Stores.{countFrom, storedFrom}
 use Rattle.cursor.specs.declared.Cursor.{Cursor}
-use Rattle.read.specs.declared.spans.Span.{Span}
-use Rattle.read.proofs.Stood.{span-fits, span-most}
+use Rattle.spans.specs.declared.Span.{Span}
+use Rattle.spans.proofs.Stood.{span-fits, span-most}
 use Rattle.read.specs.Listing.{readAnswer, storedOf}
 use Rattle.read.proofs.Filled.{unitAt, after, filled, stores, short-stored}
 use Rattle.read.proofs.Fills.{count-most}
 use Rattle.read.proofs.Spanned.{cur, got, list-next, cursor-next, count-some}
 use Rattle.cursor.proofs.Cursor as K
 use Rattle.cursor.proofs.Cursor.Laws as K′
-use Rattle.read.proofs.spans.Span as R
-use Rattle.read.proofs.spans.Span.Laws as R′
-use Rattle.read.proofs.spans.span_at as span-at
-use Rattle.read.proofs.spans.moved as moved
+use Rattle.spans.proofs.Span as R
+use Rattle.spans.proofs.Span.Laws as R′
+use Rattle.spans.proofs.span_at as span-at
+use Rattle.read.proofs.numbered.moved as moved
 use Rattle.read.proofs.fill as fill
 use Rattle.read.proofs.answer as answer
 use Rattle.read.proofs.stored as stored
@@ -195,7 +196,7 @@ module _ {M : Type 1} (𝓤 : kit.URA M) (H : kit.Heap 𝓤) (𝓜 : kit.Model �
         -- the span at the cursor
         sets ! 7 (bin ! (var ! 21 refl) (var ! 17 refl) (i .1 .0)) refl (in64 (omega (arith, n-fits))) $
         calls ! 𝓣 0 refl twice span-at.ended (span-at.clauses 𝓤 H A (𝓜 .mem) (𝓡 .run))
-        (cites 𝓤 H 𝓜 𝓖 𝓡 code.env code.calls-read·spans·span-at (span-at.Met.met 𝓤 H 𝓜 𝓖 𝓡)) (
+        (cites 𝓤 H 𝓜 𝓖 𝓡 code.env code.calls-spans·span-at (span-at.Met.met 𝓤 H 𝓜 𝓖 𝓡)) (
           (
             (κ, tt),
             (q, tt),
@@ -241,7 +242,7 @@ module _ {M : Type 1} (𝓤 : kit.URA M) (H : kit.Heap 𝓤) (𝓜 : kit.Model �
         kit.rewrite ! 1 (λ (w : List UnitRecord). ‵ (Units w)) e refl $ lands-in ! 13 refl (number .typed 𝓤 H A W (count (i .0)) is-k) $
         -- the cursor and the number move on
         calls ! 𝓣 0 refl twice moved.ended (moved.clauses 𝓤 H A (𝓜 .mem) (𝓡 .run))
-        (cites 𝓤 H 𝓜 𝓖 𝓡 code.env code.calls-read·spans·moved (moved.Met.met 𝓤 H 𝓜 𝓖 𝓡))
+        (cites 𝓤 H 𝓜 𝓖 𝓡 code.env code.calls-read·numbered·moved (moved.Met.met 𝓤 H 𝓜 𝓖 𝓡))
         ((tt, tt, tt, (span (i .0), (count (i .0), tt)), (R′.lowered (span (i .0)) ∷ [], (vint w64 (count (i .0)) ∷ [], tt))), tt) (none W (A .lft κ q))
         (plain W O a-span (span (i .0)) is-r & plain W O number (count (i .0)) is-k & all) (kit.factI 𝓤 _ (kit.emp 𝓤) (place-fits (i .0)))
         (movedOf (span (i .0)) (count (i .0))) (λ r e. id⊢ 𝓤 _) a-cursor (arg ! 15 refl (arg ! 13 refl (no-more !))) (λ is-c ok.

@@ -1,5 +1,5 @@
 -- `reader::after` meets its contract. Assumes nothing.
-use Rattle.element.proofs.Names.{arith, _≡_, sym, ap, _∙_}
+use Rattle.element.proofs.Names.{arith, sym, ap}
 use Rattle.reader.specs.Step.{afterOf}
 use Rattle.reader.proofs.after.Statement.{statement}
 use Rattle.reader.proofs.after.Tie as tie

@@ -1,7 +1,7 @@
 -- `reader::open` meets its contract: its code is followed by hand, for it makes a struct that holds a reference. The string can be had
 -- twice, once for the parameter at exit and once inside the reader.
 -- Assumes nothing.
-use Rattle.walks.proofs.Names.{refl, List, [], _∷_, named, Val, SProp, Sq, ‵, _$_, !, by, frame, agg, lit, and-then, no-more, nothing, Is, u8}
+use Rattle.walks.proofs.Names.{refl, List, [], _∷_, named, Val, Sq, ‵, _$_, !, by, frame, agg, lit, and-then, no-more, nothing, Is, u8}
 use Rattle.walks.proofs.Names as kit
 use Rattle.element.proofs.Names.{lit<, fresh, undirected}
 use denote.Struct.Laws as LL

@@ -1,5 +1,5 @@
 -- `reader::step` meets its contract. Assumes nothing.
-use Rattle.element.proofs.Names.{arith, _≡_, ap, _∙_, ladder}
+use Rattle.element.proofs.Names.{arith, ap, _∙_, ladder}
 use Rattle.reader.specs.Step.{afterOf, stepAt}
 use Rattle.reader.proofs.step.Statement.{statement}
 use Rattle.reader.proofs.step.Tie as tie

@@ -1,9 +1,0 @@
--- `spans::lesser` meets its contract, test by test. Assumes nothing.
-use Rattle.element.proofs.Names.{ladder}
-use Rattle.read.specs.Spans.{lesserOf}
-use Rattle.read.proofs.spans.lesser.Statement.{statement}
-use Rattle.read.proofs.spans.lesser.Tie as tie
-
-pub lesser-spec : {M : Type 1} → statement M
-unfolding lesserOf
-lesser-spec = tie.close (tie.spec (λ c. search ladder depth 9) (λ c. search ladder depth 9))
