@@ -1,22 +1,28 @@
 -- A turn of the check: by what it was before, and by what the record's refusal is.
-use Rattle.element.proofs.Names.{ℕ, _≤_, _<_, arith, _≡_, refl, Bool, true, false, false≢true, List, eqb, leb, ltb, eq-eqb, ne-eqb, eqb-true}
-use Rattle.element.proofs.Names.{eqb-false, le-leb, leb-true, le-ltb, ltb-false, UnitRecord, Directions, Step, Goes, Stops, pick, clash, test, pick-by}
+use Rattle.element.proofs.Names.{ℕ, _≤_, _<_, arith, _≡_, refl, ap, Bool, true, false, false≢true, List, eqb, leb, ltb, eqb-true}
+use Rattle.element.proofs.Names.{eqb-false, le-leb, leb-true, le-ltb, ltb-false, UnitRecord, Directions, Step, Goes, Stops, pick, clash, test, pick-by, off, tested}
 use Rattle.grammar.specs.Records.{unitRead}
 use Rattle.shortest.specs.Records.{fault}
 use Rattle.rows.specs.Rows.{withRecord}
 use Rattle.base.specs.Kind as kind
 use Rattle.rows.specs.Stowable.{Stowable, stowableOf}
-use Rattle.check_list.specs.Plain.{settledByText}
+use Rattle.record_rules.specs.Plain.{plainOf, settledByText}
 use Rattle.check_list.specs.Turn.{onFault, turnOf, roomAfter, quickAfter, quickUntil}
 use Rattle.check_list.specs.declared.Progress.{Progress}
 use Rattle.check_list.specs.declared.Progress.the-variants.{Fine, Faulty}
 use Rattle.shortest.proofs.Bad.{bad-stops, not-bad}
+use Rattle.record_rules.proofs.Quick.{plain-goes}
 use Rattle.check_list.proofs.Fits.{fits}
 
 pub stowable : (o : List ℕ) (r : UnitRecord) (d next : Directions) → fault (unitRead o r) d ≡ Goes next → Stowable r
 stowable o r d next e =
     let j = not-bad o r (λ n b. clash (cc (bad-stops o r d b))) d in
     fits o r (j .0) (j .2) (j .1) .stowable
+
+-- a record that the quick check lets through is no segment
+pub plain-stowable : (r : UnitRecord) → plainOf r ≡ true → Stowable r
+unfolding plainOf pick
+plain-stowable r e = test (leb (r .kind) 1) (λ p. omega tested) (λ p. off (rw p at e))
 
 -- the test of a record that can stand in a row
 module _ (r : UnitRecord) where
@@ -107,3 +113,15 @@ module _ (p : Progress) (from n : ℕ) where
   pub until-most : from ≤ n → quickUntil p from n ≤ n
   unfolding quickUntil
   until-most h = pick-by (λ m. m ≤ n) (quickAfter p) (λ _. omega arith) (λ _. h)
+
+-- where the check so far allows it, a record that is let through leaves the progress as it is
+pub quick-goes : (o : List ℕ) (r : UnitRecord) (i : ℕ) (p : Progress) → quickAfter p ≡ true → plainOf r ≡ true → turnOf o r i p ≡ p
+unfolding turnOf
+quick-goes o r i (Fine d) s e = ap (λ (t : Step). onFault t i) (plain-goes o r d s e)
+quick-goes o r i (Faulty n j) s e = off s
+
+-- and stands in its row
+pub quick-room : (p : Progress) (r : UnitRecord) (i : ℕ) (w : List ℕ) → quickAfter p ≡ true → roomAfter p r i w ≡ withRecord w i r
+unfolding roomAfter
+quick-room (Fine d) r i w s = refl
+quick-room (Faulty n j) r i w s = off s

@@ -6,8 +6,6 @@ use lib.Dec.{eqb}
 use Rattle.base.specs.Answers.{answer}
 use Rattle.base.specs.Choice.{pick}
 use Rattle.base.specs.Refusal as refusal
-use Rattle.base.specs.declared.Answer.{Answer}
-use Rattle.base.specs.declared.Unit.{Unit as UnitRecord}
 use Rattle.reader.specs.Step.{stepAt}
 use Rattle.reader.specs.declared.Item.{Item}
 use Rattle.reader.specs.declared.Item.the-variants.{Given, Ended}

@@ -1,7 +1,7 @@
 -- What is printed (rules P2, P3): of an accepted string of up to 909 units an accepted string of the same reading, and none is
 -- shorter (`printed-shortest`); of one of more units 12 at 0 (`printed-more`); of a refused string its refusal (`printed-refused`), which
 -- for more than 65,535 octets is 1 at 0 (`printed-too-long`).
-use Rattle.element.proofs.Names.{ℕ, _≤_, _<_, arith, _≡_, ap, ap₂, sym, _∙_, subst, List, [], Option, some, length, lt-ltb, refusedAt, pick, Answer}
+use Rattle.element.proofs.Names.{ℕ, _≤_, _<_, arith, _≡_, ap, ap₂, sym, _∙_, subst, List, [], some, length, lt-ltb, refusedAt, pick, Answer}
 use Rattle.element.proofs.Names.{UnitRecord, fresh}
 use Rattle.base.specs.Limit as limit
 use Rattle.base.specs.Refusal as refusal

@@ -1,6 +1,6 @@
 -- No record of an accepted string offends: the string reads as its records do, so that the check of a list goes through all of them (`fine-end`),
 -- and so through the first k (`fine-at`).
-use Rattle.element.proofs.Names.{ℕ, zero, suc, _≤_, arith, _≡_, refl, sym, ap, _∙_, subst, Bool, true, false, List, leb, length, getD, leb-true}
+use Rattle.element.proofs.Names.{ℕ, zero, suc, _≤_, arith, _≡_, refl, sym, _∙_, subst, Bool, true, false, List, leb, length, getD, leb-true}
 use Rattle.element.proofs.Names.{leb-false, UnitRecord, Directions}
 use Rattle.base.specs.Refusal as refusal
 use Rattle.grammar.specs.Reading.{Octets, checkOf, readingOf}

@@ -12,13 +12,12 @@ use Rattle.shortest.specs.Records.{fault, Finding, fine, faulty, onStep, checkR
 use Rattle.shortest.specs.Offence.{noRecord}
 use Rattle.shortest.specs.Writing.{Good}
 use Rattle.rows.specs.Rows.{startFrom, unitTagged, unitFrom, unitsIn, tagOf, sevenOctets, withRecord}
-use Rattle.check_list.specs.Plain.{plainOf}
+use Rattle.record_rules.specs.Plain.{plainOf}
 use Rattle.check_list.specs.Turn.{begun, onFault, turnOf, roomAfter, quickAfter, lookedAt}
 use Rattle.check_list.specs.declared.Progress.{Progress}
 use Rattle.check_list.specs.declared.Progress.the-variants.{Fine, Faulty}
 use Rattle.check_list.proofs.Fits.{fits}
-use Rattle.check_list.proofs.Quick.{quick-goes, quick-room}
-use Rattle.check_list.proofs.Turns.{fine-faulty}
+use Rattle.check_list.proofs.Turns.{fine-faulty, quick-goes, quick-room}
 use Rattle.write.specs.Stowed.{reached, HoldsRecord, Stowed, quickRun, Passed}
 
 -- ---- the check

@@ -3,7 +3,7 @@
 -- does so for records that the quick check lets through and answers where the next turn begins. Of the functions that it calls the proof
 -- knows their contracts alone. Assumes nothing.
 use Rattle.walks.proofs.Names.{_≡_, refl, sym, _∙_, ap, subst, ℕ, suc, _+_, _-_, _*_, _≤_, _<_, _^_, [], _∷_, List, length, fullShare, named, w64}
-use Rattle.walks.proofs.Names.{Val, vint, SProp, id⊢, GName, Fml, flft, let-go, ‵, _⊛_, atRet, _$_, !, move, split, join, fsplit, done, look, stop, from}
+use Rattle.walks.proofs.Names.{Val, vint, SProp, id⊢, GName, Fml, flft, let-go, ‵, _⊛_, atRet, _$_, !, move, split, join, done, look, stop, from}
 use Rattle.walks.proofs.Names.{lit, of-opd, bin, no-more, Is, shows, u8, RefT, sliceVal, Room}
 use Rattle.walks.proofs.Names as kit
 use native.Mathlib.Nat.{le-antisymm}

@@ -1,6 +1,6 @@
 -- `designation::designation_at` meets its contract: four octets are there and decide, or they are not.
 use Rattle.element.proofs.Names.{arith, _∙_, ladder}
-use Rattle.stretch.proofs.Designations.{on-four, on-few, placing}
+use Rattle.stretch.proofs.Designations.{on-few, placing}
 use Rattle.stretch.proofs.designation.designation_at.Statement.{statement}
 use Rattle.stretch.proofs.designation.designation_at.Tie as tie
 

@@ -1,8 +1,8 @@
--- `check_list::own::segment` meets its contract, refusal by refusal.
+-- `record_rules::own::segment` meets its contract, refusal by refusal.
 use Rattle.element.proofs.Names.{arith, _∙_, ⊎-elim}
-use Rattle.check_list.proofs.Refusals.{part-outside, part-low, part-high, part-many, part-found, part-bad}
-use Rattle.check_list.proofs.own.segment.Statement.{statement}
-use Rattle.check_list.proofs.own.segment.Tie as tie
+use Rattle.record_rules.proofs.Refusals.{part-outside, part-low, part-high, part-many, part-found, part-bad}
+use Rattle.record_rules.proofs.own.segment.Statement.{statement}
+use Rattle.record_rules.proofs.own.segment.Tie as tie
 
 pub segment-spec : {M : Type 1} → statement M
 segment-spec =

@@ -1,8 +1,8 @@
--- `check_list::plain::used` meets its contract.
+-- `record_rules::plain::used` meets its contract.
 use Rattle.element.proofs.Names.{arith, ladder, on-gt}
-use Rattle.check_list.specs.Plain.{usedBy}
-use Rattle.check_list.proofs.plain.used.Statement.{statement}
-use Rattle.check_list.proofs.plain.used.Tie as tie
+use Rattle.record_rules.specs.Plain.{usedBy}
+use Rattle.record_rules.proofs.plain.used.Statement.{statement}
+use Rattle.record_rules.proofs.plain.used.Tie as tie
 
 pub used-spec : {M : Type 1} → statement M
 unfolding usedBy

@@ -1,10 +1,11 @@
 // A quick check of characters and spaces. The set gives the bounds, and one test serves all sets: a processor cannot foresee a test whose
 // outcome changes from word to word.
 ghost use mathlib.Core.Path.{_≡_};
-ghost use Rattle.check_list.specs.Plain.{usedBy, setBy, codeBy, plainOf};
+ghost use Rattle.record_rules.specs.Plain.{usedBy, setBy, codeBy, plainOf, settledByText};
 use base::Unit;
 use base::kind;
 use charset::NO_SET;
+use state::directions::Directions;
 
 // Whether both octets of a code lie in the bounds of its set. Each octet is measured from its lowest, round the 256, so that one that is
 // too low is too high. The bounds are computed from the set, and not chosen by tests, of which the compiler would make branches.
@@ -47,4 +48,14 @@ pub fn plain(unit: Unit) -> bool
         return used(set_by(kind, unit.set), code_by(kind, unit.code));
     }
     false
+}
+
+// Whether text leaves the directions as they are: there was no mark, and there was text.
+pub fn settled(directions: Directions) -> bool
+    ensures { λ r. ⌜ r ≡ settledByText directions ⌝ }
+{
+    if directions.marked {
+        return false;
+    }
+    directions.texted
 }

@@ -1,10 +1,10 @@
--- `check_list::own::character` meets its contract.
+-- `record_rules::own::character` meets its contract.
 use Rattle.element.proofs.Names.{arith, sym, ap, _∙_, ℕ, Bool, stepOf}
-use Rattle.check_list.proofs.Refusals.{set-none, code-unused, code-fits}
+use Rattle.record_rules.proofs.Refusals.{set-none, code-unused, code-fits}
 use Rattle.base.specs.Kind as kind
 use Rattle.grammar.specs.Units.{codeUsed}
-use Rattle.check_list.proofs.own.character.Statement.{statement}
-use Rattle.check_list.proofs.own.character.Tie as tie
+use Rattle.record_rules.proofs.own.character.Statement.{statement}
+use Rattle.record_rules.proofs.own.character.Tie as tie
 
 pub character-spec : {M : Type 1} → statement M
 character-spec =

@@ -1,8 +1,8 @@
--- `check_list::judge` meets its contract, by the kind.
+-- `record_rules::judge` meets its contract, by the kind.
 use Rattle.element.proofs.Names.{arith, ap, _∙_, Bool, stepOf}
-use Rattle.check_list.proofs.Refusals.{kind-character, kind-plain, kind-segment, kind-none}
-use Rattle.check_list.proofs.judge.Statement.{statement}
-use Rattle.check_list.proofs.judge.Tie as tie
+use Rattle.record_rules.proofs.Refusals.{kind-character, kind-plain, kind-segment, kind-none}
+use Rattle.record_rules.proofs.judge.Statement.{statement}
+use Rattle.record_rules.proofs.judge.Tie as tie
 
 pub judge-spec : {M : Type 1} → statement M
 judge-spec =

@@ -1,8 +1,8 @@
--- `check_list::own::graphic` meets its contract.
+-- `record_rules::own::graphic` meets its contract.
 use Rattle.element.proofs.Names.{ladder}
 use Rattle.text.specs.Text.{graphicOf}
-use Rattle.check_list.proofs.own.graphic.Statement.{statement}
-use Rattle.check_list.proofs.own.graphic.Tie as tie
+use Rattle.record_rules.proofs.own.graphic.Statement.{statement}
+use Rattle.record_rules.proofs.own.graphic.Tie as tie
 
 pub graphic-spec : {M : Type 1} → statement M
 unfolding graphicOf

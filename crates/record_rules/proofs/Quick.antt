@@ -1,8 +1,8 @@
 -- The quick check is right: a record that it lets through, where the directions are settled, is refused for nothing and changes no
 -- direction. A space by its kind; a character since the bounds of its set's octets are those of the codes that the set uses.
-use Rattle.element.proofs.Names.{ℕ, _+_, _-_, _*_, _/_, _%_, _≤_, _<_, arith, _≡_, refl, sym, ap, _∙_, true, false, List, eqb, leb, ltb, eqb-true}
-use Rattle.element.proofs.Names.{eqb-false, leb-true, leb-false, le-leb, ltb-true, ltb-false, lt-ltb, pick, UnitRecord, off, test, pick-last, from-tests}
-use Rattle.element.proofs.Names.{tested, no-set, formOf, writtenOf, stepOf, Directions, Step, Goes}
+use Rattle.element.proofs.Names.{ℕ, _+_, _-_, _*_, _/_, _%_, _≤_, _<_, arith, _≡_, sym, ap, _∙_, true, false, List, eqb, leb, ltb, eqb-true}
+use Rattle.element.proofs.Names.{le-leb, lt-ltb, pick, UnitRecord, off, test, pick-last, from-tests}
+use Rattle.element.proofs.Names.{tested, no-set, formOf, writtenOf, stepOf, Directions, Goes}
 use Rattle.base.specs.Kind as kind
 use Rattle.charset.proofs.Laws.{formRule, form-rule}
 use Rattle.element.proofs.Starts.{graphic}
@@ -10,13 +10,8 @@ use Rattle.state.specs.Directions.{countsAsText}
 use Rattle.grammar.specs.Units.{codeUsed}
 use Rattle.grammar.specs.Records.{unitRead}
 use Rattle.shortest.specs.Records.{fault}
-use Rattle.rows.specs.Rows.{withRecord}
-use Rattle.rows.specs.Stowable.{Stowable}
-use Rattle.check_list.specs.Turn.{onFault, turnOf, roomAfter, quickAfter}
-use Rattle.check_list.specs.declared.Progress.{Progress}
-use Rattle.check_list.specs.declared.Progress.the-variants.{Fine, Faulty}
-use Rattle.check_list.specs.Plain.{isDouble, wider, lowFrom, highFrom, usedBy, setBy, codeBy, plainOf, settledByText}
-use Rattle.check_list.proofs.Refusals.{kind-character, kind-plain, code-fits}
+use Rattle.record_rules.specs.Plain.{isDouble, wider, lowFrom, highFrom, usedBy, setBy, codeBy, plainOf, settledByText}
+use Rattle.record_rules.proofs.Refusals.{kind-character, kind-plain, code-fits}
 
 -- ---- a code
 
@@ -69,11 +64,6 @@ text-goes k d h e = rw (lt-ltb k 2 h) (settled-written d e)
 
 -- ---- a record
 
--- it has a row: it is no segment
-pub plain-stowable : (r : UnitRecord) → plainOf r ≡ true → Stowable r
-unfolding plainOf pick
-plain-stowable r e = test (leb (r .kind) 1) (λ p. omega tested) (λ p. off (rw p at e))
-
 pub plain-goes : (o : List ℕ) (r : UnitRecord) (d : Directions) → settledByText d ≡ true → plainOf r ≡ true → fault (unitRead o r) d ≡ Goes d
 unfolding plainOf setBy codeBy pick
 plain-goes o r d s e =
@@ -85,17 +75,3 @@ plain-goes o r d s e =
     sym (kind-character o r d (omega tested)) ∙ sym (code-fits (r .set) (r .code) d (w .set) (code-used (r .set) (r .code) w))
     ∙ text-goes kind.character d (omega arith) s))
     (λ p. off (rw p at e))
-
--- ---- a turn
-
--- where the check so far allows it, a record that is let through leaves the progress as it is
-pub quick-goes : (o : List ℕ) (r : UnitRecord) (i : ℕ) (p : Progress) → quickAfter p ≡ true → plainOf r ≡ true → turnOf o r i p ≡ p
-unfolding turnOf
-quick-goes o r i (Fine d) s e = ap (λ (t : Step). onFault t i) (plain-goes o r d s e)
-quick-goes o r i (Faulty n j) s e = off s
-
--- and stands in its row
-pub quick-room : (p : Progress) (r : UnitRecord) (i : ℕ) (w : List ℕ) → quickAfter p ≡ true → roomAfter p r i w ≡ withRecord w i r
-unfolding roomAfter
-quick-room (Fine d) r i w s = refl
-quick-room (Faulty n j) r i w s = off s

@@ -1,9 +1,9 @@
--- `check_list::own::code_used` meets its contract, form by form.
+-- `record_rules::own::code_used` meets its contract, form by form.
 use Rattle.element.proofs.Names.{arith, sym, _∙_, eq-eqb, ne-eqb}
 use Rattle.base.proofs.Bools.{to-tests}
 use Rattle.grammar.specs.Units.{codeUsed}
-use Rattle.check_list.proofs.own.code_used.Statement.{statement}
-use Rattle.check_list.proofs.own.code_used.Tie as tie
+use Rattle.record_rules.proofs.own.code_used.Statement.{statement}
+use Rattle.record_rules.proofs.own.code_used.Tie as tie
 
 pub code-used-spec : {M : Type 1} → statement M
 unfolding codeUsed

@@ -1,8 +1,8 @@
--- `check_list::plain::plain` meets its contract.
+-- `record_rules::plain::plain` meets its contract.
 use Rattle.element.proofs.Names.{arith, ladder}
-use Rattle.check_list.specs.Plain.{plainOf}
-use Rattle.check_list.proofs.plain.plain.Statement.{statement}
-use Rattle.check_list.proofs.plain.plain.Tie as tie
+use Rattle.record_rules.specs.Plain.{plainOf}
+use Rattle.record_rules.proofs.plain.plain.Statement.{statement}
+use Rattle.record_rules.proofs.plain.plain.Tie as tie
 
 pub plain-spec : {M : Type 1} → statement M
 unfolding plainOf
