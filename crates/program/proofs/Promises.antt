@@ -15,7 +15,8 @@ use Rattle.shortest.proofs.Records.{ReadList, read-list, reading-length}
 use Rattle.shortest.proofs.Shortest.{shortest}
 use Rattle.units.specs.Records.{recordsOf}
 use Rattle.units.proofs.Records.{records-read}
-use Rattle.program.specs.Printed.{room, refusalLine, printedOf}
+use Rattle.refusal_line.specs.Line.{refusalLine}
+use Rattle.program.specs.Printed.{room, printedOf}
 use Rattle.program.proofs.Whole.{printed-line, line-of-check, known, form, form-length}
 
 -- an accepted string

@@ -1,8 +1,8 @@
--- `line::put_decimal` meets its contract. The invariant is `Counted`, and each turn is `counted-next`.
+-- `refusal_line::put_decimal` meets its contract. The invariant is `Counted`, and each turn is `counted-next`.
 use Rattle.element.proofs.Names.{arith}
-use Rattle.program.proofs.Texts.{Counted, counted-none, digit-room, counted-next, counted-length, counted-last}
-use Rattle.program.proofs.line.put_decimal.Statement.{statement}
-use Rattle.program.proofs.line.put_decimal.Tie as tie
+use Rattle.refusal_line.proofs.Texts.{Counted, counted-none, digit-room, counted-next, counted-length, counted-last}
+use Rattle.refusal_line.proofs.put_decimal.Statement.{statement}
+use Rattle.refusal_line.proofs.put_decimal.Tie as tie
 
 abbrev Inv-loop : tie.InvT-loop
 Inv-loop n buffer₀ end at₀ rest₀ buffer at rest = Counted n buffer₀ end at rest buffer

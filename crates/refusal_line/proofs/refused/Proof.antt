@@ -1,8 +1,8 @@
--- `line::refused` meets its contract: the line is put before the place of its own length (`stored-line`), where there is room for it.
+-- `refusal_line::refused` meets its contract: the line is put before the place of its own length (`stored-line`), where there is room for it.
 use Rattle.element.proofs.Names.{arith, refl, now}
-use Rattle.program.proofs.Texts.{line-length, stored-line, stored-not}
-use Rattle.program.proofs.line.refused.Statement.{statement}
-use Rattle.program.proofs.line.refused.Tie as tie
+use Rattle.refusal_line.proofs.Texts.{line-length, stored-line, stored-not}
+use Rattle.refusal_line.proofs.refused.Statement.{statement}
+use Rattle.refusal_line.proofs.refused.Tie as tie
 
 returns : tie.Need-returns
 returns c =

@@ -1,8 +1,8 @@
--- `line::put` meets its contract. The invariant is `Put`, and each turn is `put-next`.
+-- `refusal_line::put` meets its contract. The invariant is `Put`, and each turn is `put-next`.
 use Rattle.element.proofs.Names.{arith, _≡_}
-use Rattle.program.proofs.Texts.{Put, put-none, put-next}
-use Rattle.program.proofs.line.put.Statement.{statement}
-use Rattle.program.proofs.line.put.Tie as tie
+use Rattle.refusal_line.proofs.Texts.{Put, put-none, put-next}
+use Rattle.refusal_line.proofs.put.Statement.{statement}
+use Rattle.refusal_line.proofs.put.Tie as tie
 
 abbrev Inv-loop : tie.InvT-loop
 Inv-loop text buffer₀ end i₀ at₀ buffer i at = Put text buffer₀ end i at buffer

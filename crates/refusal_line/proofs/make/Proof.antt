@@ -1,9 +1,9 @@
--- `line::make` meets its contract: each part of the line stands before what stands after it (`line-of`).
+-- `refusal_line::make` meets its contract: each part of the line stands before what stands after it (`line-of`).
 use Rattle.element.proofs.Names.{arith, now}
 use lib.ListN.{drop-of-length-le}
-use Rattle.program.proofs.Texts.{line-of}
-use Rattle.program.proofs.line.make.Statement.{statement}
-use Rattle.program.proofs.line.make.Tie as tie
+use Rattle.refusal_line.proofs.Texts.{line-of}
+use Rattle.refusal_line.proofs.make.Statement.{statement}
+use Rattle.refusal_line.proofs.make.Tie as tie
 
 returns : tie.Need-returns
 returns c =

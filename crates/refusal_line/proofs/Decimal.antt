@@ -2,8 +2,8 @@
 -- induction on how many digits it may have, since the last digit is the rest of a division by ten.
 use Rattle.element.proofs.Names.{ℕ, zero, suc, _+_, _-_, _*_, _/_, _%_, _^_, _<_, arith, Bool, true, false, _≡_, refl, _∙_, List, [], _∷_, _++_, ltb}
 use Rattle.element.proofs.Names.{pick}
-use Rattle.program.specs.Printed.{digit, digits, decimal}
-use Rattle.program.proofs.Texts.{most}
+use Rattle.refusal_line.specs.Line.{digit, digits, decimal}
+use Rattle.refusal_line.proofs.Texts.{most}
 
 -- the number that digits stand for, after those that stand for n
 abbrev pub value : ℕ → List ℕ → ℕ

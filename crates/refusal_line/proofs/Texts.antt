@@ -4,7 +4,7 @@ use Rattle.element.proofs.Names.{ℕ, zero, suc, _+_, _-_, _*_, _/_, _%_, _^_, 
 use Rattle.element.proofs.Names.{_++_, length, getD, set, take, drop, length-set, length-drop, le-ltb, lt-ltb, pick, on-gt}
 use lib.Seq.{drop-cons, drop-length, take-all, drop-set-lt, getD-set-same, append-snoc}
 use Rattle.base.proofs.Ladder.{on-le}
-use Rattle.program.specs.Printed.{digit, digits, decimal, refusalLine, storedIn}
+use Rattle.refusal_line.specs.Line.{digit, digits, decimal, refusalLine, storedIn}
 
 before : (l : List ℕ) (i b : ℕ) → i < length l → drop i (set l i b) ≡ b ∷ drop (suc i) l
 before l i b h =
