@@ -1,6 +1,6 @@
 -- `running::ctext_next_run` meets its contract, by what it calls.
 use Rattle.element.proofs.Names.{arith}
-use Rattle.ctext.specs.Running.{nextRunHanded}
+use Rattle.positions.specs.Running.{nextRunHanded}
 use Rattle.ctext.proofs.running.ctext_next_run.Statement.{statement}
 use Rattle.ctext.proofs.running.ctext_next_run.Tie as tie
 

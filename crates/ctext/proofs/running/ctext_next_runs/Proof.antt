@@ -1,6 +1,6 @@
 -- `running::ctext_next_runs` meets its contract, by what it calls.
 use Rattle.element.proofs.Names.{arith}
-use Rattle.ctext.specs.Running.{handedOf}
+use Rattle.positions.specs.Running.{handedOf}
 use Rattle.ctext.proofs.running.ctext_next_runs.Statement.{statement}
 use Rattle.ctext.proofs.running.ctext_next_runs.Tie as tie
 

@@ -1,6 +1,6 @@
 -- `stepping::ctext_next` meets its contract, by what it calls.
 use Rattle.element.proofs.Names.{arith}
-use Rattle.ctext.specs.Stepping.{nextHanded}
+use Rattle.positions.specs.Stepping.{nextHanded}
 use Rattle.ctext.proofs.stepping.ctext_next.Statement.{statement}
 use Rattle.ctext.proofs.stepping.ctext_next.Tie as tie
 

@@ -1,8 +1,8 @@
--- `stepping::position_of` meets its contract, by what `flag` ensures.
+-- `positions::stepping::position_of` meets its contract, by what `flag` ensures.
 use Rattle.element.proofs.Names.{arith}
-use Rattle.ctext.specs.Stepping.{packedReader}
-use Rattle.ctext.proofs.stepping.position_of.Statement.{statement}
-use Rattle.ctext.proofs.stepping.position_of.Tie as tie
+use Rattle.positions.specs.Stepping.{packedReader}
+use Rattle.positions.proofs.stepping.position_of.Statement.{statement}
+use Rattle.positions.proofs.stepping.position_of.Tie as tie
 
 returns : tie.Need-returns
 unfolding packedReader

@@ -8,10 +8,10 @@ use Rattle.runs.specs.declared.listed.RunsStep.{RunsStep}
 use Rattle.runs.specs.declared.stepping.RunPosition.{RunPosition}
 use Rattle.state.specs.Directions.{directions}
 use Rattle.state.specs.State.{sets, state}
-use Rattle.ctext.specs.Stepping.{flagOf}
-use Rattle.ctext.specs.declared.running.RunReader.{RunReader}
-use Rattle.ctext.specs.declared.running.RunHanded.{RunHanded}
-use Rattle.ctext.specs.declared.running.RunsHanded.{RunsHanded}
+use Rattle.positions.specs.Stepping.{flagOf}
+use Rattle.positions.specs.declared.running.RunReader.{RunReader}
+use Rattle.positions.specs.declared.running.RunHanded.{RunHanded}
+use Rattle.positions.specs.declared.running.RunsHanded.{RunsHanded}
 
 -- a flag is read as yes wherever it is not 0
 unfoldable pub positionIn : RunReader → RunPosition

@@ -1,8 +1,8 @@
--- `running::reader_of` meets its contract, by what `flag` ensures.
+-- `positions::running::reader_of` meets its contract, by what `flag` ensures.
 use Rattle.element.proofs.Names.{arith}
-use Rattle.ctext.specs.Running.{packedRuns}
-use Rattle.ctext.proofs.running.reader_of.Statement.{statement}
-use Rattle.ctext.proofs.running.reader_of.Tie as tie
+use Rattle.positions.specs.Running.{packedRuns}
+use Rattle.positions.proofs.running.reader_of.Statement.{statement}
+use Rattle.positions.proofs.running.reader_of.Tie as tie
 
 returns : tie.Need-returns
 unfolding packedRuns

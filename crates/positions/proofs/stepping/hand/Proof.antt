@@ -1,8 +1,8 @@
--- `stepping::hand` meets its contract, case by case.
+-- `positions::stepping::hand` meets its contract, case by case.
 use Rattle.element.proofs.Names.{arith}
-use Rattle.ctext.specs.Stepping.{itemHanded}
-use Rattle.ctext.proofs.stepping.hand.Statement.{statement}
-use Rattle.ctext.proofs.stepping.hand.Tie as tie
+use Rattle.positions.specs.Stepping.{itemHanded}
+use Rattle.positions.proofs.stepping.hand.Statement.{statement}
+use Rattle.positions.proofs.stepping.hand.Tie as tie
 
 returns : tie.Need-returns
 unfolding itemHanded

@@ -13,8 +13,8 @@ use Rattle.state.specs.Directions.{directions}
 use Rattle.state.specs.State.{sets, state, fresh}
 use Rattle.state.specs.declared.State.{State}
 use Rattle.units.specs.Records.{blank}
-use Rattle.ctext.specs.declared.stepping.Position.{Position}
-use Rattle.ctext.specs.declared.stepping.Handed.{Handed}
+use Rattle.positions.specs.declared.stepping.Position.{Position}
+use Rattle.positions.specs.declared.stepping.Handed.{Handed}
 
 -- a flag is 1 for yes and 0 for no, and read as yes wherever it is not 0
 unfoldable pub flagOf : Bool → ℕ
