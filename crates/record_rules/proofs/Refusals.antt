@@ -95,8 +95,7 @@ module _ (o : List ℕ) (e s n : ℕ) (d : Directions) where
 
         judged : (b : Bool) → segment e 0 part ≡ b → cond b (direct d (ext e part)) (Stops refusal.bad-segment) ≡ partFault
         unfolding good
-        judged true q = inside _ (rw (le-leb 0x30 e l, le-leb e 0x34 h, le-leb (length part) 16383 (omega (arith, count)), q))
-        judged false q = inside _ (rw (le-leb 0x30 e l, le-leb e 0x34 h, le-leb (length part) 16383 (omega (arith, count)), q))
+        judged b q = inside _ (rw (le-leb 0x30 e l, le-leb e 0x34 h, le-leb (length part) 16383 (omega (arith, count)), q))
 
         pub part-found : (p : Part) → x ≡ Gives p → stepOf (p .text) kind.segment d ≡ partFault
         unfolding pick
