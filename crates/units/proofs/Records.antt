@@ -1,17 +1,16 @@
 -- The records of a string's units: their reading, with the string as the octets of its segments, is the string's (`records-read`); their
 -- fields that mean nothing are 0 (`records-meant`); and there are as many as an accepted string's answer counts (`records-count`). Each
 -- goes by induction on the elements of the string.
-use Rattle.element.proofs.Names.{ℕ, _+_, _≤_, _<_, arith, add-one, _≡_, refl, ap, ap₂, sym, _∙_, Bool, true, false, cond, List, [], _∷_, Option}
-use Rattle.element.proofs.Names.{none, some, eqb, leb, ltb, length, take, drop, lt-ltb, le-ltb, le-leb, ne-eqb, answer, refusedAt, pick, from, UnitRecord}
+use Rattle.element.proofs.Names.{ℕ, _+_, _≤_, arith, _≡_, refl, ap, Bool, true, false, List}
+use Rattle.element.proofs.Names.{some, ltb, length, drop, lt-ltb, le-ltb, le-leb, ne-eqb, refusedAt, pick}
 use Rattle.element.proofs.Names.{State, Part}
 use lib.Seq.{drop-drop}
 use Rattle.base.specs.Kind as kind
 use Rattle.base.specs.Limit as limit
 use Rattle.base.specs.Refusal as refusal
 use Rattle.element.specs.Meant.{Meant, with-set, with-none, with-code, MeantPart}
-use Rattle.grammar.specs.Units.{TextUnit, unitOf}
 use Rattle.grammar.specs.Reading.{Elements, size, elementsOf, answerOf, checkOf, unitAt, unitsOf, readingOf}
-use Rattle.grammar.specs.Records.{readable, unitRead, prepend, listReading}
+use Rattle.grammar.specs.Records.{readable, unitRead, listReading}
 use Rattle.grammar.proofs.Places.{Ahead, ends, stops, passes, reads, from-start, ahead-is}
 use Rattle.units.specs.Records.{recordOf, recordsFrom, recordsOf, AllMeant, none-left, one-more}
 use Rattle.units.specs.Next.{outcomeOf, nextOf}

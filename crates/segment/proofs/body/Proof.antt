@@ -9,7 +9,7 @@ use Rattle.base.proofs.Ladder.{after}
 use denote.Ref.{now}
 use Rattle.segment.specs.declared.Name.{Name}
 use Rattle.base.specs.Choice.{from}
-use mathlib.Core.Path.{_≡_, refl, _∙_, ap}
+use mathlib.Core.Path.{refl, _∙_, ap}
 use Rattle.segment.proofs.body.Statement.{statement}
 use Rattle.segment.proofs.body.Tie as tie
 

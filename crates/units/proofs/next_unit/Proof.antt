@@ -1,11 +1,9 @@
 -- `units::next_unit` meets its contract: at each turn the elements from the place on give what those from the start do.
 -- Assumes nothing.
-use Rattle.element.proofs.Names.{ℕ, _+_, _-_, _≤_, arith, _≡_, refl, sym, ap, _∙_, length, now, ladder, on-ge, UnitRecord, State}
+use Rattle.element.proofs.Names.{_-_, arith, _≡_, refl, _∙_, length, now, ladder, on-ge}
 use Rattle.element.proofs.Sizes.{silent, found}
 use Rattle.grammar.proofs.Places.{refused-within, step-passed}
 use Rattle.units.specs.Next.{nextOf}
-use Rattle.units.specs.declared.Outcome.{Outcome}
-use Rattle.units.specs.declared.Outcome.the-variants.{Gives}
 use Rattle.units.proofs.Turn.{outcome, gives-end, gives-refused, gives-silent, gives-found}
 use Rattle.units.proofs.next_unit.Statement.{statement}
 use Rattle.units.proofs.next_unit.Tie as tie
