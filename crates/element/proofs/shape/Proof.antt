@@ -6,11 +6,8 @@ use Rattle.element.specs.Start.{startOf, begunBy}
 use Rattle.element.proofs.shape.Statement.{statement}
 use Rattle.element.proofs.shape.Tie as tie
 
-returns-9 : tie.Need-returns-9
-returns-9 c = search (on-shape, on-delete) depth 6
-
 pub shape-spec : {M : Type 1} → statement M
-unfolding shapeOf startOf begunBy
+unfolding begunBy shapeOf startOf
 shape-spec =
     tie.close
     (tie.spec
@@ -33,5 +30,5 @@ shape-spec =
     (λ c. search shaping depth 24)
     (λ c. search shaping depth 24)
     (λ c. search shaping depth 24)
-    returns-9
+    (λ c. search (on-shape, on-delete) depth 6)
     (λ c. search shaping depth 24))

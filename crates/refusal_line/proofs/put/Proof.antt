@@ -10,23 +10,6 @@ Inv-loop text buffer₀ end i₀ at₀ buffer i at = Put text buffer₀ end i at
 abbrev μ-loop : tie.MeasureT-loop
 μ-loop text buffer₀ end i₀ at₀ buffer i at = i
 
-slice-write-buffer : tie.Need-slice-write-buffer Inv-loop μ-loop
-slice-write-buffer c =
-    let inv = c .before .before .loop .inv in
-    let pre = c .before .before .before .pre in
-    omega (arith, inv .stands, inv .same, inv .few, pre .0, pre .1)
-
-loop-again : tie.Need-loop-again Inv-loop μ-loop
-loop-again c =
-    let pre = c .before .before .before .pre in
-    put-next _ _ _ (pre .0) (pre .1) _ _ _ (c .before .before .loop .inv) (c .before .loop-test .taken)
-
-returns : tie.Need-returns Inv-loop μ-loop
-returns c =
-    let inv = c .before .loop .inv in
-    let none : c .before .loop .i ≡ 0 = omega arith in
-    (omega (arith, inv .stands, none), rw none at (inv .holds), inv .same)
-
 pub put-spec : {M : Type 1} → statement M
 put-spec =
     tie.close
@@ -37,8 +20,9 @@ put-spec =
     (λ c. omega arith)
     (λ c. omega (arith, c .before .loop .inv .stands, c .before .before .pre .0))
     (λ c. omega (arith, c .before .before .loop .inv .few))
-    slice-write-buffer
+    (λ c. let inv = c .before .before .loop .inv in let pre = c .before .before .before .pre in omega (arith, inv .stands, inv .same, inv .few, pre .0, pre .1))
     (λ c. omega arith)
-    loop-again
+    (λ c. let pre = c .before .before .before .pre in put-next _ _ _ (pre .0) (pre .1) _ _ _ (c .before .before .loop .inv) (c .before .loop-test .taken))
     (λ c. c .before .loop .inv .same)
-    returns)
+    (λ c. let inv = c .before .loop .inv in let none : c .before .loop .i ≡ 0 = omega arith in
+    (omega (arith, inv .stands, none), rw none at (inv .holds), inv .same)))

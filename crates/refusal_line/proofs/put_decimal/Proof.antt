@@ -10,18 +10,6 @@ Inv-loop n buffer₀ end at₀ rest₀ buffer at rest = Counted n buffer₀ end 
 abbrev μ-loop : tie.MeasureT-loop
 μ-loop n buffer₀ end at₀ rest₀ buffer at rest = rest
 
-slice-write-buffer : tie.Need-slice-write-buffer Inv-loop μ-loop
-slice-write-buffer c =
-    omega (arith, digit-room _ _ _ (c .before .before .pre .0) (c .before .before .pre .1) _ _ _ (c .before .loop .inv))
-
-loop-again : tie.Need-loop-again Inv-loop μ-loop
-loop-again c =
-    counted-next _ _ _ (c .before .before .pre .0) (c .before .before .pre .1) _ _ _ (c .before .loop .inv) (c .loop-test .taken)
-
-slice-write-buffer-2 : tie.Need-slice-write-buffer-2 Inv-loop μ-loop
-slice-write-buffer-2 c =
-    omega (arith, digit-room _ _ _ (c .before .before .pre .0) (c .before .before .pre .1) _ _ _ (c .before .loop .inv))
-
 returns : tie.Need-returns Inv-loop μ-loop
 returns c =
     let inv = c .before .loop .inv in
@@ -42,12 +30,12 @@ put-decimal-spec =
     (λ c. omega (arith, digit-room _ _ _ (c .before .before .pre .0) (c .before .before .pre .1) _ _ _ (c .before .loop .inv)))
     (λ c. omega arith)
     (λ c. omega arith)
-    slice-write-buffer
+    (λ c. omega (arith, digit-room _ _ _ (c .before .before .pre .0) (c .before .before .pre .1) _ _ _ (c .before .loop .inv)))
     (λ c. omega arith)
-    loop-again
+    (λ c. counted-next _ _ _ (c .before .before .pre .0) (c .before .before .pre .1) _ _ _ (c .before .loop .inv) (c .loop-test .taken))
     (λ c. omega (arith, digit-room _ _ _ (c .before .before .pre .0) (c .before .before .pre .1) _ _ _ (c .before .loop .inv)))
     (λ c. omega arith)
     (λ c. omega arith)
-    slice-write-buffer-2
+    (λ c. omega (arith, digit-room _ _ _ (c .before .before .pre .0) (c .before .before .pre .1) _ _ _ (c .before .loop .inv)))
     (λ c. counted-length _ _ _ (c .before .before .pre .0) (c .before .before .pre .1) _ _ _ (c .before .loop .inv))
     returns)

@@ -23,9 +23,6 @@ returns c =
     (c .before .name-end .ensures ∙ ap (λ (k : ℕ). nameOf (take k (drop (a .at) (now (a .s)))) 0) (add-sub-cancel-left (a .at) (a .n))))
     (c .content .ensures))
 
-returns-2 : tie.Need-returns-2
-returns-2 c = on-body-short _ _ _ _ _ (c .if1 .left) refl
-
 pub body-spec : {M : Type 1} → statement M
 body-spec =
     tie.close
@@ -38,4 +35,4 @@ body-spec =
     (search arith)
     (search arith)
     returns
-    returns-2)
+    (λ c. on-body-short _ _ _ _ _ (c .if1 .left) refl))

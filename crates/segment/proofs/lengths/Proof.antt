@@ -5,18 +5,6 @@ use Rattle.state.proofs.Steps.{steps}
 use Rattle.segment.proofs.lengths.Statement.{statement}
 use Rattle.segment.proofs.lengths.Tie as tie
 
-mul-body : tie.Need-mul-body
-mul-body c = omega arith
-
-add-body-3 : tie.Need-add-body-3
-add-body-3 c = omega arith
-
-returns-5 : tie.Need-returns-5
-unfolding lengthsOf
-returns-5 c =
-    let e = rw (c .before .before .wide .ensures .0, c .before .wide2 .ensures .0) at (c .body .ensures) in
-    search (steps, e) depth 14
-
 pub lengths-spec : {M : Type 1} → statement M
 unfolding lengthsOf
 lengths-spec =
@@ -33,8 +21,8 @@ lengths-spec =
     (search arith)
     (search arith)
     (search arith)
-    mul-body
+    (λ c. omega arith)
     (search arith)
-    add-body-3
+    (λ c. omega arith)
     (search arith)
-    returns-5)
+    (λ c. let e = rw (c .before .before .wide .ensures .0, c .before .wide2 .ensures .0) at (c .body .ensures) in search (steps, e) depth 14))

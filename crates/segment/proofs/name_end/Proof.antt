@@ -17,52 +17,20 @@ Inv-loop s i₀ i = (i ≤ length s) × (nameOf (from i s) i ≡ nameOf s 0)
 abbrev μ-loop : tie.MeasureT-loop
 μ-loop s i₀ i = length s - i
 
-loop-holds : tie.Need-loop-holds Inv-loop μ-loop
-unfolding from
-loop-holds c = (search arith, refl)
-
-shared-slice-read-b : tie.Need-shared-slice-read-b Inv-loop μ-loop
-shared-slice-read-b c = omega arith
-
-returns : tie.Need-returns Inv-loop μ-loop
-unfolding nameOf
-returns c = after (c .before .before .before .before .loop .inv .1) (search named depth 12)
-
-returns-2 : tie.Need-returns-2 Inv-loop μ-loop
-unfolding nameOf
-returns-2 c = after (c .before .before .before .before .loop .inv .1) (search named depth 12)
-
-add-i : tie.Need-add-i Inv-loop μ-loop
-add-i c = omega arith
-
-loop-less : tie.Need-loop-less Inv-loop μ-loop
-loop-less c = omega arith
-
-loop-again : tie.Need-loop-again Inv-loop μ-loop
-unfolding nameOf
-loop-again c = (omega arith, after (c .before .before .before .before .before .loop .inv .1) (search named depth 12))
-
-returns-3 : tie.Need-returns-3 Inv-loop μ-loop
-unfolding nameOf
-returns-3 c = after (c .before .before .before .before .before .loop .inv .1) (search named depth 12)
-
-returns-4 : tie.Need-returns-4 Inv-loop μ-loop
-unfolding nameOf
-returns-4 c = after (c .before .loop .inv .1) (search named depth 12)
-
 pub name-end-spec : {M : Type 1} → statement M
+unfolding from nameOf
 name-end-spec =
     tie.close
     (tie.spec
     Inv-loop
     μ-loop
-    loop-holds
-    shared-slice-read-b
-    returns
-    returns-2
+    (λ c. (search arith, refl))
+    (λ c. omega arith)
+    (λ c. after (c .before .before .before .before .loop .inv .1) (search named depth 12))
+    (λ c. after (c .before .before .before .before .loop .inv .1) (search named depth 12))
     (search arith)
-    add-i
-    loop-less
-    loop-again
-    returns-3
-    returns-4)
+    (λ c. omega arith)
+    (λ c. omega arith)
+    (λ c. (omega arith, after (c .before .before .before .before .before .loop .inv .1) (search named depth 12)))
+    (λ c. after (c .before .before .before .before .before .loop .inv .1) (search named depth 12))
+    (λ c. after (c .before .loop .inv .1) (search named depth 12)))

@@ -14,9 +14,6 @@ Inv-loop s place at₀ st₀ at st = outcome s at st ≡ outcome s at₀ st₀
 abbrev μ-loop : tie.MeasureT-loop
 μ-loop s place at₀ st₀ at st = length s - at
 
-loop-holds : tie.Need-loop-holds Inv-loop μ-loop
-loop-holds c = refl
-
 returns-2 : tie.Need-returns-2 Inv-loop μ-loop
 unfolding nextOf
 returns-2 c =
@@ -107,7 +104,7 @@ next-unit-spec =
     Inv-loop
     μ-loop
     (λ c. search ladder)
-    loop-holds
+    (λ c. refl)
     (search arith)
     (search arith)
     returns-2

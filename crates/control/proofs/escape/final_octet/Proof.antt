@@ -3,8 +3,5 @@ use native.Mathlib.Omega.{arith}
 use Rattle.control.proofs.escape.final_octet.Statement.{statement}
 use Rattle.control.proofs.escape.final_octet.Tie as tie
 
-returns : tie.Need-returns
-returns c = cc
-
 pub final-octet-spec : {M : Type 1} → statement M
-final-octet-spec = tie.close (tie.spec (search arith) (search arith) returns)
+final-octet-spec = tie.close (tie.spec (search arith) (search arith) (λ c. cc))

@@ -16,55 +16,20 @@ Inv-loop s at i₀ i = intermediatesOf (from i s) ≡ intermediatesOf (from at s
 abbrev μ-loop : tie.MeasureT-loop
 μ-loop s at i₀ i = length s - i
 
-loop-holds : tie.Need-loop-holds Inv-loop μ-loop
-loop-holds c = refl
-
-shared-slice-read-b : tie.Need-shared-slice-read-b Inv-loop μ-loop
-shared-slice-read-b c = omega arith
-
-returns : tie.Need-returns Inv-loop μ-loop
-unfolding intermediatesOf
-returns c = after (c .before .before .before .loop .inv) (search passing depth 12)
-
-returns-2 : tie.Need-returns-2 Inv-loop μ-loop
-unfolding intermediatesOf
-returns-2 c = after (c .before .before .before .before .before .loop .inv) (search passing depth 12)
-
-returns-3 : tie.Need-returns-3 Inv-loop μ-loop
-unfolding intermediatesOf
-returns-3 c = after (c .before .before .before .before .before .before .loop .inv) (search passing depth 12)
-
-returns-4 : tie.Need-returns-4 Inv-loop μ-loop
-unfolding intermediatesOf
-returns-4 c = after (c .before .before .before .before .before .before .loop .inv) (search passing depth 12)
-
-add-i : tie.Need-add-i Inv-loop μ-loop
-add-i c = omega arith
-
-loop-less : tie.Need-loop-less Inv-loop μ-loop
-loop-less c = omega arith
-
-loop-again : tie.Need-loop-again Inv-loop μ-loop
-unfolding intermediatesOf
-loop-again c = after (c .before .before .before .before .loop .inv) (search passing depth 12)
-
-returns-5 : tie.Need-returns-5 Inv-loop μ-loop
-unfolding intermediatesOf
-returns-5 c = after (c .before .loop .inv) (search passing depth 12)
-
 pub intermediates-spec : {M : Type 1} → statement M
+unfolding intermediatesOf
 intermediates-spec =
     tie.close
     (tie.spec
     Inv-loop
     μ-loop
-    loop-holds
-    shared-slice-read-b
-    returns
-    returns-2
-    returns-3
-    returns-4
-    add-i
-    loop-less
-    loop-again
-    returns-5)
+    (λ c. refl)
+    (λ c. omega arith)
+    (λ c. after (c .before .before .before .loop .inv) (search passing depth 12))
+    (λ c. after (c .before .before .before .before .before .loop .inv) (search passing depth 12))
+    (λ c. after (c .before .before .before .before .before .before .loop .inv) (search passing depth 12))
+    (λ c. after (c .before .before .before .before .before .before .loop .inv) (search passing depth 12))
+    (λ c. omega arith)
+    (λ c. omega arith)
+    (λ c. after (c .before .before .before .before .loop .inv) (search passing depth 12))
+    (λ c. after (c .before .loop .inv) (search passing depth 12)))

@@ -4,8 +4,5 @@ use Rattle.positions.specs.Running.{packedRuns}
 use Rattle.positions.proofs.running.opened.Statement.{statement}
 use Rattle.positions.proofs.running.opened.Tie as tie
 
-returns : tie.Need-returns
-returns c = c .reader-of .ensures ∙ ap packedRuns (c .before .first-position .ensures)
-
 pub opened-spec : {M : Type 1} → statement M
-opened-spec = tie.close (tie.spec (search arith) (search arith) returns)
+opened-spec = tie.close (tie.spec (search arith) (search arith) (λ c. c .reader-of .ensures ∙ ap packedRuns (c .before .first-position .ensures)))

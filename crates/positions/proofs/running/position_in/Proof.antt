@@ -4,9 +4,6 @@ use Rattle.positions.specs.Running.{positionIn}
 use Rattle.positions.proofs.running.position_in.Statement.{statement}
 use Rattle.positions.proofs.running.position_in.Tie as tie
 
-returns : tie.Need-returns
-unfolding positionIn
-returns c = refl
-
 pub position-in-spec : {M : Type 1} → statement M
-position-in-spec = tie.close (tie.spec returns)
+unfolding positionIn
+position-in-spec = tie.close (tie.spec (λ c. refl))

@@ -4,9 +4,12 @@ use Rattle.positions.specs.Running.{packedRuns}
 use Rattle.positions.proofs.running.reader_of.Statement.{statement}
 use Rattle.positions.proofs.running.reader_of.Tie as tie
 
-returns : tie.Need-returns
-unfolding packedRuns
-returns c = rw (← (c .before .before .flag .ensures), ← (c .before .flag2 .ensures), ← (c .flag3 .ensures))
-
 pub reader-of-spec : {M : Type 1} → statement M
-reader-of-spec = tie.close (tie.spec (search arith) (search arith) (search arith) returns)
+unfolding packedRuns
+reader-of-spec =
+    tie.close
+    (tie.spec
+    (search arith)
+    (search arith)
+    (search arith)
+    (λ c. rw (← (c .before .before .flag .ensures), ← (c .before .flag2 .ensures), ← (c .flag3 .ensures))))

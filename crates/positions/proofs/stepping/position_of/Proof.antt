@@ -4,9 +4,6 @@ use Rattle.positions.specs.Stepping.{packedReader}
 use Rattle.positions.proofs.stepping.position_of.Statement.{statement}
 use Rattle.positions.proofs.stepping.position_of.Tie as tie
 
-returns : tie.Need-returns
-unfolding packedReader
-returns c = rw (← (c .before .flag .ensures), ← (c .flag2 .ensures))
-
 pub position-of-spec : {M : Type 1} → statement M
-position-of-spec = tie.close (tie.spec (search arith) (search arith) returns)
+unfolding packedReader
+position-of-spec = tie.close (tie.spec (search arith) (search arith) (λ c. rw (← (c .before .flag .ensures), ← (c .flag2 .ensures))))

@@ -4,9 +4,6 @@ use Rattle.positions.specs.Stepping.{stateUnpacked}
 use Rattle.positions.proofs.stepping.state_in.Statement.{statement}
 use Rattle.positions.proofs.stepping.state_in.Tie as tie
 
-returns : tie.Need-returns
-unfolding stateUnpacked
-returns c = refl
-
 pub state-in-spec : {M : Type 1} → statement M
-state-in-spec = tie.close (tie.spec returns)
+unfolding stateUnpacked
+state-in-spec = tie.close (tie.spec (λ c. refl))

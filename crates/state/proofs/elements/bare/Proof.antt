@@ -3,8 +3,5 @@ use native.Mathlib.Omega.{arith}
 use Rattle.state.proofs.elements.bare.Statement.{statement}
 use Rattle.state.proofs.elements.bare.Tie as tie
 
-returns : tie.Need-returns
-returns c = rw (c .counts-as-text .ensures)
-
 pub bare-spec : {M : Type 1} → statement M
-bare-spec = tie.close (tie.spec (search arith) returns)
+bare-spec = tie.close (tie.spec (search arith) (λ c. rw (c .counts-as-text .ensures)))
