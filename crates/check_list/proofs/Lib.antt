@@ -1,4 +1,2 @@
-pub mod Refusals
-pub mod Quick
 pub mod Fits
 pub mod Turns

@@ -1,16 +1,18 @@
 -- A turn of the check: by what it was before, and by what the record's refusal is.
-use Rattle.element.proofs.Names.{ℕ, _≤_, _<_, arith, _≡_, refl, Bool, true, false, false≢true, List, eqb, leb, ltb, eq-eqb, ne-eqb, eqb-true}
-use Rattle.element.proofs.Names.{eqb-false, le-leb, leb-true, le-ltb, ltb-false, UnitRecord, Directions, Step, Goes, Stops, pick, clash, test, pick-by}
+use Rattle.element.proofs.Names.{ℕ, _≤_, _<_, arith, _≡_, refl, ap, true, false, List, eqb, leb, ltb, eqb-true}
+use Rattle.element.proofs.Names.{le-leb, le-ltb, UnitRecord, Directions, Step, Goes, Stops, pick, clash, test, pick-by, pick-last, off, tested}
+use Rattle.base.proofs.Bools.{pick-both}
 use Rattle.grammar.specs.Records.{unitRead}
 use Rattle.shortest.specs.Records.{fault}
 use Rattle.rows.specs.Rows.{withRecord}
 use Rattle.base.specs.Kind as kind
 use Rattle.rows.specs.Stowable.{Stowable, stowableOf}
-use Rattle.check_list.specs.Plain.{settledByText}
+use Rattle.record_rules.specs.Plain.{plainOf, settledByText}
 use Rattle.check_list.specs.Turn.{onFault, turnOf, roomAfter, quickAfter, quickUntil}
 use Rattle.check_list.specs.declared.Progress.{Progress}
 use Rattle.check_list.specs.declared.Progress.the-variants.{Fine, Faulty}
 use Rattle.shortest.proofs.Bad.{bad-stops, not-bad}
+use Rattle.record_rules.proofs.Quick.{plain-goes}
 use Rattle.check_list.proofs.Fits.{fits}
 
 pub stowable : (o : List ℕ) (r : UnitRecord) (d next : Directions) → fault (unitRead o r) d ≡ Goes next → Stowable r
@@ -18,42 +20,27 @@ stowable o r d next e =
     let j = not-bad o r (λ n b. clash (cc (bad-stops o r d b))) d in
     fits o r (j .0) (j .2) (j .1) .stowable
 
+-- a record that the quick check lets through is no segment
+pub plain-stowable : (r : UnitRecord) → plainOf r ≡ true → Stowable r
+unfolding plainOf pick
+plain-stowable r e = test (leb (r .kind) 1) (λ p. omega tested) (λ p. off (rw p at e))
+
 -- the test of a record that can stand in a row
-module _ (r : UnitRecord) where
-  segment-told : (x y z : Bool) → ltb (r .code) 0x30 ≡ x → leb (r .code) 0x34 ≡ y → leb (r .length) 16383 ≡ z
-      → pick x false (pick y z false) ≡ true
-      → (0x30 ≤ r .code) × (r .code ≤ 0x34) × (r .length ≤ 16383)
-  unfolding pick
-  segment-told true y z a b c e = absurd (false≢true e)
-  segment-told false false z a b c e = absurd (false≢true e)
-  segment-told false true false a b c e = absurd (false≢true e)
-  segment-told false true true a b c e = (ltb-false _ _ a, leb-true _ _ b, leb-true _ _ c)
+pub stowable-told : (r : UnitRecord) → stowableOf r ≡ true → Stowable r
+unfolding stowableOf pick
+stowable-told r e =
+    test (eqb (r .kind) kind.segment)
+    (λ q. let a = pick-last (ltb (r .code) 0x30) _ (rw q at e) in
+    let b = pick-both (leb (r .code) 0x34) (leb (r .length) 16383) (a .1) in omega (tested, q, a .0, b .0, b .1))
+    (λ q. let a : leb (r .kind) kind.segment ≡ true = rw q at e in omega (tested, q, a))
 
-  pub stowable-told : stowableOf r ≡ true → Stowable r
-  unfolding stowableOf pick
-  stowable-told e = go (eqb (r .kind) kind.segment) refl e
-    where
-      go : (b : Bool) → eqb (r .kind) kind.segment ≡ b
-          → pick b (pick (ltb (r .code) 0x30) false (pick (leb (r .code) 0x34) (leb (r .length) 16383) false)) (leb (r .kind) kind.segment) ≡ true
-          → Stowable r
-      go true q e =
-          let t = segment-told _ _ _ refl refl refl e in
-          let k = eqb-true (r .kind) kind.segment q in
-          record { one-of-eight = omega arith; low = λ _. t .0; high = λ _. t .1; few = λ _. t .2 }
-      go false q e =
-          let other = eqb-false (r .kind) kind.segment q in
-          record { one-of-eight = leb-true _ _ e; low = λ k. absurd (other k); high = λ k. absurd (other k); few = λ k. absurd (other k) }
-
-  pub stowable-tells : Stowable r → stowableOf r ≡ true
-  unfolding stowableOf pick
-  stowable-tells h = go (eqb (r .kind) kind.segment) refl
-    where
-      go : (b : Bool) → eqb (r .kind) kind.segment ≡ b
-          → pick b (pick (ltb (r .code) 0x30) false (pick (leb (r .code) 0x34) (leb (r .length) 16383) false)) (leb (r .kind) kind.segment) ≡ true
-      go true q =
-          let k = eqb-true (r .kind) kind.segment q in
-          rw (le-ltb (r .code) 0x30 (h .low k), le-leb (r .code) 0x34 (h .high k), le-leb (r .length) 16383 (h .few k))
-      go false q = le-leb _ _ (h .one-of-eight)
+pub stowable-tells : (r : UnitRecord) → Stowable r → stowableOf r ≡ true
+unfolding stowableOf pick
+stowable-tells r h =
+    test (eqb (r .kind) kind.segment)
+    (λ q. let k = eqb-true (r .kind) kind.segment q in
+    rw (q, le-ltb (r .code) 0x30 (h .low k), le-leb (r .code) 0x34 (h .high k), le-leb (r .length) 16383 (h .few k)))
+    (λ q. rw q (le-leb _ _ (h .one-of-eight)))
 
 module _ (o : List ℕ) (r : UnitRecord) (i : ℕ) (p : Progress) (w : List ℕ) where
   pub turn-goes : (d next : Directions) → p ≡ Fine d → fault (unitRead o r) d ≡ Goes next
@@ -107,3 +94,15 @@ module _ (p : Progress) (from n : ℕ) where
   pub until-most : from ≤ n → quickUntil p from n ≤ n
   unfolding quickUntil
   until-most h = pick-by (λ m. m ≤ n) (quickAfter p) (λ _. omega arith) (λ _. h)
+
+-- where the check so far allows it, a record that is let through leaves the progress as it is
+pub quick-goes : (o : List ℕ) (r : UnitRecord) (i : ℕ) (p : Progress) → quickAfter p ≡ true → plainOf r ≡ true → turnOf o r i p ≡ p
+unfolding turnOf
+quick-goes o r i (Fine d) s e = ap (λ (t : Step). onFault t i) (plain-goes o r d s e)
+quick-goes o r i (Faulty n j) s e = off s
+
+-- and stands in its row
+pub quick-room : (p : Progress) (r : UnitRecord) (i : ℕ) (w : List ℕ) → quickAfter p ≡ true → roomAfter p r i w ≡ withRecord w i r
+unfolding roomAfter
+quick-room (Fine d) r i w s = refl
+quick-room (Faulty n j) r i w s = off s

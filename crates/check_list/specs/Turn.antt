@@ -12,7 +12,7 @@ use Rattle.state.specs.declared.directions.Step.the-variants.{Goes, Stops}
 use Rattle.grammar.specs.Records.{unitRead}
 use Rattle.shortest.specs.Records.{fault}
 use Rattle.rows.specs.Rows.{withRecord}
-use Rattle.check_list.specs.Plain.{settledByText}
+use Rattle.record_rules.specs.Plain.{settledByText}
 use Rattle.check_list.specs.declared.Progress.{Progress}
 use Rattle.check_list.specs.declared.Progress.the-variants.{Fine, Faulty}
 

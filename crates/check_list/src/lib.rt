@@ -4,48 +4,24 @@ ghost use mathlib.Core.Path.{_≡_};
 ghost use Prim.Native.Nat.{_<_};
 ghost use lib.ListN.{length};
 ghost use Rattle.base.specs.Choice.{pick};
-ghost use Rattle.grammar.specs.Records.{unitRead};
-ghost use Rattle.shortest.specs.Records.{fault};
 ghost use Rattle.rows.specs.Rows.{withRecord};
 ghost use Rattle.rows.specs.Stowable.{stowableOf};
-ghost use Rattle.check_list.specs.Plain.{settledByText, plainOf};
+ghost use Rattle.record_rules.specs.Plain.{plainOf};
 ghost use Rattle.check_list.specs.Turn.{begun, turnOf, roomAfter, lookedAt, quickUntil};
 use base::Unit;
-use base::kind;
 use base::limit;
-use base::refusal;
+use record_rules::judge;
+use record_rules::plain::plain;
+use record_rules::plain::settled;
 use state::directions::Directions;
 use state::directions::Step;
-use state::directions::counts_as_text;
 
-mod own;
-mod plain;
 mod record;
 
 // How far a list is checked: what the directions are after the last record, or the number and the index of the first that offends.
 pub enum Progress {
     Fine(Directions),
     Faulty(u8, usize),
-}
-
-// What a record does to the directions, or the number of its refusal; its segment stands in the octets lent.
-pub fn judge(unit: Unit, segments: &[u8], directions: Directions) -> Step
-    ensures { λ r. ⌜ r ≡ fault (unitRead (now (segments .entry)) unit) directions ⌝ }
-{
-    let kind = unit.kind;
-    if kind == kind::CHARACTER {
-        return own::character(unit.set, unit.code, directions);
-    }
-    if kind < kind::SEGMENT {
-        let text = counts_as_text(kind, 0);
-        return directions.step(text, kind);
-    }
-    if kind == kind::SEGMENT {
-        let start = unit.start as usize;
-        let length = unit.length as usize;
-        return own::segment(unit.code, start, length, segments, directions);
-    }
-    Step::Stops(refusal::BAD_UNIT)
 }
 
 // Before the first record.
@@ -60,16 +36,6 @@ pub fn looked_at(n: usize) -> usize
     ensures { λ r. ⌜ r ≡ lookedAt n ⌝ }
 {
     if n <= limit::UNITS { n } else { 0 }
-}
-
-// Whether text leaves the directions as they are: there was no mark, and there was text.
-fn settled(directions: Directions) -> bool
-    ensures { λ r. ⌜ r ≡ settledByText directions ⌝ }
-{
-    if directions.marked {
-        return false;
-    }
-    directions.texted
 }
 
 // The end of the records from a place on that the quick check may look at: n where the directions are settled, else the place itself.
@@ -91,7 +57,7 @@ pub fn quick_until(progress: Progress, from: usize, n: usize) -> usize
 pub fn quick_turn(unit: Unit, i: usize, work: &mut [u8]) -> bool
     ensures { λ r. ⌜ (r ≡ plainOf unit) × (now (work .exit) ≡ pick (plainOf unit) (withRecord (now (work .entry)) i unit) (now (work .entry))) ⌝ }
 {
-    if plain::plain(unit) {
+    if plain(unit) {
         record::put(unit, i, work);
         return true;
     }

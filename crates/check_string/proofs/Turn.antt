@@ -1,5 +1,5 @@
 -- A turn of the loop of `whole`, on plain values: what is left answers what the whole string does, before the turn and after it.
-use Rattle.element.proofs.Names.{ℕ, _+_, _-_, _≤_, _<_, arith, _≡_, refl, ap, sym, _∙_, List, length, answer, refusedAt, from, Answer, from-end}
+use Rattle.element.proofs.Names.{ℕ, _+_, _≤_, _<_, arith, _≡_, refl, ap, sym, _∙_, List, length, answer, refusedAt, from, Answer, from-end}
 use Rattle.element.proofs.Names.{no-set, Side, stepOf, fresh, designatedOf, State, Part, Directions, Step, Goes, Stops, Shape, Refuses, Designates, Gives}
 use Rattle.element.proofs.Names.{Element, End, Refused, Silent, Found}
 use native.Mathlib.Numerals.{unary-clauses}

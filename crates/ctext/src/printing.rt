@@ -4,7 +4,8 @@ ghost use mathlib.Core.Path.{_≡_};
 ghost use lib.ListN.{length};
 ghost use Rattle.base.specs.Limit.{octets};
 ghost use Rattle.rewrite.specs.Shortest.{shortestAnswer};
-ghost use Rattle.program.specs.Printed.{room, printedOf, storedIn};
+ghost use Rattle.refusal_line.specs.Line.{storedIn};
+ghost use Rattle.program.specs.Printed.{room, printedOf};
 use program::Printed;
 
 // What is printed is stored from the output's first place on, and the rest of the output stays; where it has too few octets all of it stays.

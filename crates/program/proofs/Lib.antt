@@ -1,4 +1,2 @@
-pub mod Texts
-pub mod Decimal
 pub mod Whole
 pub mod Promises

@@ -1,8 +1,8 @@
 -- What is printed, by the answer of `rewrite::shortest`: where it is accepted the octets stored are what is printed (`Form`), and where it
 -- has a count beside a refusal they are as many as are printed and the output stays; else the line of the refusal is printed (`Line`).
 -- The answer depends on the output's length only where that is too short for the shortest form, and then the count is not 0.
-use Rattle.element.proofs.Names.{ℕ, _≤_, _<_, arith, _≡_, refl, ap, sym, _∙_, subst, Bool, true, false, List, _++_, some, Option·some-injective}
-use Rattle.element.proofs.Names.{length, drop, eqb, eqb-true, eqb-false, eq-eqb, ne-eqb, answer, pick, Answer, UnitRecord, fresh}
+use Rattle.element.proofs.Names.{ℕ, _≤_, _<_, arith, _≡_, refl, ap, sym, _∙_, subst, List, _++_, some, Option·some-injective}
+use Rattle.element.proofs.Names.{length, drop, eqb, eqb-true, eqb-false, eq-eqb, ne-eqb, answer, pick, test, Answer, UnitRecord, fresh}
 use Rattle.base.specs.Limit as limit
 use Rattle.base.specs.Refusal as refusal
 use Rattle.grammar.specs.Reading.{checkOf, readingOf}
@@ -18,8 +18,9 @@ use Rattle.shortest.proofs.Outcome.{accepted-where, outcome, outcome-is}
 use Rattle.shortest.proofs.Output.{refused-output, accepted-output}
 use Rattle.units.specs.Records.{recordsOf}
 use Rattle.units.proofs.Records.{records-read}
-use Rattle.program.specs.Printed.{room, refusalLine, printedOf, storedIn}
-use Rattle.program.proofs.Texts.{stored-fits, stored-not}
+use Rattle.refusal_line.specs.Line.{refusalLine, storedIn}
+use Rattle.program.specs.Printed.{room, printedOf}
+use Rattle.refusal_line.proofs.Texts.{stored-fits, stored-not}
 
 pub record Form (s out : List ℕ) (count : ℕ) : Type 0 where
   pub counts : count ≡ length (printedOf s)
@@ -149,11 +150,10 @@ module _ (s out : List ℕ) (a : Answer) (is : a ≡ shortestAnswer s room (leng
   -- by whether the string is accepted
   by-check : {X : Type 0} → ((checkOf s .number ≡ refusal.accepted → ⊥) → a ≡ checkOf s → X)
       → ((ok : checkOf s .number ≡ refusal.accepted) → a ≡ writerAnswer (recordsOf s) s room (length out) → X) → X
-  by-check {X} f g = go (eqb (checkOf s .number) refusal.accepted) refl
-    where
-      go : (b : Bool) → eqb (checkOf s .number) refusal.accepted ≡ b → X
-      go true e = let ok = eqb-true (checkOf s .number) refusal.accepted e in g ok (is ∙ answers-writer s ok (length out))
-      go false e = let no = eqb-false (checkOf s .number) refusal.accepted e in f no (is ∙ answers-check s no (length out))
+  by-check f g =
+      test (eqb (checkOf s .number) refusal.accepted)
+      (λ e. let ok = eqb-true (checkOf s .number) refusal.accepted e in g ok (is ∙ answers-writer s ok (length out)))
+      (λ e. let no = eqb-false (checkOf s .number) refusal.accepted e in f no (is ∙ answers-check s no (length out)))
 
   outcome-of : a ≡ writerAnswer (recordsOf s) s room (length out) → Outcome (recordsOf s) s room (length out) (a .number) (a .place) (a .count)
   outcome-of e = outcome (recordsOf s) s room (length out) (a .number) (a .place) (a .count) .0 (sym e)

@@ -1,12 +1,12 @@
 -- What the program prints for an input: its shortest form, or a line with the refusal (rules P2 to P4).
-use Prim.Native.Nat.{ℕ, zero, suc, _+_, _/_, _%_}
-use mathlib.Core.List.{List, [], _∷_, _++_}
-use lib.ListN.{length, drop}
-use lib.Dec.{eqb, leb, ltb}
+use Prim.Native.Nat.{ℕ}
+use mathlib.Core.List.{List}
+use lib.Dec.{eqb}
 use Rattle.base.specs.Choice.{pick}
 use Rattle.base.specs.Limit as limit
 use Rattle.base.specs.Refusal as refusal
 use Rattle.grammar.specs.Reading.{readingOf}
+use Rattle.refusal_line.specs.Line.{refusalLine}
 use Rattle.rewrite.specs.Shortest.{shortestAnswer}
 use Rattle.shortest.specs.Records.{workRoom}
 use Rattle.shortest.specs.Writing.{writing}
@@ -16,31 +16,8 @@ use Rattle.state.specs.State.{fresh}
 abbrev pub room : ℕ
 room = workRoom 909
 
--- the octet of a digit, 30 to 39
-abbrev pub digit : ℕ → ℕ
-digit d = 0x30 + d
-
--- the decimal digits of a number that has at most k + 1, the first digit first and no zero before it
-unfoldable pub digits : ℕ → ℕ → List ℕ
-digits zero n = digit n ∷ []
-digits (suc k) n = pick (ltb n 10) (digit n ∷ []) (digits k (n / 10) ++ (digit (n % 10) ∷ []))
-
--- every number of the machine has at most 20
-abbrev pub decimal : ℕ → List ℕ
-decimal n = digits 19 n
-
--- `refused N at P` and a newline
-unfoldable pub refusalLine : ℕ → ℕ → List ℕ
-refusalLine number place =
-    (0x72 ∷ 0x65 ∷ 0x66 ∷ 0x75 ∷ 0x73 ∷ 0x65 ∷ 0x64 ∷ 0x20 ∷ [])
-    ++ (decimal number ++ ((0x20 ∷ 0x61 ∷ 0x74 ∷ 0x20 ∷ []) ++ (decimal place ++ (0x0A ∷ []))))
-
 -- the octets that are printed, for an output of as many octets as a string may have
 unfoldable pub printedOf : List ℕ → List ℕ
 printedOf s =
     let a = shortestAnswer s room limit.octets in
     pick (eqb (a .number) refusal.accepted) (writing (readingOf s) (fresh .sets)) (refusalLine (a .number) (a .place))
-
--- an output after a text was stored from its first place on; the rest stays, and all of it where the text has more octets
-unfoldable pub storedIn : List ℕ → List ℕ → List ℕ
-storedIn text out = pick (leb (length text) (length out)) (text ++ drop (length text) out) out

@@ -3,12 +3,11 @@ ghost use Prim.Native.Nat.{_+_, _≤_};
 ghost use mathlib.Core.Path.{_≡_};
 ghost use lib.ListN.{length, take};
 ghost use Rattle.base.specs.Limit.{octets};
-ghost use Rattle.rewrite.specs.Shortest.{shortestAnswer};
-ghost use Rattle.program.specs.Printed.{room, printedOf, storedIn};
+ghost use Rattle.refusal_line.specs.Line.{storedIn};
+ghost use Rattle.rewrite.specs.Shortest.{shortestAnswer, shortestOutput};
+ghost use Rattle.program.specs.Printed.{room, printedOf};
 use base::Answer;
 use base::refusal;
-
-pub mod line;
 
 // The octets of work room: 72 × (909 + 1).
 const WORK_ROOM: usize = 65520;
@@ -34,6 +33,15 @@ pub fn output_room() -> [u8; 65535]
     [0; 65535]
 }
 
+// Writes the shortest string that reads as s does, in the work room of the program.
+fn shorten(s: &[u8], out: &mut [u8]) -> Answer
+    ensures { λ r. ⌜ (r ≡ shortestAnswer (now (s .entry)) room (length (now (out .entry))))
+        × (now (out .exit) ≡ shortestOutput (now (s .entry)) room (now (out .entry))) ⌝ }
+{
+    let mut work = [0u8; WORK_ROOM];
+    rewrite::shortest(s, &mut work, out)
+}
+
 // Stores what is printed for the input s from the output's first place on, and the rest of the output stays; where it has too few octets
 // all of it stays. With 65,535 octets it never has.
 pub fn print(s: &[u8], out: &mut [u8]) -> Printed
@@ -42,8 +50,7 @@ pub fn print(s: &[u8], out: &mut [u8]) -> Printed
         × (now (out .exit) ≡ storedIn (printedOf (now (s .entry))) (now (out .entry)))
         × (octets ≤ length (now (out .entry)) → r .length ≤ length (now (out .entry))) ⌝ }
 {
-    let mut work = [0u8; WORK_ROOM];
-    let a = rewrite::shortest(s, &mut work, out);
+    let a = shorten(s, out);
     if a.number == refusal::ACCEPTED {
         return Printed {
             answer: a,
@@ -57,7 +64,7 @@ pub fn print(s: &[u8], out: &mut [u8]) -> Printed
             length: a.count,
         };
     }
-    let n = line::refused(a.number, a.place, out);
+    let n = refusal_line::refused(a.number, a.place, out);
     Printed {
         answer: a,
         length: n,

@@ -1,6 +1,6 @@
 -- The units of an accepted string, one after the other from a place and a state on: where the units to come are those of a list, the next
 -- unit is its first, and after it those to come are the rest (`next`).
-use Rattle.element.proofs.Names.{ℕ, suc, _+_, _≤_, arith, _≡_, refl, sym, _∙_, List, [], _∷_, length, UnitRecord, fresh, State}
+use Rattle.element.proofs.Names.{ℕ, _+_, _≤_, arith, _≡_, refl, List, _∷_, length, UnitRecord, fresh, State}
 use Rattle.base.specs.Limit as limit
 use Rattle.grammar.specs.Reading.{Elements, size, elementsOf}
 use Rattle.grammar.proofs.Places.{Ahead, ends, stops, passes, reads, from-start}

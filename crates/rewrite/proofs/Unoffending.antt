@@ -1,7 +1,7 @@
 -- No record of an accepted string offends: the string reads as its records do, so that the check of a list goes through all of them (`fine-end`),
 -- and so through the first k (`fine-at`).
-use Rattle.element.proofs.Names.{ℕ, zero, suc, _≤_, arith, _≡_, refl, sym, ap, _∙_, subst, Bool, true, false, List, leb, length, getD, leb-true}
-use Rattle.element.proofs.Names.{leb-false, UnitRecord, Directions}
+use Rattle.element.proofs.Names.{ℕ, zero, suc, _≤_, arith, _≡_, refl, sym, _∙_, subst, List, leb, length, getD, leb-true}
+use Rattle.element.proofs.Names.{UnitRecord, Directions, clash, test, tested}
 use Rattle.base.specs.Refusal as refusal
 use Rattle.grammar.specs.Reading.{Octets, checkOf, readingOf}
 use Rattle.check_list.specs.Turn.{turnOf}
@@ -9,7 +9,7 @@ use Rattle.check_list.specs.declared.Progress.{Progress}
 use Rattle.check_list.specs.declared.Progress.the-variants.{Fine, Faulty}
 use Rattle.check_list.proofs.Turns.{fine-faulty}
 use Rattle.shortest.specs.Offence.{noRecord}
-use Rattle.shortest.specs.Records.{Finding, fine, faulty}
+use Rattle.shortest.specs.Records.{fine}
 use Rattle.shortest.proofs.Offence.{no-offence}
 use Rattle.shortest.proofs.Records.{read-list}
 use Rattle.units.specs.Records.{recordsOf}
@@ -22,15 +22,10 @@ pub record FineAt (o : List ℕ) (rs : List UnitRecord) (k : ℕ) : Type 0 where
   pub directions : Directions
   pub is : reached o rs k ≡ Fine directions
 
--- the check of none finds nothing else
-abbrev Fault : Finding → Type 0
-Fault fine = ⊥
-Fault (faulty n i) = Unit
-
 module _ (o : List ℕ) (rs : List UnitRecord) where
   by-finding : (k : ℕ) (p : Progress) → reached o rs k ≡ p → fine ≡ checkedOf p → FineAt o rs k
   by-finding k (Fine d) q e = record { directions = d; is = q }
-  by-finding k (Faulty n i) q e = absurd (subst Fault (sym e) tt)
+  by-finding k (Faulty n i) q e = clash (cc e)
 
   -- a fault stays, so that there was none before
   one-before : (k : ℕ) → FineAt o rs (suc k) → FineAt o rs k
@@ -43,11 +38,8 @@ module _ (o : List ℕ) (rs : List UnitRecord) where
 
   pub before : (n : ℕ) → FineAt o rs n → (k : ℕ) → k ≤ n → FineAt o rs k
   before zero h k l = subst (FineAt o rs) (let z : 0 ≡ k = omega arith in z) h
-  before (suc n) h k l = go (leb k n) refl (λ m. before n (one-before n h) k m)
-    where
-      go : (b : Bool) → leb k n ≡ b → (k ≤ n → FineAt o rs k) → FineAt o rs k
-      go true q f = f (leb-true k n q)
-      go false q f = let m = leb-false k n q in subst (FineAt o rs) (let z : suc n ≡ k = omega arith in z) h
+  before (suc n) h k l =
+      test (leb k n) (λ q. before n (one-before n h) k (leb-true k n q)) (λ q. subst (FineAt o rs) (let z : suc n ≡ k = omega tested in z) h)
 
 module _ (s : List ℕ) (octets : Octets s) (accepted : checkOf s .number ≡ refusal.accepted) where
   pub fine-end : FineAt s (recordsOf s) (length (recordsOf s))

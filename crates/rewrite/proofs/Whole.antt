@@ -1,7 +1,6 @@
 -- The answer and the output of the writer, once the units of an accepted string stand in their rows, are those of its shortest form: the
 -- string has as many records as it has units, no more than a list may have, and `finished` says the rest.
-use Rattle.element.proofs.Names.{ℕ, _+_, _≤_, zero-le, arith, _≡_, refl, ap, sym, _∙_, subst, List, length, eq-eqb, ne-eqb, le-leb, pick, Answer}
-use Rattle.element.proofs.Names.{UnitRecord}
+use Rattle.element.proofs.Names.{ℕ, _≤_, zero-le, arith, _≡_, ap, sym, _∙_, List, length, eq-eqb, ne-eqb, le-leb, pick, Answer}
 use Rattle.base.specs.Limit as limit
 use Rattle.base.specs.Refusal as refusal
 use Rattle.grammar.specs.Reading.{Octets, checkOf}

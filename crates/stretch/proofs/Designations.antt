@@ -1,8 +1,8 @@
 -- A designation that is found by its octets is the reader's element: where its set is one of the fifteen, the final octet is one that the
 -- table has, and the octets before it lead to its form.
-use Rattle.element.proofs.Names.{ℕ, _+_, _-_, _<_, _≤_, arith, _≡_, refl, ap, sym, _∙_, subst, Bool, true, false, List, [], _∷_, eqb, length, getD}
-use Rattle.element.proofs.Names.{eqb-true, pick, from, on-eq, on-ne, on-lt, on-ge, from-octet, from-length, form-96, form-94x94, no-set, setOf, Side, GL, GR}
-use Rattle.element.proofs.Names.{next, designatedOf, Sets, State, Shape, Designates, Silent}
+use Rattle.element.proofs.Names.{ℕ, _+_, _-_, _<_, _≤_, arith, _≡_, refl, ap, sym, _∙_, subst, List, [], _∷_, eqb, length, getD}
+use Rattle.element.proofs.Names.{eqb-true, pick, pick-by, from, on-eq, on-ne, on-lt, on-ge, from-octet, from-length, form-96, form-94x94, no-set, setOf}
+use Rattle.element.proofs.Names.{Side, GL, GR, next, designatedOf, Sets, State, Shape, Designates, Silent}
 use Rattle.charset.specs.Charsets.{form-94}
 use Rattle.charset.proofs.Laws.{final-range}
 use Rattle.control.specs.Escape.{designatesOf, designationOf, multiOctetOf, escapeOf}
@@ -62,11 +62,6 @@ module _ (form : ℕ) (side : Side) (last : ℕ) (named : setOf form side last <
 data Is (t : List ℕ) (s : Sets) : Designation → Type 0 where
   is : {d : Designation} → (d .set < no-set → Designates (d .octets) (d .side) (d .set) ≡ shapeOf t s) → Is t s d
 
-by : {t : List ℕ} {s : Sets} {x y : Designation} (q : Bool) → (q ≡ true → Is t s x) → (q ≡ false → Is t s y) → Is t s (pick q x y)
-unfolding pick
-by true f g = f refl
-by false f g = g refl
-
 no : {t : List ℕ} {s : Sets} → Is t s quick.absent
 no = is {d = quick.absent} (λ h. absurd (omega arith))
 
@@ -74,19 +69,19 @@ module _ (t : List ℕ) (s : Sets) where
   multi-octet : (c d : ℕ) → Is (0x1B ∷ 0x24 ∷ c ∷ d ∷ t) s (quick.multiOctetAt c d)
   unfolding quick.multiOctetAt shapeOf startOf begunBy escapeOf multiOctetOf next pick
   multi-octet c d =
-      by (eqb c 0x28) (λ e. rw (eqb-true c 0x28 e) (is {d = quick.byFinalOf 4 form-94x94 GL d} (λ h. four-octets form-94x94 GL d h refl t)))
-      (λ _. by (eqb c 0x29) (λ e. rw (eqb-true c 0x29 e)
+      pick-by (Is _ s) (eqb c 0x28) (λ e. rw (eqb-true c 0x28 e) (is {d = quick.byFinalOf 4 form-94x94 GL d} (λ h. four-octets form-94x94 GL d h refl t)))
+      (λ _. pick-by (Is _ s) (eqb c 0x29) (λ e. rw (eqb-true c 0x29 e)
       (is {d = quick.byFinalOf 4 form-94x94 GR d} (λ h. four-octets form-94x94 GR d h refl t))) (λ _. no))
 
   sequence : (b c d : ℕ) → Is (0x1B ∷ b ∷ c ∷ d ∷ t) s (quick.sequenceOf b c d)
   unfolding quick.sequenceOf shapeOf startOf begunBy escapeOf next pick
   sequence b c d =
-      by (eqb b 0x24) (λ e. rw (eqb-true b 0x24 e) (multi-octet c d))
-      (λ _. by (eqb b 0x28) (λ e. rw (eqb-true b 0x28 e)
+      pick-by (Is _ s) (eqb b 0x24) (λ e. rw (eqb-true b 0x24 e) (multi-octet c d))
+      (λ _. pick-by (Is _ s) (eqb b 0x28) (λ e. rw (eqb-true b 0x28 e)
       (is {d = quick.byFinalOf 3 form-94 GL c} (λ h. three-octets form-94 GL c h (λ q. omega arith) (d ∷ t))))
-      (λ _. by (eqb b 0x29) (λ e. rw (eqb-true b 0x29 e)
+      (λ _. pick-by (Is _ s) (eqb b 0x29) (λ e. rw (eqb-true b 0x29 e)
       (is {d = quick.byFinalOf 3 form-94 GR c} (λ h. three-octets form-94 GR c h (λ q. omega arith) (d ∷ t))))
-      (λ _. by (eqb b 0x2D) (λ e. rw (eqb-true b 0x2D e)
+      (λ _. pick-by (Is _ s) (eqb b 0x2D) (λ e. rw (eqb-true b 0x2D e)
       (is {d = quick.byFinalOf 3 form-96 GR c} (λ h. three-octets form-96 GR c h (λ q. omega arith) (d ∷ t)))) (λ _. no))))
 
 shape : (t : List ℕ) (s : Sets) → Is t s (quick.designationAt t)
@@ -95,7 +90,7 @@ shape [] s = no
 shape (a ∷ []) s = no
 shape (a ∷ b ∷ []) s = no
 shape (a ∷ b ∷ c ∷ []) s = no
-shape (a ∷ b ∷ c ∷ d ∷ t) s = by (eqb a 0x1B) (λ e. rw (eqb-true a 0x1B e) (sequence t s b c d)) (λ _. no)
+shape (a ∷ b ∷ c ∷ d ∷ t) s = pick-by (Is _ s) (eqb a 0x1B) (λ e. rw (eqb-true a 0x1B e) (sequence t s b c d)) (λ _. no)
 
 pub designation-silent : (t : List ℕ) (st : State) (d : Designation) → d ≡ quick.designationAt t → d .set < no-set
     → Silent (d .octets) (designatedOf (d .side) (d .set) st) ≡ elementOf t st

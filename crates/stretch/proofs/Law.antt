@@ -2,7 +2,7 @@
 -- themselves. Where each of the tests that pass says that an element of `suc w` octets starts there and leaves the state, as many tests as
 -- pass are as many elements, and then those after.
 use Rattle.element.proofs.Names.{ℕ, zero, suc, _+_, _*_, _-_, _≤_, zero-le, arith, _≡_, refl, ap, sym, _∙_, subst, Bool, true, false, List, [], _∷_}
-use Rattle.element.proofs.Names.{length, pick, from, Answer, from-length, State, Part, Element, Found}
+use Rattle.element.proofs.Names.{length, pick, from, from-length, State, Part, Element, Found}
 use native.Mathlib.Nat.{zero-add, mul-suc, suc-add}
 use Rattle.base.proofs.Ladder.{from-from}
 use Rattle.element.specs.Element.{elementOf}

@@ -1,5 +1,5 @@
 -- A stretch's octets are as many elements as it has units (`stretch-ahead`): each of the three kinds of stretch is the law of its width.
-use Rattle.element.proofs.Names.{ℕ, _*_, _<_, _≤_, arith, _≡_, refl, sym, subst, Bool, true, false, List, _∷_, eqb, ltb, length, pick, from, on-lt}
+use Rattle.element.proofs.Names.{ℕ, _*_, _<_, _≤_, arith, _≡_, refl, sym, subst, Bool, true, false, List, _∷_, eqb, ltb, length, pick, pick-by, from, on-lt}
 use Rattle.element.proofs.Names.{on-ge, from-end, from-length, form-94x94, formOf, Side, GL, GR, get, State}
 use Rattle.element.specs.Element.{elementOf}
 use Rattle.element.proofs.Starts.{wideIn}
@@ -47,11 +47,6 @@ module _ (s : List ℕ) (at : ℕ) (st : State) where
   data Passes : Stretch → Type 0 where
     passes : {r : Stretch} → (0 < r .octets → Ahead s at (r .octets) (r .units) st) → Passes r
 
-  by : {x y : Stretch} (q : Bool) → (q ≡ true → Passes x) → (q ≡ false → Passes y) → Passes (pick q x y)
-  unfolding pick
-  by true f g = f refl
-  by false f g = g refl
-
   nothing : Passes (stretch 0 0)
   nothing = passes {r = stretch 0 0} (λ h. absurd (omega arith))
 
@@ -67,7 +62,7 @@ module _ (s : List ℕ) (at : ℕ) (st : State) where
     -- characters of two octets on a side, which are elements of the state
     twos : (d : Side) → Passes (twosOf (formOf (get d (st .sets))) (number d) (from at s))
     twos d =
-        by (wideIn d (st .sets))
+        pick-by Passes (wideIn d (st .sets))
         (λ w.
         let n : ℕ = pairsOf (number d) (from at s) in
         let one = two-octets st settled d w in
@@ -77,11 +72,11 @@ module _ (s : List ℕ) (at : ℕ) (st : State) where
 
     forms : Passes (byFormsOf (formOf (st .sets .gl)) (formOf (st .sets .gr)) (from at s))
     unfolding byFormsOf
-    forms = by _ (λ _. twos GL) (λ _. by _ (λ _. twos GR) (λ _. singles inside _ _ (one-octet st settled)))
+    forms = pick-by Passes _ (λ _. twos GL) (λ _. pick-by Passes _ (λ _. twos GR) (λ _. singles inside _ _ (one-octet st settled)))
 
   stretches : at ≤ length s → Passes (stretchAt (from at s) st)
   unfolding stretchAt
-  stretches inside = by (settledOf (st .directions)) (λ settled. forms inside settled) (λ _. singles inside _ _ (blank-octet st))
+  stretches inside = pick-by Passes (settledOf (st .directions)) (λ settled. forms inside settled) (λ _. singles inside _ _ (blank-octet st))
 
   pub stretch-ahead : (r : Stretch) → r ≡ stretchAt (from at s) st → at ≤ length s → 0 < r .octets → Ahead s at (r .octets) (r .units) st
   stretch-ahead r e inside h = given (subst Passes (sym e) (stretches inside)) h

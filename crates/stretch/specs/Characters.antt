@@ -1,6 +1,6 @@
 -- Stretches of units of one width, as the reading's code passes them. That they are the reader's elements is proved (`stretch-ahead`),
 -- so that nothing here has to be believed.
-use Prim.Native.Nat.{ℕ, zero, suc, _+_, _*_, _-_, _%_, _/_, _<_, _≤_}
+use Prim.Native.Nat.{ℕ, zero, suc, _+_, _*_, _-_, _%_, _/_, _≤_}
 use mathlib.Core.Path.{_≡_}
 use mathlib.Core.Bool.{Bool, true, false}
 use mathlib.Core.List.{List, [], _∷_}

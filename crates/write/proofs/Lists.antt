@@ -1,7 +1,7 @@
 -- The check record by record is that of the whole list, and the rows of a list with no offending record hold its units.
 use Rattle.element.proofs.Names.{ℕ, zero, suc, _+_, _*_, _/_, _≤_, _<_, arith, _≡_, refl, sym, ap, ap₂, _∙_, subst, Bool, true, false, List, []}
 use Rattle.element.proofs.Names.{_∷_, _⊎_, inl, inr, ⊎-elim, Option, none, some, Option·some-injective, ltb, leb, length, getD, set, drop, length-set}
-use Rattle.element.proofs.Names.{sets, ltb-true, ltb-false, lt-ltb, pick, UnitRecord, undirected, Directions, Step, Goes, Stops}
+use Rattle.element.proofs.Names.{sets, ltb-true, lt-ltb, pick, pick-by, test, tested, UnitRecord, undirected, Directions, Step, Goes, Stops}
 use mathlib.Core.Option.{Option·none-ne-some}
 use lib.ListN.{drop-of-length-le}
 use lib.Seq.{length-sets, getD-set-same, getD-set-other, drop-cons}
@@ -12,13 +12,12 @@ use Rattle.shortest.specs.Records.{fault, Finding, fine, faulty, onStep, checkR
 use Rattle.shortest.specs.Offence.{noRecord}
 use Rattle.shortest.specs.Writing.{Good}
 use Rattle.rows.specs.Rows.{startFrom, unitTagged, unitFrom, unitsIn, tagOf, sevenOctets, withRecord}
-use Rattle.check_list.specs.Plain.{plainOf}
+use Rattle.record_rules.specs.Plain.{plainOf}
 use Rattle.check_list.specs.Turn.{begun, onFault, turnOf, roomAfter, quickAfter, lookedAt}
 use Rattle.check_list.specs.declared.Progress.{Progress}
 use Rattle.check_list.specs.declared.Progress.the-variants.{Fine, Faulty}
 use Rattle.check_list.proofs.Fits.{fits}
-use Rattle.check_list.proofs.Quick.{quick-goes, quick-room}
-use Rattle.check_list.proofs.Turns.{fine-faulty}
+use Rattle.check_list.proofs.Turns.{fine-faulty, quick-goes, quick-room}
 use Rattle.write.specs.Stowed.{reached, HoldsRecord, Stowed, quickRun, Passed}
 
 -- ---- the check
@@ -83,12 +82,8 @@ sets-in l i (v ∷ vs) (suc q) h k =
     ∙ sets-in (set l i v) (suc i) vs q (omega (arith, length-set l i v)) (omega arith)
 
 length-with : (w : List ℕ) (i : ℕ) (r : UnitRecord) → length (withRecord w i r) ≡ length w
-unfolding withRecord pick
-length-with w i r = go (ltb i (length w / 72))
-  where
-    go : (b : Bool) → length (pick b (sets w (72 * i + 65) (sevenOctets r)) w) ≡ length w
-    go true = length-sets w (72 * i + 65) (sevenOctets r)
-    go false = refl
+unfolding withRecord
+length-with w i r = pick-by (λ (v : List ℕ). length v ≡ length w) (ltb i (length w / 72)) (λ _. length-sets w (72 * i + 65) (sevenOctets r)) (λ _. refl)
 
 pub length-room : (p : Progress) (r : UnitRecord) (i : ℕ) (w : List ℕ) → length (roomAfter p r i w) ≡ length w
 unfolding roomAfter
@@ -100,12 +95,10 @@ unfolding withRecord pick
 holds-new w i r h q k = rw (lt-ltb i (length w / 72) (omega arith)) (sets-in w (72 * i + 65) (sevenOctets r) q (omega arith) k)
 
 holds-old : (w : List ℕ) (i j : ℕ) (r s : UnitRecord) → j < i → HoldsRecord w j s → HoldsRecord (withRecord w i r) j s
-unfolding withRecord pick
-holds-old w i j r s l h q k = go (ltb i (length w / 72))
-  where
-    go : (b : Bool) → getD (pick b (sets w (72 * i + 65) (sevenOctets r)) w) (72 * j + 65 + q) 0 ≡ getD (sevenOctets s) q 0
-    go true = sets-out w (72 * i + 65) (sevenOctets r) (72 * j + 65 + q) (inl (omega arith)) ∙ h q k
-    go false = h q k
+unfolding withRecord
+holds-old w i j r s l h q k =
+    pick-by (λ v. getD v (72 * j + 65 + q) 0 ≡ getD (sevenOctets s) q 0) (ltb i (length w / 72))
+    (λ _. sets-out w (72 * i + 65) (sevenOctets r) (72 * j + 65 + q) (inl (omega arith)) ∙ h q k) (λ _. h q k)
 
 pub stowed-none : (o : List ℕ) (rs : List UnitRecord) (w : List ℕ) → Stowed o rs 0 w w
 stowed-none o rs w = record { same = refl; rows = λ d e i h. absurd (omega arith) }
@@ -116,26 +109,21 @@ unfolding reached turnOf roomAfter
 stowed-next o rs k before after s =
     record {
       same = length-room (turnOf o r k (reached o rs k)) r k after ∙ s .same;
-      rows = λ d e i h m. by-progress (reached o rs k) refl d e i h m;
+      rows = by-progress (reached o rs k) refl;
     }
   where
     r : UnitRecord
     r = getD rs k noRecord
-
-    row : (d d′ : Directions) → reached o rs k ≡ Fine d′ → (i : ℕ) → i < suc k → 72 * i + 72 ≤ length before → (t : Bool)
-        → ltb i k ≡ t → HoldsRecord (withRecord after k r) i (getD rs i noRecord)
-    row d d′ e i h m true q = let l = ltb-true i k q in holds-old after k i r (getD rs i noRecord) l (s .rows d′ e i l m)
-    row d d′ e i h m false q =
-        let l = ltb-false i k q in
-        let z : k ≡ i = omega arith in
-        subst (λ (j : ℕ). HoldsRecord (withRecord after k r) j (getD rs j noRecord)) z (holds-new after k r (omega (arith, s .same)))
 
     by-progress : (p : Progress) → reached o rs k ≡ p → (d : Directions) → turnOf o r k p ≡ Fine d → (i : ℕ) → i < suc k
         → 72 * i + 72 ≤ length before
         → HoldsRecord (roomAfter (turnOf o r k p) r k after) i (getD rs i noRecord)
     by-progress (Faulty n j) ep d e i h m = absurd (fine-faulty n j d e)
     by-progress (Fine d′) ep d e i h m =
-        subst (λ (q : Progress). HoldsRecord (roomAfter q r k after) i (getD rs i noRecord)) (sym e) (row d d′ ep i h m (ltb i k) refl)
+        subst (λ (q : Progress). HoldsRecord (roomAfter q r k after) i (getD rs i noRecord)) (sym e)
+        (test (ltb i k) (λ q. let l = ltb-true i k q in holds-old after k i r (getD rs i noRecord) l (s .rows d′ ep i l m))
+        (λ q. let z : k ≡ i = omega tested in
+        subst (λ (j : ℕ). HoldsRecord (withRecord after k r) j (getD rs j noRecord)) z (holds-new after k r (omega (arith, s .same)))))
 
 -- ---- the units of the rows
 
@@ -181,12 +169,8 @@ rows-units o w (r ∷ rs) i us h e g = go (unitRead o r) (listReading o rs) refl
 -- ---- for the loop
 
 pub looked-most : (n : ℕ) → lookedAt n ≤ n
-unfolding lookedAt pick
-looked-most n = go (leb n limit.units)
-  where
-    go : (b : Bool) → pick b n 0 ≤ n
-    go true = omega arith
-    go false = omega arith
+unfolding lookedAt
+looked-most n = pick-by (λ m. m ≤ n) (leb n limit.units) (λ _. omega arith) (λ _. omega arith)
 
 pub reached-next : (o : List ℕ) (rs : List UnitRecord) (k : ℕ) → turnOf o (getD rs k noRecord) k (reached o rs k) ≡ reached o rs (suc k)
 unfolding reached
@@ -214,18 +198,13 @@ run-goes rs zero k i e t = absurd (omega arith)
 run-goes rs (suc m) k i e t = rw t (ap (λ (j : ℕ). quickRun rs j (suc i)) (let z : k ≡ m = omega arith in z))
 
 pub run-most : (rs : List UnitRecord) (m i : ℕ) → quickRun rs m i ≤ i + m
-unfolding quickRun pick
+unfolding quickRun
 run-most rs zero i = omega arith
-run-most rs (suc m) i = go (plainOf (getD rs i noRecord)) (run-most rs m (suc i))
-  where
-    go : (b : Bool) → quickRun rs m (suc i) ≤ suc i + m → pick b (quickRun rs m (suc i)) i ≤ i + suc m
-    go true h = omega arith
-    go false h = omega arith
+run-most rs (suc m) i =
+    pick-by (λ k. k ≤ i + suc m) (plainOf (getD rs i noRecord)) (λ _. omega (arith, run-most rs m (suc i))) (λ _. omega arith)
 
 pub length-quick : (b : Bool) (r : UnitRecord) (i : ℕ) (w : List ℕ) → length (pick b (withRecord w i r) w) ≡ length w
-unfolding pick
-length-quick true r i w = length-with w i r
-length-quick false r i w = refl
+length-quick b r i w = pick-by (λ (v : List ℕ). length v ≡ length w) b (λ _. length-with w i r) (λ _. refl)
 
 pub passed-none : (p : Progress) (rs : List UnitRecord) (i : ℕ) (w : List ℕ) → Passed p rs i i w w
 passed-none p rs i w = record { onwards = omega arith; same = refl; stays = λ o e. e; stowed = λ o room e s. s }

@@ -13,7 +13,7 @@ use Rattle.base.specs.declared.Unit.{Unit as UnitRecord}
 use Rattle.state.specs.declared.directions.Directions.{Directions}
 use Rattle.shortest.specs.Offence.{noRecord}
 use Rattle.rows.specs.Rows.{sevenOctets}
-use Rattle.check_list.specs.Plain.{plainOf}
+use Rattle.record_rules.specs.Plain.{plainOf}
 use Rattle.check_list.specs.Turn.{begun, turnOf, quickUntil}
 use Rattle.check_list.specs.declared.Progress.{Progress}
 use Rattle.check_list.specs.declared.Progress.the-variants.{Fine, Faulty}

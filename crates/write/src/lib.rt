@@ -4,8 +4,7 @@ ghost use Prim.Native.Nat.{_≤_};
 ghost use lib.ListN.{length};
 ghost use Rattle.shortest.specs.Records.{writerAnswer, writerOutput};
 ghost use Rattle.shortest.specs.Demand3.{Demand3For};
-ghost use Rattle.check_list.specs.Turn.{lookedAt};
-ghost use Rattle.write.specs.Stowed.{reached, Stowed, quickEnd, Passed, finishAnswer, finishOutput};
+ghost use Rattle.write.specs.Stowed.{quickEnd, Passed, finishAnswer, finishOutput};
 use base::Answer;
 use base::Unit;
 use base::limit;
@@ -31,22 +30,6 @@ fn stow_quickly(progress: Progress, units: &[Unit], from: usize, n: usize, work:
     i
 }
 
-// Checks each record, and puts it into its row of the work room.
-fn stow(units: &[Unit], segments: &[u8], work: &mut [u8]) -> Progress
-    ensures { λ r. ⌜ (r ≡ reached (now (segments .entry)) (now (units .entry)) (lookedAt (length (now (units .entry)))))
-        × Stowed (now (segments .entry)) (now (units .entry)) (lookedAt (length (now (units .entry)))) (now (work .entry)) (now (work .exit)) ⌝ }
-{
-    let n = check_list::looked_at(units.len());
-    let mut progress = check_list::begin();
-    let mut i: usize = 0;
-    while i < n {
-        progress = check_list::turn(progress, units[i], i, segments, work);
-        let next = stow_quickly(progress, units, i + 1, n, work);
-        i = next;
-    }
-    progress
-}
-
 // The answer once the list is checked.
 pub fn finish(
     progress: Progress,
@@ -68,14 +51,22 @@ pub fn finish(
     }
 }
 
-// Writes the units of a list, whose extended segments stand in the octets lent, as the shortest string, or answers why not. The work room
-// is to have 72 octets for each unit and 72 more. What it holds after is left open; it keeps its length.
+// Writes the units of a list, whose extended segments stand in the octets lent, as the shortest string, or answers why not: each record is
+// checked, and put into its row of the work room. The work room is to have 72 octets for each unit and 72 more. What it holds after is left
+// open; it keeps its length.
 pub fn write(units: &[Unit], segments: &[u8], work: &mut [u8], out: &mut [u8]) -> Answer
     ensures { λ r. ⌜ (r ≡ writerAnswer (now (units .entry)) (now (segments .entry)) (length (now (work .entry))) (length (now (out .entry))))
         × (now (out .exit) ≡ writerOutput (now (units .entry)) (now (segments .entry)) (length (now (work .entry))) (now (out .entry)))
         × (length (now (work .exit)) ≡ length (now (work .entry)))
         × Demand3For (now (units .entry)) (now (segments .entry)) (length (now (work .entry))) (now (out .entry)) r (now (out .exit)) ⌝ }
 {
-    let progress = stow(units, segments, work);
+    let n = check_list::looked_at(units.len());
+    let mut progress = check_list::begin();
+    let mut i: usize = 0;
+    while i < n {
+        progress = check_list::turn(progress, units[i], i, segments, work);
+        let next = stow_quickly(progress, units, i + 1, n, work);
+        i = next;
+    }
     finish(progress, units.len(), segments, work, out)
 }

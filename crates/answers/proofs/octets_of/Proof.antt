@@ -1,5 +1,5 @@
 -- `octets_of` stores within the octets it is lent: the invariant is that `k` is at most their number, which stays.
-use Rattle.element.proofs.Names.{arith, _≡_, refl, sym, _≤_, _-_, _/_, length, length-set, length-take-le}
+use Rattle.element.proofs.Names.{arith, _≡_, sym, _≤_, _-_, _/_, length, length-set, length-take-le}
 use Rattle.answers.proofs.octets_of.Statement.{statement}
 use Rattle.answers.proofs.octets_of.Tie as tie
 

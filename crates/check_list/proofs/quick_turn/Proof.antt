@@ -1,6 +1,6 @@
 -- `check_list::quick_turn` meets its contract, by what the quick check says.
 use Rattle.element.proofs.Names.{arith, sym, _∙_, pick}
-use Rattle.check_list.proofs.Quick.{plain-stowable}
+use Rattle.check_list.proofs.Turns.{plain-stowable}
 use Rattle.check_list.proofs.quick_turn.Statement.{statement}
 use Rattle.check_list.proofs.quick_turn.Tie as tie
 

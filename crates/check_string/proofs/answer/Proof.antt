@@ -4,8 +4,5 @@ use Rattle.check_string.specs.declared.Checked.{Checked}
 use Rattle.check_string.proofs.answer.Statement.{statement}
 use Rattle.check_string.proofs.answer.Tie as tie
 
-returns : tie.Need-returns
-returns c = ap (λ (x : Checked). x .answer) (c .before .check .ensures)
-
 pub answer-spec : {M : Type 1} → statement M
-answer-spec = tie.close (tie.spec (search arith) returns)
+answer-spec = tie.close (tie.spec (search arith) (λ c. ap (λ (x : Checked). x .answer) (c .before .check .ensures)))

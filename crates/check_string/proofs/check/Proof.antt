@@ -3,8 +3,5 @@ use Rattle.element.proofs.Names.{arith}
 use Rattle.check_string.proofs.check.Statement.{statement}
 use Rattle.check_string.proofs.check.Tie as tie
 
-returns : tie.Need-returns
-returns c = rw (c .whole .ensures)
-
 pub check-spec : {M : Type 1} → statement M
-check-spec = tie.close (tie.spec (search arith) returns)
+check-spec = tie.close (tie.spec (search arith) (λ c. rw (c .whole .ensures)))

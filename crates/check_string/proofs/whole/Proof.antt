@@ -13,19 +13,6 @@ Inv-loop s at₀ count₀ st₀ at count st = Head s at count st
 abbrev μ-loop : tie.MeasureT-loop
 μ-loop s at₀ count₀ st₀ at count st = length s - at
 
-returns : tie.Need-returns Inv-loop μ-loop
-unfolding checkOf
-returns c = on-lt _ _ _ _ _ (c .before .if1 .taken) (c .refused .ensures)
-
-loop-holds : tie.Need-loop-holds Inv-loop μ-loop
-loop-holds c = head-first _
-
-add-at : tie.Need-add-at Inv-loop μ-loop
-add-at c =
-    let head = c .before .before .before .before .before .before .loop .inv in
-    let h = turn-designation _ _ _ _ head _ (c .before .before .designation-at .ensures) (c .before .if3 .taken) in
-    omega (arith, h .fits)
-
 loop-less : tie.Need-loop-less Inv-loop μ-loop
 loop-less c =
     let head = c .before .before .before .before .before .before .before .loop .inv in
@@ -37,30 +24,6 @@ loop-again c =
     let head = c .before .before .before .before .before .before .before .loop .inv in
     let h = turn-designation _ _ _ _ head _ (c .before .before .before .designation-at .ensures) (c .before .before .if3 .taken) in
     rw (c .designated .ensures) (h .head)
-
-add-at-2 : tie.Need-add-at-2 Inv-loop μ-loop
-add-at-2 c =
-    let head = c .before .before .before .before .before .loop .inv in
-    let h = turn-stretch _ _ _ _ head _ (c .before .stretch-at .ensures) (c .if4 .taken) in
-    omega (arith, h .fits)
-
-add-count : tie.Need-add-count Inv-loop μ-loop
-add-count c =
-    let head = c .before .before .before .before .before .before .loop .inv in
-    let h = turn-stretch _ _ _ _ head _ (c .before .before .stretch-at .ensures) (c .before .if4 .taken) in
-    omega (arith, h .head .few, h .fits)
-
-loop-less-2 : tie.Need-loop-less-2 Inv-loop μ-loop
-loop-less-2 c =
-    let head = c .before .before .before .before .before .before .loop .inv in
-    let h = turn-stretch _ _ _ _ head _ (c .before .before .stretch-at .ensures) (c .before .if4 .taken) in
-    omega (arith, h .fits, h .some)
-
-loop-again-2 : tie.Need-loop-again-2 Inv-loop μ-loop
-loop-again-2 c =
-    let head = c .before .before .before .before .before .before .loop .inv in
-    let h = turn-stretch _ _ _ _ head _ (c .before .before .stretch-at .ensures) (c .before .if4 .taken) in
-    h .head
 
 returns-2 : tie.Need-returns-2 Inv-loop μ-loop
 unfolding checkOf
@@ -149,32 +112,32 @@ loop-again-4 c =
     (asked .before .before .shape4 .given .1) (asked .step .ensures) (c .before .before .before .step3 .given .1) in
     rw (c .directed .ensures) (h .head)
 
-returns-5 : tie.Need-returns-5 Inv-loop μ-loop
-unfolding checkOf
-returns-5 c =
-    let done = turn-done _ _ _ _ (c .before .before .loop .inv) (c .before .loop-test .left) in
-    on-ge _ _ _ _ _ (c .before .before .before .if1 .left) (c .accepted2 .ensures ∙ done)
-
 pub whole-spec : {M : Type 1} → statement M
+unfolding checkOf
 whole-spec =
     tie.close
     (tie.spec
     Inv-loop
     μ-loop
     (search arith)
-    returns
-    loop-holds
+    (λ c. on-lt _ _ _ _ _ (c .before .if1 .taken) (c .refused .ensures))
+    (λ c. head-first _)
     (search arith)
     (search arith)
-    add-at
+    (λ c. let head = c .before .before .before .before .before .before .loop .inv in
+    let h = turn-designation _ _ _ _ head _ (c .before .before .designation-at .ensures) (c .before .if3 .taken) in omega (arith, h .fits))
     (search arith)
     loop-less
     loop-again
     (search arith)
-    add-at-2
-    add-count
-    loop-less-2
-    loop-again-2
+    (λ c. let head = c .before .before .before .before .before .loop .inv in
+    let h = turn-stretch _ _ _ _ head _ (c .before .stretch-at .ensures) (c .if4 .taken) in omega (arith, h .fits))
+    (λ c. let head = c .before .before .before .before .before .before .loop .inv in
+    let h = turn-stretch _ _ _ _ head _ (c .before .before .stretch-at .ensures) (c .before .if4 .taken) in omega (arith, h .head .few, h .fits))
+    (λ c. let head = c .before .before .before .before .before .before .loop .inv in
+    let h = turn-stretch _ _ _ _ head _ (c .before .before .stretch-at .ensures) (c .before .if4 .taken) in omega (arith, h .fits, h .some))
+    (λ c. let head = c .before .before .before .before .before .before .loop .inv in
+    let h = turn-stretch _ _ _ _ head _ (c .before .before .stretch-at .ensures) (c .before .if4 .taken) in h .head)
     (search arith)
     (search arith)
     (search arith)
@@ -201,4 +164,5 @@ whole-spec =
     loop-less-4
     loop-again-4
     (search arith)
-    returns-5)
+    (λ c. let done = turn-done _ _ _ _ (c .before .before .loop .inv) (c .before .loop-test .left) in
+    on-ge _ _ _ _ _ (c .before .before .before .if1 .left) (c .accepted2 .ensures ∙ done)))

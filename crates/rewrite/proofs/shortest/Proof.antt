@@ -5,11 +5,6 @@ use Rattle.grammar.specs.Reading.{Octets}
 use Rattle.rewrite.proofs.shortest.Statement.{statement}
 use Rattle.rewrite.proofs.shortest.Tie as tie
 
-stow-requires : tie.Need-stow-requires
-stow-requires c κs =
-    let answer = c .before .before .before .answer .ensures in
-    (accepts _ _ answer (c .before .if1 .taken), counts _ _ answer (c .before .if1 .taken))
-
 returns : tie.Need-returns
 returns c =
     let start = c .before .before .before .before .before .before .before .before .before .before .before .before .before .before .before .before .before in
@@ -24,20 +19,16 @@ returns c =
       wrote .2 ∙ stowed .same,
     )
 
-returns-2 : tie.Need-returns-2
-returns-2 c =
-    let answer = c .before .before .answer .ensures in
-    (refused-answer _ _ answer _ _ (c .if1 .left), refused-output _ _ answer _ _ (c .if1 .left), refl)
-
 pub shortest-spec : {M : Type 1} → statement M
 shortest-spec =
     tie.close
     (tie.spec
     (search arith)
-    stow-requires
+    (λ c κs. let answer = c .before .before .before .answer .ensures in (accepts _ _ answer (c .before .if1 .taken), counts _ _ answer (c .before .if1 .taken)))
     (search arith)
     (search arith)
     (search arith)
     (search arith)
     returns
-    returns-2)
+    (λ c. let answer = c .before .before .answer .ensures in
+    (refused-answer _ _ answer _ _ (c .if1 .left), refused-output _ _ answer _ _ (c .if1 .left), refl)))

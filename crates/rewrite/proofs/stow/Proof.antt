@@ -14,12 +14,6 @@ Inv-loop s n work₀ at₀ st₀ i₀ work at st i = Head s work₀ i at st work
 abbrev μ-loop : tie.MeasureT-loop
 μ-loop s n work₀ at₀ st₀ i₀ work at st i = n - i
 
-loop-holds : tie.Need-loop-holds Inv-loop μ-loop
-loop-holds c = head-first _ _
-
-same-length : tie.Need-same-length Inv-loop μ-loop
-same-length c = c .before .before .before .before .loop .inv .stowed .same
-
 returns : tie.Need-returns Inv-loop μ-loop
 returns c =
     let loop = c .before .before .before .before .loop in
@@ -44,9 +38,6 @@ loop-again c =
     (c .before .before .before .before .before .o .given .1)
     (fine-at _ octets (start .pre .0) (suc (loop .i)) (omega arith)) (c .before .before .put .ensures)
 
-same-length-2 : tie.Need-same-length-2 Inv-loop μ-loop
-same-length-2 c = c .before .loop .inv .stowed .same
-
 returns-2 : tie.Need-returns-2 Inv-loop μ-loop
 returns-2 c =
     let few = c .before .loop .inv .few in
@@ -60,15 +51,15 @@ stow-spec =
     (tie.spec
     Inv-loop
     μ-loop
-    loop-holds
+    (λ c. head-first _ _)
     (search arith)
     (search arith)
     (search arith)
-    same-length
+    (λ c. c .before .before .before .before .loop .inv .stowed .same)
     returns
     (search arith)
     (search arith)
     (λ c. omega arith)
     loop-again
-    same-length-2
+    (λ c. c .before .loop .inv .stowed .same)
     returns-2)

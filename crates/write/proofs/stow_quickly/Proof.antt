@@ -21,7 +21,7 @@ use Rattle.walks.proofs.Frame.{empty, full, Blocks, envOf, laid, clears, leaves
 use Rattle.walks.proofs.Steps.{var, arg, part, sets, resets-last, lands-in, recasts, behind, resliced, in64, sliced, copies, past, front}
 use Rattle.shortest.specs.Offence.{noRecord}
 use Rattle.rows.specs.Rows.{withRecord}
-use Rattle.check_list.specs.Plain.{plainOf}
+use Rattle.record_rules.specs.Plain.{plainOf}
 use Rattle.check_list.specs.Turn.{quickAfter, quickUntil}
 use Rattle.check_list.specs.declared.Progress.{Progress}
 use Rattle.check_list.proofs.Turns.{until-quick, until-most}

@@ -1,7 +1,7 @@
 -- `ctext::lists::ctext_write` meets its contract, which is that of `write::write`: its code is followed by hand, for the list lent is of
 -- structs. It passes its four slices on, and what `write` leaves is what it leaves.
 -- Assumes nothing.
-use Rattle.walks.proofs.Names.{_≡_, refl, [], _∷_, _$_, !, u8}
+use Rattle.walks.proofs.Names.{_≡_, refl, _$_, !, u8}
 use Rattle.walks.proofs.Names as kit
 use denote.Struct.Laws as LL
 use Rattle.base.proofs.Unit as U

@@ -1,13 +1,15 @@
 -- `running::ctext_next_run` meets its contract, by what it calls.
 use Rattle.element.proofs.Names.{arith}
-use Rattle.ctext.specs.Running.{nextRunHanded}
+use Rattle.positions.specs.Running.{nextRunHanded}
 use Rattle.ctext.proofs.running.ctext_next_run.Statement.{statement}
 use Rattle.ctext.proofs.running.ctext_next_run.Tie as tie
 
-returns : tie.Need-returns
-unfolding nextRunHanded
-returns c =
-    rw (← (c .before .before .before .before .position-in .ensures), ← (c .before .before .before .next-run .ensures), ← (c .reader-of .ensures))
-
 pub ctext-next-run-spec : {M : Type 1} → statement M
-ctext-next-run-spec = tie.close (tie.spec (search arith) (search arith) (search arith) returns)
+unfolding nextRunHanded
+ctext-next-run-spec =
+    tie.close
+    (tie.spec
+    (search arith)
+    (search arith)
+    (search arith)
+    (λ c. rw (← (c .before .before .before .before .position-in .ensures), ← (c .before .before .before .next-run .ensures), ← (c .reader-of .ensures))))

@@ -4,14 +4,6 @@ use Rattle.stretch.proofs.Stretches.{chosen-left, chosen-right, chosen-
 use Rattle.stretch.proofs.characters.by_forms.Statement.{statement}
 use Rattle.stretch.proofs.characters.by_forms.Tie as tie
 
-returns : tie.Need-returns
-returns c = chosen-left _ _ _ _ (c .before .before .twos .ensures) (c .if1 .taken)
-
-returns-2 : tie.Need-returns-2
-returns-2 c =
-    chosen-right _ _ _ _ _ (c .before .before .before .before .before .twos .ensures) (c .before .before .before .if1 .left) (c .before .before .twos2 .ensures)
-    (c .if2 .taken)
-
 returns-3 : tie.Need-returns-3
 returns-3 c =
     chosen-ones _ _ _ _ _ _ (c .before .before .before .before .before .before .twos .ensures) (c .before .before .before .before .if1 .left)
@@ -19,4 +11,12 @@ returns-3 c =
 
 pub by-forms-spec : {M : Type 1} → statement M
 by-forms-spec =
-    tie.close (tie.spec (search arith) returns (search arith) returns-2 (search arith) returns-3)
+    tie.close
+    (tie.spec
+    (search arith)
+    (λ c. chosen-left _ _ _ _ (c .before .before .twos .ensures) (c .if1 .taken))
+    (search arith)
+    (λ c. chosen-right _ _ _ _ _ (c .before .before .before .before .before .twos .ensures) (c .before .before .before .if1 .left)
+    (c .before .before .twos2 .ensures) (c .if2 .taken))
+    (search arith)
+    returns-3)

@@ -12,15 +12,6 @@ returns c = λ h.
       four = c .within4 .ensures h;
     }
 
-returns-2 : tie.Need-returns-2
-returns-2 c = λ h. absurd (false≢true h)
-
-returns-3 : tie.Need-returns-3
-returns-3 c = λ h. absurd (false≢true h)
-
-returns-4 : tie.Need-returns-4
-returns-4 c = λ h. absurd (false≢true h)
-
 pub four-spec : {M : Type 1} → statement M
 four-spec =
     tie.close
@@ -40,6 +31,6 @@ four-spec =
     (search arith)
     (search arith)
     returns
-    returns-2
-    returns-3
-    returns-4)
+    (λ c. λ h. absurd (false≢true h))
+    (λ c. λ h. absurd (false≢true h))
+    (λ c. λ h. absurd (false≢true h)))

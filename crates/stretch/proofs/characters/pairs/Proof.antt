@@ -11,9 +11,6 @@ Inv-loop s at side i₀ i = Along (twoAt side) 1 s at i
 abbrev μ-loop : tie.MeasureT-loop
 μ-loop s at side i₀ i = length s - i
 
-loop-holds : tie.Need-loop-holds Inv-loop μ-loop
-loop-holds c = c .pair-fours .ensures
-
 loop-again : tie.Need-loop-again Inv-loop μ-loop
 loop-again c =
     let along = c .before .before .before .before .before .before .before .loop .inv in
@@ -37,9 +34,6 @@ returns-2 c =
     let first = sym (c .before .graphic-on .ensures) ∙ c .if1 .left in
     pairs-last _ _ _ _ along (pair-no _ _ _ more first)
 
-returns-3 : tie.Need-returns-3 Inv-loop μ-loop
-returns-3 c = pairs-last _ _ _ _ (c .before .loop .inv) (pair-end _ _ _ (c .loop-test .left))
-
 pub pairs-spec : {M : Type 1} → statement M
 pairs-spec =
     tie.close
@@ -47,7 +41,7 @@ pairs-spec =
     Inv-loop
     μ-loop
     (search arith)
-    loop-holds
+    (λ c. c .pair-fours .ensures)
     (search arith)
     (search arith)
     (search arith)
@@ -62,4 +56,4 @@ pairs-spec =
     (search arith)
     returns-2
     (search arith)
-    returns-3)
+    (λ c. pairs-last _ _ _ _ (c .before .loop .inv) (pair-end _ _ _ (c .loop-test .left))))

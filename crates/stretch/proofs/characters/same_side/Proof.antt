@@ -4,24 +4,15 @@ use Rattle.stretch.proofs.Loops.{gl-span, gr-span-96, gr-span-94}
 use Rattle.stretch.proofs.characters.same_side.Statement.{statement}
 use Rattle.stretch.proofs.characters.same_side.Tie as tie
 
-returns-2 : tie.Need-returns-2
-returns-2 c = c .fours .ensures .along _ _ (gl-span _ _ (c .before .if2 .left))
-
-returns-3 : tie.Need-returns-3
-returns-3 c = c .fours2 .ensures .along _ _ (gr-span-96 _ _ (c .before .if3 .taken))
-
-returns-4 : tie.Need-returns-4
-returns-4 c = c .fours3 .ensures .along _ _ (gr-span-94 _ _ (c .before .if4 .taken))
-
 pub same-side-spec : {M : Type 1} → statement M
 same-side-spec =
     tie.close
     (tie.spec
     (λ c. search arith)
     (search arith)
-    returns-2
+    (λ c. c .fours .ensures .along _ _ (gl-span _ _ (c .before .if2 .left)))
     (search arith)
-    returns-3
+    (λ c. c .fours2 .ensures .along _ _ (gr-span-96 _ _ (c .before .if3 .taken)))
     (search arith)
-    returns-4
+    (λ c. c .fours3 .ensures .along _ _ (gr-span-94 _ _ (c .before .if4 .taken)))
     (λ c. search arith))

@@ -11,39 +11,22 @@ Inv-loop s at left right i₀ i = Along (oneAt left right) 0 s at i
 abbrev μ-loop : tie.MeasureT-loop
 μ-loop s at left right i₀ i = length s - i
 
-loop-holds : tie.Need-loop-holds Inv-loop μ-loop
-loop-holds c = along-first _ _ _ _ (c .before .pre)
-
-loop-less : tie.Need-loop-less Inv-loop μ-loop
-loop-less c = omega (arith, c .same-side .ensures .since, c .same-side .ensures .within)
-
-loop-again : tie.Need-loop-again Inv-loop μ-loop
-loop-again c =
-    along-one _ _ _ _ _ _ (c .before .before .before .before .before .loop .inv) (c .before .before .before .before .loop-test .taken)
-    (sym (c .before .before .single .ensures) ∙ c .before .if1 .taken) (c .same-side .ensures)
-
-returns : tie.Need-returns Inv-loop μ-loop
-returns c =
-    along-last _ _ _ _ _ (c .before .before .before .before .loop .inv)
-    (single-no _ _ _ _ (c .before .before .before .loop-test .taken) (sym (c .before .single .ensures) ∙ c .if1 .left))
-
-returns-2 : tie.Need-returns-2 Inv-loop μ-loop
-returns-2 c = along-last _ _ _ _ _ (c .before .loop .inv) (single-end _ _ _ _ (c .loop-test .left))
-
 pub singles-spec : {M : Type 1} → statement M
 singles-spec =
     tie.close
     (tie.spec
     Inv-loop
     μ-loop
-    loop-holds
+    (λ c. along-first _ _ _ _ (c .before .pre))
     (search arith)
     (search arith)
     (search arith)
     (search arith)
-    loop-less
-    loop-again
+    (λ c. omega (arith, c .same-side .ensures .since, c .same-side .ensures .within))
+    (λ c. along-one _ _ _ _ _ _ (c .before .before .before .before .before .loop .inv) (c .before .before .before .before .loop-test .taken)
+    (sym (c .before .before .single .ensures) ∙ c .before .if1 .taken) (c .same-side .ensures))
     (search arith)
-    returns
+    (λ c. along-last _ _ _ _ _ (c .before .before .before .before .loop .inv)
+    (single-no _ _ _ _ (c .before .before .before .loop-test .taken) (sym (c .before .single .ensures) ∙ c .if1 .left)))
     (search arith)
-    returns-2)
+    (λ c. along-last _ _ _ _ _ (c .before .loop .inv) (single-end _ _ _ _ (c .loop-test .left))))

@@ -6,20 +6,8 @@ use Rattle.stretch.proofs.Stretches.{stretch-end}
 use Rattle.stretch.proofs.characters.stretch_at.Statement.{statement}
 use Rattle.stretch.proofs.characters.stretch_at.Tie as tie
 
-returns : tie.Need-returns
-unfolding stretchAt
-returns c =
-    on-yes _ _ _ _ _ (c .before .before .before .before .settled .ensures) (c .before .before .before .if2 .taken)
-    (rw (c .by-forms .ensures, c .before .form-of2 .ensures, c .before .before .form-of .ensures))
-
-returns-2 : tie.Need-returns-2
-unfolding stretchAt
-returns-2 c = on-no _ _ _ _ _ (c .before .before .settled .ensures) (c .before .if2 .left) (rw (c .singles .ensures .0))
-
-returns-3 : tie.Need-returns-3
-returns-3 c = stretch-end _ _ _ (omega arith)
-
 pub stretch-at-spec : {M : Type 1} → statement M
+unfolding stretchAt
 stretch-at-spec =
     tie.close
     (tie.spec
@@ -27,7 +15,8 @@ stretch-at-spec =
     (search arith)
     (search arith)
     (search arith)
-    returns
+    (λ c. on-yes _ _ _ _ _ (c .before .before .before .before .settled .ensures) (c .before .before .before .if2 .taken)
+    (rw (c .by-forms .ensures, c .before .form-of2 .ensures, c .before .before .form-of .ensures)))
     (search arith)
-    returns-2
-    returns-3)
+    (λ c. on-no _ _ _ _ _ (c .before .before .settled .ensures) (c .before .if2 .left) (rw (c .singles .ensures .0)))
+    (λ c. stretch-end _ _ _ (omega arith)))

@@ -3,8 +3,5 @@ use Rattle.element.proofs.Names.{arith}
 use Rattle.stretch.proofs.designation.by_final.Statement.{statement}
 use Rattle.stretch.proofs.designation.by_final.Tie as tie
 
-returns : tie.Need-returns
-returns c = rw (c .set-of .ensures)
-
 pub by-final-spec : {M : Type 1} → statement M
-by-final-spec = tie.close (tie.spec (search arith) returns)
+by-final-spec = tie.close (tie.spec (search arith) (λ c. rw (c .set-of .ensures)))

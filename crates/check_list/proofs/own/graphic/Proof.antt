@@ -1,9 +1,0 @@
--- `check_list::own::graphic` meets its contract.
-use Rattle.element.proofs.Names.{ladder}
-use Rattle.text.specs.Text.{graphicOf}
-use Rattle.check_list.proofs.own.graphic.Statement.{statement}
-use Rattle.check_list.proofs.own.graphic.Tie as tie
-
-pub graphic-spec : {M : Type 1} → statement M
-unfolding graphicOf
-graphic-spec = tie.close (tie.spec (λ c. search ladder) (λ c. search ladder))

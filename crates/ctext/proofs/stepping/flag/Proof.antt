@@ -1,9 +1,0 @@
--- `stepping::flag` meets its contract, case by case.
-use Rattle.element.proofs.Names.{ladder}
-use Rattle.ctext.specs.Stepping.{flagOf}
-use Rattle.ctext.proofs.stepping.flag.Statement.{statement}
-use Rattle.ctext.proofs.stepping.flag.Tie as tie
-
-pub flag-spec : {M : Type 1} → statement M
-unfolding flagOf
-flag-spec = tie.close (tie.spec (λ c. search ladder) (λ c. search ladder))

@@ -1,0 +1,77 @@
+-- The quick check is right: a record that it lets through, where the directions are settled, is refused for nothing and changes no
+-- direction. A space by its kind; a character since the bounds of its set's octets are those of the codes that the set uses.
+use Rattle.element.proofs.Names.{ℕ, _+_, _-_, _*_, _/_, _%_, _≤_, _<_, arith, _≡_, sym, ap, _∙_, true, false, List, eqb, leb, ltb, eqb-true}
+use Rattle.element.proofs.Names.{le-leb, lt-ltb, pick, UnitRecord, off, test, pick-last, from-tests}
+use Rattle.element.proofs.Names.{tested, no-set, formOf, writtenOf, stepOf, Directions, Goes}
+use Rattle.base.specs.Kind as kind
+use Rattle.charset.proofs.Laws.{formRule, form-rule}
+use Rattle.element.proofs.Starts.{graphic}
+use Rattle.state.specs.Directions.{countsAsText}
+use Rattle.grammar.specs.Units.{codeUsed}
+use Rattle.grammar.specs.Records.{unitRead}
+use Rattle.shortest.specs.Records.{fault}
+use Rattle.record_rules.specs.Plain.{isDouble, wider, lowFrom, highFrom, usedBy, setBy, codeBy, plainOf, settledByText}
+use Rattle.record_rules.proofs.Refusals.{kind-character, kind-plain, code-fits}
+
+-- ---- a code
+
+record Within (c k : ℕ) : Type 0 where
+  whole : k < 0x10000
+  set : c < no-set
+  low : lowFrom c k ≤ 0x5D + 2 * wider c
+  high : highFrom c k ≤ 0x5D * isDouble c
+
+within : (c k : ℕ) → usedBy c k ≡ true → Within c k
+unfolding usedBy
+within c k e =
+    let a = pick-last (leb 0x10000 k) _ e in
+    let b = pick-last (leb no-set c) _ (a .1) in
+    let d = pick-last (ltb (0x5D + 2 * wider c) (lowFrom c k)) _ (b .1) in
+    search from-tests
+
+-- by the form of the set
+bounded : (c k t m : ℕ) → Within c k → isDouble c ≡ t → wider c ≡ m
+    → ((k % 256 + 223 + m) % 256 ≤ 0x5D + 2 * m) × ((k / 256 + 256 - 0x21 * t) % 256 ≤ 0x5D * t) × (k < 0x10000)
+bounded c k t m w et em = (
+  rw em at (w .low),
+  rw et at (w .high),
+  w .whole,
+)
+
+code-used : (c k : ℕ) → Within c k → codeUsed (formOf c) k ≡ true
+unfolding formRule codeUsed pick
+code-used c k w =
+    rw (← form-rule c)
+    (test (ltb c 3)
+    (λ p. let b = bounded c k 0 0 w (omega tested) (omega tested) in rw p (graphic k (omega (arith, b)) (omega (arith, b))))
+    (λ p. test (ltb c 12)
+    (λ q. let b = bounded c k 0 1 w (omega tested) (omega tested) in rw (p, q, le-leb 0x20 k (omega (arith, b)), le-leb k 0x7F (omega (arith, b))))
+    (λ q. let b = bounded c k 1 0 w (omega (tested, w .set)) (omega (tested, w .set)) in
+    rw (p, q, lt-ltb c 15 (w .set), graphic (k / 256) (omega (arith, b)) (omega (arith, b)), graphic (k % 256) (omega (arith, b)) (omega (arith, b))))))
+
+-- ---- the directions
+
+settled-written : (d : Directions) → settledByText d ≡ true → writtenOf d ≡ Goes d
+unfolding settledByText writtenOf pick
+settled-written d e =
+    let p = pick-last (d .marked) (d .texted) e in
+    let texted : true ≡ d .texted = sym (p .1) in
+    rw (p .0) (ap Goes (λ i. record { depth = d .depth; levels = d .levels; marked = false; texted = texted i }))
+
+text-goes : (k : ℕ) (d : Directions) → k < 2 → settledByText d ≡ true → stepOf (countsAsText k 0) k d ≡ Goes d
+unfolding stepOf pick
+text-goes k d h e = rw (lt-ltb k 2 h) (settled-written d e)
+
+-- ---- a record
+
+pub plain-goes : (o : List ℕ) (r : UnitRecord) (d : Directions) → settledByText d ≡ true → plainOf r ≡ true → fault (unitRead o r) d ≡ Goes d
+unfolding plainOf setBy codeBy pick
+plain-goes o r d s e =
+    test (leb (r .kind) 1)
+    (λ p. test (eqb (r .kind) 1)
+    (λ q. let k = eqb-true (r .kind) 1 q in
+    sym (kind-plain o r d (λ z. omega arith) (omega arith)) ∙ text-goes (r .kind) d (omega arith) s)
+    (λ q. let w = within (r .set) (r .code) (rw (p, q) at e) in
+    sym (kind-character o r d (omega tested)) ∙ sym (code-fits (r .set) (r .code) d (w .set) (code-used (r .set) (r .code) w))
+    ∙ text-goes kind.character d (omega arith) s))
+    (λ p. off (rw p at e))
