@@ -16,9 +16,17 @@ pub fn nth(s: &[u8], k: usize) -> Item
     let mut t = reader::step(s, 0, 0, State::FRESH);
     let mut i: usize = 0;
     while i < k {
-        let next = reader::step(s, t.place, t.count, t.state);
-        t = next;
-        i += 1;
+        let item = t.item;
+        match item {
+            Item::Given(unit) => {
+                let next = reader::step(s, t.place, t.count, t.state);
+                t = next;
+                i += 1;
+            }
+            Item::Ended(answer) => {
+                return item;
+            }
+        }
     }
     t.item
 }

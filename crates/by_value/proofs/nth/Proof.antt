@@ -1,8 +1,11 @@
--- `by_value::nth` meets its contract: the step of turn i is that of a reader after i steps, and its item is item k of the string (`opened-items`).
+-- `by_value::nth` meets its contract: the step of turn i is that of a reader after i steps, and its item is item i of the string (`opened-items`);
+-- where that is the answer, so is every later one (`stays`).
 use native.Mathlib.Nat.{le-antisymm}
-use Rattle.element.proofs.Names.{ℕ, suc, _-_, _≤_, add-one, arith, _≡_, ap, _∙_, List}
+use Rattle.element.proofs.Names.{ℕ, zero, suc, _-_, _≤_, add-one, arith, _≡_, refl, ap, sym, _∙_, List, [], _∷_, clash, Answer, UnitRecord}
 use denote.Ref.{RefT}
-use Rattle.reader.specs.Reader.{itemAt, moved, opened, readerAfter}
+use Rattle.grammar.specs.Reading.{checkOf}
+use Rattle.reader.specs.Reader.{itemAt, moved, opened, readerAfter, unitsBefore, itemOf}
+use Rattle.reader.specs.declared.Item.the-variants.{Ended}
 use Rattle.reader.specs.declared.Reader.{Reader}
 use Rattle.reader.specs.declared.Stepped.{Stepped}
 use Rattle.reader.proofs.Whole.{opened-items}
@@ -21,6 +24,24 @@ record Step (s : List ℕ) (k : ℕ) (t : Stepped) (i : ℕ) : Type 0 where
   gives : t .item ≡ itemAt (after s i)
   within : i ≤ k
 
+-- once the units are through, every item is the answer
+stays : (i k : ℕ) (us : List UnitRecord) (a x : Answer) → i ≤ k → itemOf i us a ≡ Ended x → itemOf k us a ≡ itemOf i us a
+unfolding itemOf
+stays i k [] a x h e = refl
+stays zero k (u ∷ us) a x h e = clash (cc)
+stays (suc i) zero (u ∷ us) a x h e = absurd (omega (arith, h))
+stays (suc i) (suc k) (u ∷ us) a x h e = stays i k us a x (omega (arith, h)) e
+
+module _ {s : List ℕ} {k : ℕ} {t : Stepped} {i : ℕ} (h : Step s k t i) where
+  is : t .item ≡ itemOf i (unitsBefore s) (checkOf s)
+  is = h .gives ∙ opened-items (held s) i
+
+  over : k ≤ i → t .item ≡ itemOf k (unitsBefore s) (checkOf s)
+  over e = is ∙ ap (λ (m : ℕ). itemOf m (unitsBefore s) (checkOf s)) (le-antisymm (h .within) e)
+
+  ended : (a : Answer) → t .item ≡ Ended a → Ended a ≡ itemOf k (unitsBefore s) (checkOf s)
+  ended a e = sym e ∙ is ∙ sym (stays i k (unitsBefore s) (checkOf s) a (h .within) (sym is ∙ e))
+
 abbrev Inv-loop : tie.InvT-loop
 Inv-loop s k t₀ i₀ t i = Step s k t i
 
@@ -34,15 +55,10 @@ loop-holds c = let e = c .step .ensures in record { stands = rw e; gives = rw e;
 loop-again : tie.Need-loop-again Inv-loop μ-loop
 unfolding readerAfter
 loop-again c =
-    let h = c .before .before .loop .inv in
-    rw (add-one (c .before .before .loop .i), c .step2 .ensures)
-    (record { stands = ap moved (h .stands); gives = ap itemAt (h .stands); within = omega arith })
-
-returns : tie.Need-returns Inv-loop μ-loop
-returns c =
-    let h = c .before .loop .inv in
-    let e = le-antisymm (h .within) (c .loop-test .left) in
-    (rw e at (h .gives)) ∙ opened-items _ _
+    let turn = c .before .before .before .before in
+    let h = turn .before .loop .inv in
+    rw (add-one (turn .before .loop .i), c .step2 .ensures)
+    (record { stands = ap moved (h .stands); gives = ap itemAt (h .stands); within = turn .loop-test .taken })
 
 pub nth-spec : {M : Type 1} → statement M
 nth-spec =
@@ -55,5 +71,8 @@ nth-spec =
     (search arith)
     (search arith)
     (search arith)
+    (search arith)
     loop-again
-    returns)
+    (search arith)
+    (λ c. ended (c .before .before .before .before .loop .inv) _ (c .before .item2 .given .1))
+    (λ c. over (c .before .loop .inv) (c .loop-test .left)))
