@@ -8,7 +8,7 @@ use Rattle.shortest.specs.Writing.{Need, choose, after, met, need, cost, used, 
 use Rattle.shortest.proofs.Needs.{chosen-met}
 use Rattle.rows.specs.Rows.{tagAt, highOctet, lowOctet, startFrom, unitFrom, unitsIn}
 use Rattle.numbers.specs.Numbers.{servedInGL, numbered, classOf, needOfClass, afterFirst, afterSecond, chosenBy, afterChoice, change, sideAt}
-use Rattle.plan.specs.Costs.{secondSlot}
+use Rattle.numbers.specs.Numbers.{secondSlot}
 use Rattle.plan.specs.Plan.{restFrom}
 use Rattle.numbers.proofs.Numbers.{Choice, choice-at, chosen-base, chosen-single, chosen-free, used-side}
 use Rattle.plan.proofs.Units.{need-tagged}

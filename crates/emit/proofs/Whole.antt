@@ -8,10 +8,10 @@ use Rattle.shortest.specs.Writing.{cost, writing}
 use Rattle.shortest.specs.Demand.{writeAnswer, outputAfter}
 use Rattle.shortest.specs.Records.{workRoom}
 use Rattle.shortest.proofs.Costs.{writing-length}
-use Rattle.rows.specs.Rows.{tagAt, startFrom, unitTagged, unitFrom, unitsIn}
-use Rattle.numbers.specs.Numbers.{numbered, classOf, afterFirst, afterSecond}
-use Rattle.plan.specs.Costs.{TwoStandings, secondSlot}
-use Rattle.plan.specs.Plan.{rowsOf, Planned}
+use Rattle.rows.specs.Rows.{tagAt, startFrom, unitTagged, unitFrom, unitsIn, rowsOf}
+use Rattle.numbers.specs.Numbers.{numbered, classOf, afterFirst, afterSecond, secondSlot}
+use Rattle.plan.specs.Costs.{TwoStandings}
+use Rattle.plan.specs.Plan.{Planned}
 use Rattle.plan.proofs.Units.{same-start}
 use Rattle.emit.specs.Octets.{Written}
 use Rattle.emit.specs.Emit.{rowsAnswer, rowsOutput, Ready}

@@ -1,7 +1,7 @@
 -- The choice by number is the writer's choice: shown by one computed test of all 17 classes and 80 numbers, from which the laws follow.
 use Rattle.element.proofs.Names.{_≡_, refl, sym, ap, ap₂, _∙_, Bool, true, false, cond, _||_, _&&_, not, List, Option, none, some, ℕ, _+_, _-_, _≤_}
 use Rattle.element.proofs.Names.{_<_, arith, length, getD, List·getD-eq-default, eqb, leb, ltb, eqb-true, eq-eqb, ne-eqb, ltb-true, ltb-false, lt-ltb, le-ltb}
-use Rattle.element.proofs.Names.{leb-true, leb-false, le-leb, lt-leb, off, test, up-to, from-tests, Side, GL, GR, allowed, mayUse, formOf, Standing, on, put}
+use Rattle.element.proofs.Names.{leb-true, leb-false, le-leb, lt-leb, off, pick, test, up-to, from-tests, Side, GL, GR, allowed, mayUse, formOf, Standing, on, put}
 use Rattle.element.proofs.Names.{Sets}
 use mathlib.Core.Bool.{Bool·beq}
 use Rattle.base.proofs.Bools.{implies, implies-elim, or-none, upTo, up-to-both, up-to-where}
@@ -198,6 +198,22 @@ chosen-base x k b u v u′ v′ eu ev =
     ap (λ (t : Bool). cond (eqb (afterFirst x k) k || eqb (afterSecond x k) k) k (cond t (afterFirst x k) (afterSecond x k)))
     (sym (leb-base b u v) ∙ ap₂ leb eu ev)
 
+-- the choice by tests on the two numbers
+pub chosen-first : (x k a u v : ℕ) → a ≡ afterFirst x k → a ≡ k → k ≡ chosenBy x k u v
+unfolding chosenBy
+chosen-first x k a u v ea e = rw (← ea, eq-eqb a k e)
+
+pub chosen-tests : {q : ℕ} (x k a b u v : ℕ) → a ≡ afterFirst x k → b ≡ afterSecond x k → q ≡ pick (eqb a k) k (pick (eqb b k) k (pick (leb u v) a b))
+    → q ≡ chosenBy x k u v
+unfolding chosenBy pick
+chosen-tests x k a b u v ea eb e = e ∙ rw (← ea, ← eb) (go (eqb a k) (eqb b k) (leb u v))
+  where
+    go : (s t w : Bool) → pick s k (pick t k (pick w a b)) ≡ cond (s || t) k (cond w a b)
+    go true t w = refl
+    go false true w = refl
+    go false false true = refl
+    go false false false = refl
+
 -- ---- classes with one designation, and with none
 
 all-single : upTo 12 (λ x. upTo 80 (λ k. eqb (afterFirst x k) (afterSecond x k))) ≡ true
@@ -216,10 +232,6 @@ unfolding chosenBy
 chosen-single x k u v u′ v′ hx hk =
     rw (← single x k hx hk)
     (ap (cond (eqb (afterFirst x k) k || eqb (afterFirst x k) k) k) (cond-same (leb u v) (afterFirst x k) ∙ sym (cond-same (leb u′ v′) (afterFirst x k))))
-
-pub chosen-only : (x k a u v : ℕ) → a ≡ afterFirst x k → (a ≡ k → ⊥) → x < 12 → k < 80 → a ≡ chosenBy x k u v
-unfolding chosenBy
-chosen-only x k a u v ea n hx hk = rw (← single x k hx hk, ← ea, ne-eqb a k n) (sym (cond-same (leb u v) a))
 
 pub chosen-free : (k u v u′ v′ : ℕ) → chosenBy 16 k u v ≡ chosenBy 16 k u′ v′
 unfolding chosenBy afterFirst
@@ -299,6 +311,9 @@ price-gr x l h el b =
 -- the set at a place
 pub gl-set : (g : ℕ) → g < 5 → (g ≡ 0 → ⊥) → (g ≡ 1 → ⊥) → g + 10 ≡ getD setsInGL g 0
 gl-set g h a b = in-table setsInGL 5 (leb 2) (λ y. y + 10) refl g h (le-leb 2 g (omega arith))
+
+pub gl-spare : (g : ℕ) → 5 ≤ g → 0 ≡ getD setsInGL g 0
+gl-spare g h = sym (List·getD-eq-default setsInGL 0 h)
 
 pub gr-set : (r : ℕ) → r < 13 → (r ≡ 0 → ⊥) → r + 2 ≡ getD setsInGR r 0
 gr-set r h a = in-table setsInGR 13 (leb 1) (λ y. y + 2) refl r h (le-leb 1 r (omega arith))

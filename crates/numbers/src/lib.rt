@@ -2,11 +2,12 @@
 ghost use mathlib.Core.Path.{_≡_};
 ghost use Prim.Native.Nat.{_<_};
 ghost use lib.ListN.{getD};
-ghost use Rattle.numbers.specs.Numbers.{classOf, placesInGL, placesInGR};
+ghost use Rattle.numbers.specs.Numbers.{classOf, placesInGL, placesInGR, setsInGL, setsInGR, secondSlot, chosenBy, changes};
 ghost use Rattle.numbers.specs.Size as sizes;
 
 pub mod class;
 pub mod size;
+mod slots;
 
 // The place of GL that serves each class, 5 where none does.
 pub const SERVED_IN_GL: [u8; class::ALL] = [0, 5, 1, 5, 5, 5, 5, 5, 5, 5, 5, 5, 2, 3, 4, 0, 0];
@@ -73,4 +74,76 @@ pub fn place_in_gr(x: usize) -> usize
         return x - 2;
     }
     0
+}
+
+// The set at a place of GL, 0 at those that are none.
+pub fn set_in_gl(g: usize) -> usize
+    ensures { λ r. ⌜ (r ≡ getD setsInGL g 0) × (r < 15) ⌝ }
+{
+    if g == 0 {
+        return 0;
+    }
+    if g == 1 {
+        return 2;
+    }
+    if g < size::GL {
+        return g + 10;
+    }
+    0
+}
+
+// The set at a place of GR, 0 at the spare ones.
+pub fn set_in_gr(r: usize) -> usize
+    ensures { λ q. ⌜ (q ≡ getD setsInGR r 0) × (q < 15) ⌝ }
+{
+    if r == 0 {
+        return 1;
+    }
+    if r < size::GR {
+        return r + 2;
+    }
+    0
+}
+
+// Where a row keeps what the rest costs after the second designation, for a class that has two.
+pub fn second_slot(x: usize, k: usize) -> usize
+    ensures { λ q. ⌜ q ≡ secondSlot x k ⌝ }
+{
+    if x < class::SPACE {
+        size::COLUMNS + k / size::COLUMNS
+    } else {
+        size::COLUMNS + k % size::COLUMNS
+    }
+}
+
+// The number after the choice for a unit of class x under number k, where u and v are what the rest costs after the first designation
+// and after the second.
+pub fn chosen(x: usize, k: usize, u: u8, v: u8) -> usize
+    ensures { λ q. ⌜ q ≡ chosenBy x k u v ⌝ }
+{
+    let a = slots::after_first(x, k);
+    if a == k {
+        return k;
+    }
+    let b = slots::after_second(x, k);
+    if b == k {
+        return k;
+    }
+    if u <= v { a } else { b }
+}
+
+// Whether a unit of class x changes the costs, where last is the class that changed them last.
+pub fn changed(last: usize, x: usize) -> bool
+    ensures { λ r. ⌜ r ≡ changes last x ⌝ }
+{
+    if x == class::FREE {
+        return false;
+    }
+    if x == last {
+        return false;
+    }
+    if x == class::SPACE {
+        return last != 0;
+    }
+    true
 }

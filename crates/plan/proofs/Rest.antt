@@ -11,10 +11,10 @@ use Rattle.grammar.proofs.Sound.{lead-size}
 use Rattle.shortest.specs.Writing.{Need, least, choose, after, price, cost}
 use Rattle.shortest.proofs.Needs.{spent, least-chosen}
 use Rattle.shortest.proofs.Costs.{cost-steady}
-use Rattle.rows.specs.Rows.{tagAt, startFrom, countOf, partOf, unitsIn}
-use Rattle.numbers.specs.Numbers.{numbered, classOf, needOfClass, afterFirst, afterSecond, afterChoice, surcharge}
-use Rattle.plan.specs.Costs.{leastBy, Smooth, changes, Turned, TwoStandings, secondSlot, RowKept}
-use Rattle.plan.specs.Plan.{sizeOf, sizeAt, restFrom, CostsKept, Planned}
+use Rattle.rows.specs.Rows.{tagAt, startFrom, countOf, partOf, unitsIn, sizeOf}
+use Rattle.numbers.specs.Numbers.{numbered, classOf, needOfClass, afterFirst, afterSecond, afterChoice, surcharge, secondSlot, changes}
+use Rattle.plan.specs.Costs.{leastBy, Smooth, Turned, TwoStandings, RowKept}
+use Rattle.plan.specs.Plan.{sizeAt, restFrom, CostsKept, Planned}
 use Rattle.numbers.proofs.Numbers.{choice-at, chosen-base, below, steady-at}
 use Rattle.plan.proofs.Again.{least-again, least-plus, least-space}
 use Rattle.plan.proofs.Units.{rest-end, rest-cons, same-start}
@@ -252,12 +252,11 @@ pub record RowLies (i : ℕ) (room : List ℕ) : Type 0 where
   pub tag : Fits w64 (72 * (i - 1) + 65)
   pub read : 72 * (i - 1) + 65 < length room
   pub costs : 72 * (i - 1) + 65 ≤ length room
-  pub whole : 72 * (i - 1) + 72 ≤ length room
 
 pub row-lies : {o before : List ℕ} {n i base last : ℕ} {cur room : List ℕ} → Known o before n i base last cur × Planned o before n i room → 0 < i
     → RowLies i room
 row-lies (v, p) h =
-    record { next = omega arith; less = omega arith; start = omega arith; tag = omega arith; read = omega arith; costs = omega arith; whole = omega arith }
+    record { next = omega arith; less = omega arith; start = omega arith; tag = omega arith; read = omega arith; costs = omega arith }
 
 -- ---- one turn of the plan: the unit before row i, which is read in the room as it then is
 

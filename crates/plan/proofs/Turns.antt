@@ -1,9 +1,9 @@
 -- What a unit does to the costs, and what its row keeps of them.
 use Rattle.element.proofs.Names.{_≡_, refl, sym, ap, _∙_, Bool, true, false, cond, not, _&&_, true≢false, false≢true, List, ⊎-elim, ℕ, _+_, _-_}
 use Rattle.element.proofs.Names.{_*_, _/_, _%_, _≤_, _<_, arith, length, getD, ltb, leb, eqb, lt-ltb, le-ltb, eqb-false, pick}
-use Rattle.numbers.specs.Numbers.{priceOfClass, afterFirst, afterSecond, afterChoice}
+use Rattle.numbers.specs.Numbers.{priceOfClass, afterFirst, afterSecond, afterChoice, secondSlot, changes}
 use Rattle.plan.specs.Table.{FilledTo, PlacesFilled, Columns}
-use Rattle.plan.specs.Costs.{leastBy, changes, Turned, secondSlot, RowKept}
+use Rattle.plan.specs.Costs.{leastBy, Turned, RowKept}
 use Rattle.numbers.proofs.Numbers.{first-gl, second-gr, first-space, second-space, gl-two, gr-most}
 use Rattle.plan.proofs.Filled.{columns-at}
 

@@ -5,7 +5,7 @@ ghost use Prim.Native.Nat.{ℕ, _+_, _*_, _≤_, _<_};
 ghost use lib.Dec.{eqb};
 ghost use lib.ListN.{length, getD};
 ghost use Rattle.plan.specs.Table.{Columns};
-ghost use Rattle.plan.specs.Costs.{surcharges, Tables, OfGL, InGR, OnBoth, leastBy, Smooth, CostsAhead, changes, Turned, RowKept};
+ghost use Rattle.plan.specs.Costs.{surcharges, Tables, OfGL, InGR, OnBoth, leastBy, Smooth, CostsAhead, Turned, RowKept};
 ghost use Rattle.numbers.specs.Class as classes;
 ghost use Rattle.numbers.specs.Size as sizes;
 ghost use Rattle.rows.specs.Layout as layouts;
@@ -105,21 +105,6 @@ fn costs_before(
     gr_costs(x, r, &next, threes, cur);
 }
 
-fn changed(last: usize, x: usize) -> bool
-    ensures { λ r. ⌜ r ≡ changes last x ⌝ }
-{
-    if x == class::FREE {
-        return false;
-    }
-    if x == last {
-        return false;
-    }
-    if x == class::SPACE {
-        return last != 0;
-    }
-    true
-}
-
 // What was taken from the costs, and the class that changed them last.
 pub struct Taken {
     pub base: usize,
@@ -139,7 +124,7 @@ pub fn unit_before(
     requires { ⌜ CostsAhead x (now cur) × Tables (now left) (now right) (now fours) (now threes) ⌝ }
     ensures { λ r. ⌜ Turned last x (now (cur .entry)) (r .base) (r .last) (now (cur .exit)) ⌝ }
 {
-    if changed(last, x) {
+    if numbers::changed(last, x) {
         costs_before(x, left, right, fours, threes, cur);
         if cur[1] <= 200 {
             return Taken { base: 0, last: x };

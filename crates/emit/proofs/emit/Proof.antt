@@ -11,8 +11,8 @@ Inv-loop work n segments out₀ in-gl in-gr i₀ k₀ at₀ out i k at = (i ≤ 
 abbrev μ-loop : tie.MeasureT-loop
 μ-loop work n segments out₀ in-gl in-gr i₀ k₀ at₀ out i k at = n - i
 
-choose-quickly-requires : tie.Need-choose-quickly-requires Inv-loop μ-loop
-choose-quickly-requires c κs =
+choose-requires : tie.Need-choose-requires Inv-loop μ-loop
+choose-requires c κs =
     let class = c .before .before in
     let turn = class .before .before in (
       class .class-of .ensures .1,
@@ -29,7 +29,7 @@ put-change-requires c κs =
     let going = turn .before .loop .inv .2 in
     let pre = turn .before .before .before .before .before .pre in
     let its-class = class .class-of .ensures .0 in
-    let chosen = c .before .choose-quickly .ensures in (
+    let chosen = c .before .choose .ensures in (
       going .state,
       j-below going (pre .2) (turn .loop-test .taken) its-class chosen,
       room-change going (pre .2) (turn .loop-test .taken) its-class chosen (pre .3),
@@ -42,7 +42,7 @@ put-row-requires c κs =
     let turn = class .before .before in
     let pre = turn .before .before .before .before .before .pre in (
       omega (arith, pre .1, turn .loop-test .taken),
-      room-unit (turn .before .loop .inv .2) (pre .2) (turn .loop-test .taken) (class .class-of .ensures .0) (chosen .choose-quickly .ensures)
+      room-unit (turn .before .loop .inv .2) (pre .2) (turn .loop-test .taken) (class .class-of .ensures .0) (chosen .choose .ensures)
           (chosen .before .before .wide .ensures .0) (pre .3) (c .before .before .before .put-change .ensures),
     )
 
@@ -57,7 +57,7 @@ loop-again c =
     let written = c .before .before .put-row .ensures in (
       omega arith,
       written-length written ∙ written-length changed ∙ inv .1,
-      going-more (inv .2) (pre .2) (turn .loop-test .taken) (class .class-of .ensures .0) (chosen .choose-quickly .ensures)
+      going-more (inv .2) (pre .2) (turn .loop-test .taken) (class .class-of .ensures .0) (chosen .choose .ensures)
           (chosen .before .before .wide .ensures .0) changed written,
     )
 
@@ -76,7 +76,7 @@ emit-spec =
     (search arith)
     (λ c. c .before .class-of .ensures .1)
     (search arith)
-    choose-quickly-requires
+    choose-requires
     put-change-requires
     put-row-requires
     (search arith)

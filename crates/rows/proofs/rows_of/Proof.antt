@@ -1,8 +1,8 @@
--- `plan::rows_of` meets its contract, test by test.
+-- `rows::rows_of` meets its contract, test by test.
 use Rattle.element.proofs.Names.{arith, ladder}
-use Rattle.plan.specs.Plan.{rowsOf}
-use Rattle.plan.proofs.rows_of.Statement.{statement}
-use Rattle.plan.proofs.rows_of.Tie as tie
+use Rattle.rows.specs.Rows.{rowsOf}
+use Rattle.rows.proofs.rows_of.Statement.{statement}
+use Rattle.rows.proofs.rows_of.Tie as tie
 
 pub rows-of-spec : {M : Type 1} → statement M
 unfolding rowsOf

@@ -1,8 +1,8 @@
--- `costs::changed` meets its contract, test by test.
+-- `numbers::changed` meets its contract, test by test.
 use Rattle.element.proofs.Names.{ladder}
-use Rattle.plan.specs.Costs.{changes}
-use Rattle.plan.proofs.costs.changed.Statement.{statement}
-use Rattle.plan.proofs.costs.changed.Tie as tie
+use Rattle.numbers.specs.Numbers.{changes}
+use Rattle.numbers.proofs.changed.Statement.{statement}
+use Rattle.numbers.proofs.changed.Tie as tie
 
 pub changed-spec : {M : Type 1} → statement M
 unfolding changes
