@@ -1,11 +1,8 @@
--- The choice by tests on the two numbers and on what a row keeps.
-use Rattle.element.proofs.Names.{_≡_, refl, _∙_, Bool, true, false, _||_, or-true, [], ℕ, _/_, _%_, _<_, arith, getD, eqb, ltb, eq-eqb, ne-eqb, test, on}
+-- Where a place that serves a class stands, nothing is designated; and where the slots of a row lie.
+use Rattle.element.proofs.Names.{_≡_, refl, _∙_, Bool, true, _||_, or-true, ℕ, _/_, _%_, _<_, arith, getD, eqb, ltb, eq-eqb, test}
 use mathlib.Core.Bool.{Bool·beq}
 use Rattle.base.proofs.Bools.{implies, implies-elim, upTo, up-to-both}
-use Rattle.grammar.specs.Units.{designation}
-use Rattle.shortest.specs.Writing.{designated}
-use Rattle.numbers.specs.Numbers.{setsInGL, setsInGR, servedInGL, servedInGR, afterFirst, afterSecond, secondSlot, chosenBy, change}
-use Rattle.emit.specs.Octets.{sideOf}
+use Rattle.numbers.specs.Numbers.{setsInGL, servedInGL, servedInGR, afterFirst, afterSecond, secondSlot, chosenBy}
 use Rattle.numbers.proofs.Numbers.{beq-eq}
 
 -- where a place that serves the class stands, nothing is designated: by one computed test of all 17 classes and 80 numbers
@@ -43,18 +40,3 @@ its-place x g hx hg =
 -- the slots lie before the row's unit
 pub slot-below : (x k : ℕ) → k < 80 → secondSlot x k < 65
 slot-below x k h = test (ltb x 15) (λ e. rw e (omega arith)) (λ e. rw e (omega arith))
-
--- the designation that makes number k number j, by tests on the numbers
-pub change-none : (k j : ℕ) → j ≡ k → designated (change k j) ≡ []
-unfolding change
-change-none k j e = rw (eq-eqb j k e)
-
-pub change-gr : (k j c : ℕ) → (j ≡ k → ⊥) → j / 16 ≡ k / 16 → c ≡ getD setsInGR (j % 16) 0
-    → designated (change k j) ≡ designation (on (sideOf false) c)
-unfolding change
-change-gr k j c n e q = rw (ne-eqb j k n, eq-eqb (j / 16) (k / 16) e, q)
-
-pub change-gl : (k j c : ℕ) → (j ≡ k → ⊥) → (j / 16 ≡ k / 16 → ⊥) → c ≡ getD setsInGL (j / 16) 0
-    → designated (change k j) ≡ designation (on (sideOf true) c)
-unfolding change
-change-gl k j c n e q = rw (ne-eqb j k n, ne-eqb (j / 16) (k / 16) e, q)

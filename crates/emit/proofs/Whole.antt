@@ -13,7 +13,7 @@ use Rattle.numbers.specs.Numbers.{numbered, classOf, afterFirst, afterSecond, s
 use Rattle.plan.specs.Costs.{TwoStandings}
 use Rattle.plan.specs.Plan.{Planned}
 use Rattle.plan.proofs.Units.{same-start}
-use Rattle.emit.specs.Octets.{Written}
+use Rattle.octets.specs.Octets.{Written}
 use Rattle.emit.specs.Emit.{rowsAnswer, rowsOutput, Ready}
 
 -- ---- the rows hold the same units before and after the plan

@@ -1,14 +1,15 @@
 // Writing the units of the rows: the plan, the answer, and where it accepts the shortest string, from the first row to the last.
 ghost use mathlib.Core.Path.{_≡_};
-ghost use Prim.Native.Nat.{_+_, _*_, _/_, _%_, _≤_, _<_};
+ghost use Prim.Native.Nat.{_+_, _*_, _%_, _≤_, _<_};
 ghost use lib.ListN.{length, getD};
 ghost use Rattle.state.specs.State.{fresh};
 ghost use Rattle.grammar.specs.Units.{octets};
-ghost use Rattle.shortest.specs.Writing.{writing, designated};
+ghost use Rattle.shortest.specs.Writing.{writing};
 ghost use Rattle.rows.specs.Layout as layouts;
-ghost use Rattle.rows.specs.Rows.{unitFrom, unitsIn};
-ghost use Rattle.numbers.specs.Numbers.{servedInGL, servedInGR, secondSlot, chosenBy, change};
-ghost use Rattle.emit.specs.Octets.{Written, sideOf};
+ghost use Rattle.rows.specs.Rows.{textTagged, unitFrom, unitsIn};
+ghost use Rattle.rows.specs.Tag as tags;
+ghost use Rattle.numbers.specs.Numbers.{servedInGL, servedInGR, secondSlot, chosenBy};
+ghost use Rattle.octets.specs.Octets.{Written, sideOf};
 ghost use Rattle.emit.specs.Emit.{rowsAnswer, rowsOutput, Ready};
 ghost use Rattle.numbers.specs.Size as sizes;
 ghost use Rattle.numbers.specs.Class as classes;
@@ -18,8 +19,6 @@ use base::refusal;
 use numbers::size;
 use rows::layout;
 use rows::tag;
-
-mod octets;
 
 // The number after the choice for a unit of class x under number k, by what its row keeps. Where l or r, the places of GL and GR that serve
 // the class, stands, it is k at once.
@@ -38,18 +37,18 @@ fn choose(x: usize, k: usize, l: usize, r: usize, work: &[u8], row: usize) -> us
     numbers::chosen(x, k, work[row + k % size::COLUMNS], work[row + slot])
 }
 
-// Writes the designation that makes number k number j, and answers the next place.
-fn put_change(k: usize, j: usize, out: &mut [u8], at: usize) -> usize
-    requires { ⌜ (k < sizes.numbers) × (j < sizes.numbers) × (at + length (designated (change k j)) ≤ length (now out)) ⌝ }
-    ensures { λ r. ⌜ Written (now (out .entry)) at (designated (change k j)) r (now (out .exit)) ⌝ }
+// Writes a character, of which high and low are the octets of its code, or a space, on a side, and answers the next place.
+fn put_text(tag: u8, high: u8, low: u8, left: bool, out: &mut [u8], at: usize) -> usize
+    requires { ⌜ (tag < tags.tab) × (at + length (octets (sideOf left) (textTagged tag high low)) ≤ length (now out)) ⌝ }
+    ensures { λ r. ⌜ Written (now (out .entry)) at (octets (sideOf left) (textTagged tag high low)) r (now (out .exit)) ⌝ }
 {
-    if j == k {
-        return at;
+    if octets::two_octets(tag) {
+        out[at] = octets::on_side(left, high);
+        out[at + 1] = octets::on_side(left, low);
+        return at + 2;
     }
-    if j / size::COLUMNS == k / size::COLUMNS {
-        return octets::put_designation(false, numbers::set_in_gr(j % size::COLUMNS), out, at);
-    }
-    octets::put_designation(true, numbers::set_in_gl(j / size::COLUMNS), out, at)
+    out[at] = octets::single(tag, left, low);
+    at + 1
 }
 
 // Writes the unit of the row that starts at a place, on a side, and answers the next place.
@@ -61,7 +60,7 @@ fn put_row(work: &[u8], row: usize, left: bool, segments: &[u8], out: &mut [u8],
 {
     let tag = work[row + layout::TAG];
     if tag < tag::TAB {
-        return octets::put_text(
+        return put_text(
             tag,
             work[row + layout::HIGH],
             work[row + layout::LOW],
@@ -70,14 +69,7 @@ fn put_row(work: &[u8], row: usize, left: bool, segments: &[u8], out: &mut [u8],
             at,
         );
     }
-    if tag::SEGMENT <= tag {
-        if tag < tag::SPARE {
-            let n = rows::count_at(work, row);
-            let start = rows::start_at(work, row);
-            return octets::put_segment((tag::D + tag as u16) as u8, n, start, segments, out, at);
-        }
-    }
-    octets::put_mark(tag, out, at)
+    octets::put_other(tag, work, row, segments, out, at)
 }
 
 // Writes n rows by their plan from the output's first place on, and answers the next place.
@@ -97,7 +89,7 @@ fn emit(work: &[u8], n: usize, segments: &[u8], out: &mut [u8]) -> usize
         let l = rows::wide(in_gl[x]);
         let r = rows::wide(in_gr[x]);
         let j = choose(x, k, l, r, work, row);
-        let a = put_change(k, j, out, at);
+        let a = octets::put_change(k, j, out, at);
         let left = j / size::COLUMNS == l;
         at = put_row(work, row, left, segments, out, a);
         k = j;

@@ -3,7 +3,6 @@ ghost use mathlib.Core.Path.{_≡_};
 ghost use Prim.Native.Nat.{_<_};
 ghost use lib.ListN.{getD};
 ghost use Rattle.numbers.specs.Numbers.{classOf, placesInGL, placesInGR, setsInGL, setsInGR, secondSlot, chosenBy, changes};
-ghost use Rattle.numbers.specs.Size as sizes;
 
 pub mod class;
 pub mod size;

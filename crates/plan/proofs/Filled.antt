@@ -2,7 +2,7 @@
 use Rattle.element.proofs.Names.{_≡_, refl, sym, ap, ap₂, _∙_, subst, cond, List, [], _∷_, _⊎_, inl, inr, ⊎-elim, ℕ, _+_, _*_, _/_, _%_, _≤_}
 use Rattle.element.proofs.Names.{_<_, min, arith, length, getD, set, length-set, ltb, eqb, ltb-true, ltb-false, eqb-true, eqb-false, test}
 use lib.Seq.{getD-set-same, getD-set-other}
-use Rattle.plan.specs.Table.{FilledTo, ColumnFilled, Columns, Swept, Charges, ColumnRead, RowRead, fromGL}
+use Rattle.plan.specs.Table.{FilledTo, ColumnFilled, Columns, Swept, Charges, ColumnRead, fromGL}
 
 below-cases : (j k : ℕ) → j < k + 1 → (j < k) ⊎ (j ≡ k)
 below-cases j k h = test (ltb j k) (λ e. inl (ltb-true j k e)) (λ e. inr (let l = ltb-false j k e in omega arith))

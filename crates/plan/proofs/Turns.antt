@@ -1,6 +1,6 @@
 -- What a unit does to the costs, and what its row keeps of them.
 use Rattle.element.proofs.Names.{_≡_, refl, sym, ap, _∙_, Bool, true, false, cond, not, _&&_, true≢false, false≢true, List, ⊎-elim, ℕ, _+_, _-_}
-use Rattle.element.proofs.Names.{_*_, _/_, _%_, _≤_, _<_, arith, length, getD, ltb, leb, eqb, lt-ltb, le-ltb, eqb-false, pick}
+use Rattle.element.proofs.Names.{_*_, _/_, _%_, _≤_, _<_, arith, length, getD, ltb, leb, eqb, lt-ltb, eqb-false, pick}
 use Rattle.numbers.specs.Numbers.{priceOfClass, afterFirst, afterSecond, afterChoice, secondSlot, changes}
 use Rattle.plan.specs.Table.{FilledTo, PlacesFilled, Columns}
 use Rattle.plan.specs.Costs.{leastBy, Turned, RowKept}

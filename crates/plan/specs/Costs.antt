@@ -5,7 +5,6 @@ use mathlib.Core.Path.{_≡_}
 use mathlib.Core.Bool.{true, false}
 use mathlib.Core.List.{List, [], _∷_}
 use mathlib.Core.Logic.{_⊎_}
-use lib.Dec.{eqb}
 use lib.ListN.{length, getD}
 use Rattle.numbers.specs.Numbers.{placesInGL, placesInGR, servedInGL, servedInGR, afterFirst, afterSecond, afterChoice, surcharge, priceOfClass}
 use Rattle.numbers.specs.Numbers.{secondSlot, changes}

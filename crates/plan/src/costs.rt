@@ -3,7 +3,7 @@ ghost use mathlib.Core.Path.{_≡_};
 ghost use mathlib.Core.Bool.{cond};
 ghost use Prim.Native.Nat.{ℕ, _+_, _*_, _≤_, _<_};
 ghost use lib.Dec.{eqb};
-ghost use lib.ListN.{length, getD};
+ghost use lib.ListN.{length};
 ghost use Rattle.plan.specs.Table.{Columns};
 ghost use Rattle.plan.specs.Costs.{surcharges, Tables, OfGL, InGR, OnBoth, leastBy, Smooth, CostsAhead, Turned, RowKept};
 ghost use Rattle.numbers.specs.Class as classes;

@@ -55,10 +55,11 @@ markTagged t =
     (pick (eqb t tag.left-to-right) (control ltr) (pick (eqb t tag.right-to-left) (control rtl) (control revert))))
 
 -- where o are the octets in which the segments stand
+abbrev pub otherTagged : List ℕ → ℕ → ℕ → ℕ → ℕ → TextUnit
+otherTagged o t high low start = cond (leb tag.segment t && ltb t tag.spare) (ext (tag.d + t) (take (countOf high low) (drop start o))) (markTagged t)
+
 unfoldable pub unitTagged : List ℕ → ℕ → ℕ → ℕ → ℕ → TextUnit
-unitTagged o t high low start =
-    cond (ltb t tag.tab) (textTagged t high low)
-    (cond (leb tag.segment t && ltb t tag.spare) (ext (tag.d + t) (take (countOf high low) (drop start o))) (markTagged t))
+unitTagged o t high low start = cond (ltb t tag.tab) (textTagged t high low) (otherTagged o t high low start)
 
 -- the unit of the row that starts at a place
 abbrev pub unitFrom : List ℕ → List ℕ → ℕ → TextUnit

@@ -1,7 +1,7 @@
 -- `emit::emit` meets its contract. The invariant: what is written and the writing of the rest are the whole.
 use Rattle.element.proofs.Names.{arith, _≡_, refl, _∙_, _-_, _≤_, length}
-use Rattle.emit.proofs.Stores.{written-length}
-use Rattle.emit.proofs.Forward.{Going, going-none, j-below, room-change, room-unit, going-more, going-end}
+use Rattle.octets.proofs.Storing.{written-length, stored-length}
+use Rattle.emit.proofs.Forward.{Going, going-none, room-unit, going-more, going-end}
 use Rattle.emit.proofs.emit.Statement.{statement}
 use Rattle.emit.proofs.emit.Tie as tie
 
@@ -20,19 +20,6 @@ choose-requires c κs =
       c .before .wide .ensures .0,
       c .wide2 .ensures .0,
       omega (arith, turn .before .before .before .before .before .pre .1, turn .loop-test .taken),
-    )
-
-put-change-requires : tie.Need-put-change-requires Inv-loop μ-loop
-put-change-requires c κs =
-    let class = c .before .before .before .before in
-    let turn = class .before .before in
-    let going = turn .before .loop .inv .2 in
-    let pre = turn .before .before .before .before .before .pre in
-    let its-class = class .class-of .ensures .0 in
-    let chosen = c .before .choose .ensures in (
-      going .state,
-      j-below going (pre .2) (turn .loop-test .taken) its-class chosen,
-      room-change going (pre .2) (turn .loop-test .taken) its-class chosen (pre .3),
     )
 
 put-row-requires : tie.Need-put-row-requires Inv-loop μ-loop
@@ -56,9 +43,9 @@ loop-again c =
     let changed = c .before .before .before .before .before .before .put-change .ensures in
     let written = c .before .before .put-row .ensures in (
       omega arith,
-      written-length written ∙ written-length changed ∙ inv .1,
+      written-length written ∙ stored-length changed ∙ inv .1,
       going-more (inv .2) (pre .2) (turn .loop-test .taken) (class .class-of .ensures .0) (chosen .choose .ensures)
-          (chosen .before .before .wide .ensures .0) changed written,
+          (chosen .before .before .wide .ensures .0) (pre .3) changed written,
     )
 
 pub emit-spec : {M : Type 1} → statement M
@@ -77,7 +64,7 @@ emit-spec =
     (λ c. c .before .class-of .ensures .1)
     (search arith)
     choose-requires
-    put-change-requires
+    (search arith)
     put-row-requires
     (search arith)
     (search arith)
