@@ -10,7 +10,7 @@ use Rattle.shortest.specs.Records.{workRoom}
 use Rattle.shortest.proofs.Costs.{writing-length}
 use Rattle.rows.specs.Rows.{tagAt, startFrom, unitTagged, unitFrom, unitsIn, rowsOf}
 use Rattle.numbers.specs.Numbers.{numbered, classOf, afterFirst, afterSecond, secondSlot}
-use Rattle.plan.specs.Costs.{TwoStandings}
+use Rattle.table.specs.Table.{TwoStandings}
 use Rattle.plan.specs.Plan.{Planned}
 use Rattle.plan.proofs.Units.{same-start}
 use Rattle.octets.specs.Octets.{Written}

@@ -13,7 +13,8 @@ use Rattle.shortest.proofs.Needs.{spent, least-chosen}
 use Rattle.shortest.proofs.Costs.{cost-steady}
 use Rattle.rows.specs.Rows.{tagAt, startFrom, countOf, partOf, unitsIn, sizeOf}
 use Rattle.numbers.specs.Numbers.{numbered, classOf, needOfClass, afterFirst, afterSecond, afterChoice, surcharge, secondSlot, changes}
-use Rattle.plan.specs.Costs.{leastBy, Smooth, Turned, TwoStandings, RowKept}
+use Rattle.plan.specs.Costs.{leastBy, Smooth, Turned}
+use Rattle.table.specs.Table.{TwoStandings, RowKept}
 use Rattle.plan.specs.Plan.{sizeAt, restFrom, CostsKept, Planned}
 use Rattle.numbers.proofs.Numbers.{choice-at, chosen-base, below, steady-at}
 use Rattle.plan.proofs.Again.{least-again, least-plus, least-space}

@@ -7,7 +7,7 @@ use Rattle.state.specs.declared.Sets.{Sets}
 use Rattle.rows.specs.Rows.{tagAt, unitsIn, sizeOf, partFrom}
 use Rattle.shortest.specs.Writing.{cost}
 use Rattle.numbers.specs.Numbers.{numbered, classOf, afterFirst, afterSecond, secondSlot}
-use Rattle.plan.specs.Costs.{TwoStandings}
+use Rattle.table.specs.Table.{TwoStandings}
 use Rattle.numbers.specs.Size as size
 use Rattle.rows.specs.Layout as layout
 

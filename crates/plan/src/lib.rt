@@ -11,7 +11,7 @@ use numbers::size;
 use rows::layout;
 
 mod costs;
-mod table;
+mod sums;
 
 // Plans n rows from the last to the first, and answers what their units cost from the fresh state.
 pub fn plan(work: &mut [u8], n: usize, segments: &[u8]) -> usize
@@ -35,7 +35,7 @@ pub fn plan(work: &mut [u8], n: usize, segments: &[u8]) -> usize
         let tag = work[row + layout::TAG];
         let size = rows::size_at(tag, work, row, m);
         let x = numbers::class_of(tag);
-        costs::keep(x, &cur, work, row);
+        table::keep(x, &cur, work, row);
         let t = costs::unit_before(last, x, &left, &right, &fours, &threes, &mut cur);
         base = base + size + t.base;
         last = t.last;

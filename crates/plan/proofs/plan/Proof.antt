@@ -52,7 +52,7 @@ loop-again c =
     let its-class = class .class-of .ensures .0 in
     let its-size = size .size-at .ensures .0 in (
       turn-known next (known .0) (known .1) its-class its-size (c .before .unit-before .ensures),
-      turn-planned next (known .0) (known .1) its-class its-size (kept .keep .ensures),
+      turn-planned next (known .0) (known .1) its-class its-size (kept .keep .ensures .there (row-lies known (turn .loop-test .taken) .costs)),
     )
 
 pub plan-spec : {M : Type 1} → statement M
@@ -71,8 +71,7 @@ plan-spec =
     (λ c. row-lies (c .before .before .loop .inv) (c .before .loop-test .taken) .read)
     (search arith)
     (search arith)
-    (λ c κs. let turn = c .before .before .before .before .before .before in
-    (c .before .before .class-of .ensures .1, row-lies (turn .before .loop .inv) (turn .loop-test .taken) .costs))
+    (search arith)
     unit-before-requires
     (λ c. let size = c .before .before .before .before .before .before .before .before .before .before .before .before in
     known-sum (size .before .before .before .before .loop .inv .0) (size .size-at .ensures .1) (c .unit-before .ensures .small) .0)
