@@ -1,6 +1,6 @@
 -- The choice by number is the writer's choice: shown by one computed test of all 17 classes and 80 numbers, from which the laws follow.
 use Rattle.element.proofs.Names.{_≡_, refl, sym, ap, ap₂, _∙_, Bool, true, false, cond, _||_, _&&_, not, List, Option, none, some, ℕ, _+_, _-_, _≤_}
-use Rattle.element.proofs.Names.{_<_, arith, length, getD, List·getD-eq-default, eqb, leb, ltb, eqb-true, eq-eqb, ne-eqb, ltb-true, ltb-false, lt-ltb, le-ltb}
+use Rattle.element.proofs.Names.{_<_, arith, length, getD, List·getD-eq-default, eqb, leb, ltb, eqb-true, eq-eqb, ltb-true, ltb-false, lt-ltb, le-ltb}
 use Rattle.element.proofs.Names.{leb-true, leb-false, le-leb, lt-leb, off, pick, test, up-to, from-tests, Side, GL, GR, allowed, mayUse, formOf, Standing, on, put}
 use Rattle.element.proofs.Names.{Sets}
 use mathlib.Core.Bool.{Bool·beq}
@@ -9,7 +9,7 @@ use Rattle.state.specs.State.{sets}
 use Rattle.grammar.specs.Units.{designation}
 use Rattle.shortest.specs.Writing.{Need, free, either, stands, met, price, least, choose, after, used}
 use Rattle.shortest.proofs.Needs.{Steady, least-chosen}
-use Rattle.numbers.specs.Numbers.{setsInGL, setsInGR, numbered, withGL, withGR, needOfClass, priceOfClass, placesInGL, placesInGR, afterFirst}
+use Rattle.numbers.specs.Numbers.{numbered, withGL, withGR, needOfClass, priceOfClass, placesInGL, placesInGR, afterFirst}
 use Rattle.numbers.specs.Numbers.{afterSecond, chosenBy, afterChoice, surcharge, change, sideAt}
 
 -- ---- tests of equality
@@ -245,28 +245,19 @@ bounded l b t i =
     test (ltb i (length l)) (λ e. leb-true _ _ (up-to (length l) (λ j. leb (getD l j 0) b) t i (ltb-true _ _ e)))
     (λ e. omega (arith, List·getD-eq-default l 0 (ltb-false _ _ e)))
 
+pub past-end : (l : List ℕ) {i : ℕ} → length l ≤ i → 0 ≡ getD l i 0
+past-end l h = sym (List·getD-eq-default l 0 h)
+
 -- what stands at the places below n of a list for which a test holds
 in-table : (l : List ℕ) (n : ℕ) (p : ℕ → Bool) (v : ℕ → ℕ) → upTo n (λ y. implies (p y) (eqb (v y) (getD l y 0))) ≡ true
     → (x : ℕ) → x < n → p x ≡ true → v x ≡ getD l x 0
 in-table l n p v t x h e = eqb-true _ _ (up-to-where n p (λ y. eqb (v y) (getD l y 0)) t x h e)
 
-pub gl-none : (x : ℕ) → x < 12 → (x ≡ 0 → ⊥) → (x ≡ 2 → ⊥) → 5 ≡ getD placesInGL x 0
-gl-none x h a b = in-table placesInGL 12 (λ y. not (eqb y 0) && not (eqb y 2)) (λ _. 5) refl x h (rw (ne-eqb x 0 a, ne-eqb x 2 b))
-
 pub gl-two : (x : ℕ) → 12 ≤ x → x < 15 → x - 10 ≡ getD placesInGL x 0
 gl-two x h k = in-table placesInGL 15 (leb 12) (λ y. y - 10) refl x k (le-leb 12 x h)
 
-pub gl-other : (x : ℕ) → 15 ≤ x → 0 ≡ getD placesInGL x 0
-gl-other x h = sym (List·getD-eq-default placesInGL 0 h)
-
-pub gr-none : (x : ℕ) → x < 3 → (x ≡ 1 → ⊥) → 13 ≡ getD placesInGR x 0
-gr-none x h a = in-table placesInGR 3 (λ y. not (eqb y 1)) (λ _. 13) refl x h (rw (ne-eqb x 1 a))
-
 pub gr-most : (x : ℕ) → 3 ≤ x → x < 15 → x - 2 ≡ getD placesInGR x 0
 gr-most x h k = in-table placesInGR 15 (leb 3) (λ y. y - 2) refl x k (le-leb 3 x h)
-
-pub gr-other : (x : ℕ) → 15 ≤ x → 0 ≡ getD placesInGR x 0
-gr-other x h = sym (List·getD-eq-default placesInGR 0 h)
 
 -- the numbers by a class's places
 module _ (x l r k : ℕ) (el : l ≡ getD placesInGL x 0) (er : r ≡ getD placesInGR x 0) where
@@ -307,19 +298,6 @@ unfolding priceOfClass
 price-gr x l h el b =
     eqb-true _ _
     (up-to-where 15 (λ y. not (ltb (getD placesInGL y 0) 5)) (λ y. eqb (priceOfClass y) 3) refl x h (rw (← el, le-ltb l 5)))
-
--- the set at a place
-pub gl-set : (g : ℕ) → g < 5 → (g ≡ 0 → ⊥) → (g ≡ 1 → ⊥) → g + 10 ≡ getD setsInGL g 0
-gl-set g h a b = in-table setsInGL 5 (leb 2) (λ y. y + 10) refl g h (le-leb 2 g (omega arith))
-
-pub gl-spare : (g : ℕ) → 5 ≤ g → 0 ≡ getD setsInGL g 0
-gl-spare g h = sym (List·getD-eq-default setsInGL 0 h)
-
-pub gr-set : (r : ℕ) → r < 13 → (r ≡ 0 → ⊥) → r + 2 ≡ getD setsInGR r 0
-gr-set r h a = in-table setsInGR 13 (leb 1) (λ y. y + 2) refl r h (le-leb 1 r (omega arith))
-
-pub gr-spare : (r : ℕ) → 13 ≤ r → 0 ≡ getD setsInGR r 0
-gr-spare r h = sym (List·getD-eq-default setsInGR 0 h)
 
 -- ---- the side
 

@@ -44,17 +44,9 @@ pub fn class_of(tag: u8) -> usize
 pub fn place_in_gl(x: usize) -> usize
     ensures { λ r. ⌜ r ≡ getD placesInGL x 0 ⌝ }
 {
-    if x < class::DOUBLE {
-        if x == 0 {
-            return 0;
-        }
-        if x == 2 {
-            return 1;
-        }
-        return size::GL;
-    }
+    let places = b"\x00\x05\x01\x05\x05\x05\x05\x05\x05\x05\x05\x05\x02\x03\x04";
     if x < class::SPACE {
-        return x - 10;
+        return places[x] as usize;
     }
     0
 }
@@ -63,14 +55,9 @@ pub fn place_in_gl(x: usize) -> usize
 pub fn place_in_gr(x: usize) -> usize
     ensures { λ r. ⌜ r ≡ getD placesInGR x 0 ⌝ }
 {
-    if x < 3 {
-        if x == 1 {
-            return 0;
-        }
-        return size::GR;
-    }
+    let places = b"\x0D\x00\x0D\x01\x02\x03\x04\x05\x06\x07\x08\x09\x0A\x0B\x0C";
     if x < class::SPACE {
-        return x - 2;
+        return places[x] as usize;
     }
     0
 }
@@ -79,14 +66,9 @@ pub fn place_in_gr(x: usize) -> usize
 pub fn set_in_gl(g: usize) -> usize
     ensures { λ r. ⌜ (r ≡ getD setsInGL g 0) × (r < 15) ⌝ }
 {
-    if g == 0 {
-        return 0;
-    }
-    if g == 1 {
-        return 2;
-    }
+    let sets = b"\x00\x02\x0C\x0D\x0E";
     if g < size::GL {
-        return g + 10;
+        return sets[g] as usize;
     }
     0
 }
@@ -95,11 +77,9 @@ pub fn set_in_gl(g: usize) -> usize
 pub fn set_in_gr(r: usize) -> usize
     ensures { λ q. ⌜ (q ≡ getD setsInGR r 0) × (q < 15) ⌝ }
 {
-    if r == 0 {
-        return 1;
-    }
+    let sets = b"\x01\x03\x04\x05\x06\x07\x08\x09\x0A\x0B\x0C\x0D\x0E";
     if r < size::GR {
-        return r + 2;
+        return sets[r] as usize;
     }
     0
 }

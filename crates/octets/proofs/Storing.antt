@@ -1,6 +1,6 @@
 -- Octets stored one after the other, and that they are those of designations and units.
 use Rattle.element.proofs.Names.{_≡_, refl, sym, ap, ap₂, _∙_, subst, Bool, true, false, cond, _&&_, not, false≢true, List, [], _∷_, _++_, ℕ, suc}
-use Rattle.element.proofs.Names.{_+_, _-_, _*_, _/_, _%_, _≤_, _<_, arith, add-one, ltb, leb, eqb, eq-eqb, ltb-true, ltb-false, lt-ltb, le-ltb, le-leb, lt-leb, leb-true, leb-false}
+use Rattle.element.proofs.Names.{_+_, _-_, _*_, _/_, _%_, _≤_, _<_, arith, add-one, ltb, leb, eqb, eq-eqb, ltb-true, ltb-false, lt-ltb, le-ltb, le-leb, lt-leb}
 use Rattle.element.proofs.Names.{eqb-true, ne-eqb, length, getD, set, take, drop, length-append, length-take, length-drop, sets, test, pick-last, pick-by, and-left}
 use Rattle.element.proofs.Names.{and-right, up-to, pick, Side, GL, GR, rowOf, formOf, on}
 use borrow.Author.Tests.{not-true}
@@ -60,24 +60,13 @@ room-as e at h = rw (sym e) h
 
 -- ---- where there is room
 
-pub room-none : (at n m : ℕ) → m < n → (false ≡ leb (at + n) m) × (false ≡ true → at + n ≤ m)
-room-none at n m h = (sym (lt-leb (at + n) m (omega arith)), λ e. absurd (false≢true e))
+pub stored-yes : {l m : List ℕ} {at r : ℕ} {xs : List ℕ} → at + length xs ≤ length l → Written l at xs r m → Stored l at xs r m
+unfolding pick
+stored-yes {l} {at = at} {xs = xs} h w = let e = le-leb (at + length xs) (length l) h in record { next = rw e (w .next); now = rw e (w .now) }
 
-pub room-left : (at n m : ℕ) → n ≤ m → (leb at (m - n) ≡ leb (at + n) m) × (leb at (m - n) ≡ true → at + n ≤ m)
-room-left at n m h = (
-  test (leb at (m - n)) (λ e. e ∙ sym (le-leb (at + n) m (omega (arith, leb-true at (m - n) e))))
-      (λ e. e ∙ sym (lt-leb (at + n) m (omega (arith, leb-false at (m - n) e)))),
-  λ e. omega (arith, leb-true at (m - n) e),
-)
-
-module _ {l : List ℕ} {at : ℕ} {xs : List ℕ} {t : Bool} (e : t ≡ leb (at + length xs) (length l)) where
-  pub stored-yes : t ≡ true → {r : ℕ} {m : List ℕ} → Written l at xs r m → Stored l at xs r m
-  unfolding pick
-  stored-yes q w = let h = sym e ∙ q in record { next = rw h (w .next); now = rw h (w .now) }
-
-  pub stored-no : t ≡ false → Stored l at xs at l
-  unfolding pick
-  stored-no q = let h = sym e ∙ q in record { next = rw h; now = rw h }
+pub stored-no : {l : List ℕ} {at : ℕ} {xs : List ℕ} → length l < at + length xs → Stored l at xs at l
+unfolding pick
+stored-no {l} {at} {xs} h = let e = lt-leb (at + length xs) (length l) h in record { next = rw e; now = rw e }
 
 -- what has room is written
 pub stored-written : {l m : List ℕ} {at r : ℕ} {xs : List ℕ} → at + length xs ≤ length l → Stored l at xs r m → Written l at xs r m
@@ -202,14 +191,9 @@ segment-parts o e n m s h =
     take-least : (n m : ℕ) (xs : List ℕ) → length (take n xs) ≡ m → take n xs ≡ take m xs
     take-least n m xs l = sym (take-all m (take n xs) (omega arith)) ∙ take-take m n xs (omega (arith, l, length-take n xs))
 
--- their count, and so the test of their room
-segment-length : (o : List ℕ) (e n s : ℕ) → length (octets GL (ext e (take n (drop s o)))) ≡ 6 + partOf n s (length o)
+pub segment-length : (o : List ℕ) (e n s : ℕ) → length (octets GL (ext e (take n (drop s o)))) ≡ 6 + partOf n s (length o)
 unfolding octets
 segment-length o e n s = omega (arith, part-length o n s)
-
-pub segment-test : (o : List ℕ) (e n s at m : ℕ) (l : List ℕ) {t : Bool} → m ≡ partOf n s (length o) → t ≡ leb (at + (6 + m)) (length l)
-    → t ≡ leb (at + length (octets GL (ext e (take n (drop s o))))) (length l)
-segment-test o e n s at m l h q = q ∙ ap (λ (k : ℕ). leb (at + k) (length l)) (ap (λ (k : ℕ). 6 + k) h ∙ sym (segment-length o e n s))
 
 -- the two threes have room, and after them the part
 module _ {l mid last : List ℕ} {at p q a b c x y z : ℕ} (m : ℕ) (h : at + (6 + m) ≤ length l) (lead : Stored l at (a ∷ b ∷ c ∷ []) p mid)

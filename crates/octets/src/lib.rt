@@ -123,12 +123,15 @@ fn put_segment(d: u8, n: usize, start: usize, segments: &[u8], out: &mut [u8], a
     ensures { λ r. ⌜ Stored (now (out .entry)) at (octets GL (ext d (take n (drop start (now (segments .entry)))))) r (now (out .exit)) ⌝ }
 {
     let m = rows::part_of(n, start, segments.len());
-    if stores::has_room(at, 6 + m, out.len()) {
-        let p = stores::put_three(0x1B, 0x25, 0x2F, out, at);
-        let q = stores::put_three(d, (128 + m / 128) as u8, (128 + m % 128) as u8, out, p);
-        return stores::copy(segments, start, m, out, q);
+    if out.len() < 6 + m {
+        return at;
     }
-    at
+    if out.len() - (6 + m) < at {
+        return at;
+    }
+    let p = stores::put_three(0x1B, 0x25, 0x2F, out, at);
+    let q = stores::put_three(d, (128 + m / 128) as u8, (128 + m % 128) as u8, out, p);
+    stores::copy(segments, start, m, out, q)
 }
 
 // Stores the segment or the mark of the row that starts at a place, and answers the next place.

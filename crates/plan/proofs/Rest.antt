@@ -226,7 +226,7 @@ module _ {o before : List ℕ} {n i base last : ℕ} {cur : List ℕ} (v : Known
   pub known-sum : {w r : ℕ} → w ≤ 16389 → r ≤ 128 → Fits w64 (base + w) × Fits w64 (base + w + r)
   known-sum hw hr = (omega (arith, known-bound), omega (arith, known-bound))
 
-  pub known-low : (j : ℕ) → getD cur j 0 ≤ 208
+  known-low : (j : ℕ) → getD cur j 0 ≤ 208
   known-low j =
       test (ltb j 80)
       (λ e. let h = ltb-true j 80 e in

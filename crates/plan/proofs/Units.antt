@@ -60,7 +60,7 @@ module _ (o : List ℕ) (t a b s : ℕ) where
         le-ltb t tag.segment h,
       )
 
-  pub size-tagged : unitSize unit ≡ sizeOf t part
+  size-tagged : unitSize unit ≡ sizeOf t part
   unfolding unitSize octets pick
   size-tagged =
       test (ltb t tag.segment) (λ e. size-low (ltb-true t tag.segment e))

@@ -8,9 +8,8 @@ pub put-one-spec : {M : Type 1} → statement M
 put-one-spec =
     tie.close
     (tie.spec
+    (λ c. stored-no (omega arith))
     (search arith)
-    (λ c. omega (arith, c .before .has-room .ensures .1 (c .if1 .taken)))
-    (λ c. omega (arith, c .before .has-room .ensures .1 (c .if1 .taken)))
+    (search arith)
     (search (length-set, arith))
-    (λ c. stored-yes (c .before .has-room .ensures .0) (c .if1 .taken) (written-1 _ _ _))
-    (λ c. stored-no (c .before .has-room .ensures .0) (c .if1 .left)))
+    (λ c. stored-yes (omega arith) (written-1 _ _ _)))
