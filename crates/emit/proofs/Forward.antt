@@ -86,7 +86,7 @@ module _ (o w : List ℕ) (n i k : ℕ) (h : i < n) (hk : k < 80) where
   by-row : Ready o w n → (y : ℕ) → y ≡ x → chosenBy y k (firstKept w i k) (secondKept w i y k) ≡ next
   by-row r y e =
       rw e
-      (test (ltb x 12) (λ q. chosen-single x k _ _ _ _ (ltb-true x 12 q) hk)
+      (test (ltb x 12) (λ q. chosen-single x k _ _ _ _ (ltb-true x 12 q))
       (λ q. test (ltb x 16)
       (λ u. let c = r i h (ltb-false x 12 q, ltb-true x 16 u) in chosen-base x k (c .base) _ _ _ _ (c .first-cost k hk) (c .second-cost k hk))
       (λ u. let l = ltb-false x 16 u in

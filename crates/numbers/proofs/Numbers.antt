@@ -1,6 +1,6 @@
 -- The choice by number is the writer's choice: shown by one computed test of all 17 classes and 80 numbers, from which the laws follow.
 use Rattle.element.proofs.Names.{_≡_, refl, sym, ap, ap₂, _∙_, Bool, true, false, cond, _||_, _&&_, not, List, Option, none, some, ℕ, _+_, _-_, _≤_}
-use Rattle.element.proofs.Names.{_<_, arith, length, getD, List·getD-eq-default, eqb, leb, ltb, eqb-true, eq-eqb, ltb-true, ltb-false, lt-ltb, le-ltb}
+use Rattle.element.proofs.Names.{_<_, arith, length, getD, List·getD-eq-default, eqb, leb, ltb, eqb-true, eq-eqb, ne-eqb, ltb-true, ltb-false, lt-ltb, le-ltb}
 use Rattle.element.proofs.Names.{leb-true, leb-false, le-leb, lt-leb, off, pick, test, up-to, from-tests, Side, GL, GR, allowed, mayUse, formOf, Standing, on, put}
 use Rattle.element.proofs.Names.{Sets}
 use mathlib.Core.Bool.{Bool·beq}
@@ -216,22 +216,32 @@ chosen-tests x k a b u v ea eb e = e ∙ rw (← ea, ← eb) (go (eqb a k) (eqb 
 
 -- ---- classes with one designation, and with none
 
-all-single : upTo 12 (λ x. upTo 80 (λ k. eqb (afterFirst x k) (afterSecond x k))) ≡ true
+-- a set of one octet has a place on one side alone
+single : (x k : ℕ) → x < 12 → afterFirst x k ≡ afterSecond x k
 unfolding afterFirst afterSecond
-all-single = refl
-
-pub single : (x k : ℕ) → x < 12 → k < 80 → afterFirst x k ≡ afterSecond x k
-single x k hx hk = eqb-true _ _ (up-to-both 12 80 (λ y m. eqb (afterFirst y m) (afterSecond y m)) all-single x k hx hk)
+single x k h =
+    let e : ltb (getD placesInGL x 0) 5 ≡ not (ltb (getD placesInGR x 0) 13) = beq-eq _ _
+    (up-to 12 (λ y. Bool·beq (ltb (getD placesInGL y 0) 5) (not (ltb (getD placesInGR y 0) 13))) refl x h) in
+    rw (lt-ltb x 15 (omega arith), e) (go (ltb (getD placesInGR x 0) 13))
+  where
+    go : (t : Bool) → cond (not t) (withGL (getD placesInGL x 0) k) (withGR (getD placesInGR x 0) k)
+        ≡ cond t (withGR (getD placesInGR x 0) k) (withGL (getD placesInGL x 0) k)
+    go true = refl
+    go false = refl
 
 cond-same : (t : Bool) (a : ℕ) → cond t a a ≡ a
 cond-same true a = refl
 cond-same false a = refl
 
-pub chosen-single : (x k u v u′ v′ : ℕ) → x < 12 → k < 80 → chosenBy x k u v ≡ chosenBy x k u′ v′
+pub chosen-single : (x k u v u′ v′ : ℕ) → x < 12 → chosenBy x k u v ≡ chosenBy x k u′ v′
 unfolding chosenBy
-chosen-single x k u v u′ v′ hx hk =
-    rw (← single x k hx hk)
+chosen-single x k u v u′ v′ hx =
+    rw (← single x k hx)
     (ap (cond (eqb (afterFirst x k) k || eqb (afterFirst x k) k) k) (cond-same (leb u v) (afterFirst x k) ∙ sym (cond-same (leb u′ v′) (afterFirst x k))))
+
+pub chosen-only : (x k a u v : ℕ) → a ≡ afterFirst x k → (a ≡ k → ⊥) → x < 12 → a ≡ chosenBy x k u v
+unfolding chosenBy
+chosen-only x k a u v ea n hx = rw (← single x k hx, ← ea, ne-eqb a k n) (sym (cond-same (leb u v) a))
 
 pub chosen-free : (k u v u′ v′ : ℕ) → chosenBy 16 k u v ≡ chosenBy 16 k u′ v′
 unfolding chosenBy afterFirst

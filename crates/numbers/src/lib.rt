@@ -104,6 +104,9 @@ pub fn chosen(x: usize, k: usize, u: u8, v: u8) -> usize
     if a == k {
         return k;
     }
+    if x < class::DOUBLE {
+        return a;
+    }
     let b = slots::after_second(x, k);
     if b == k {
         return k;
