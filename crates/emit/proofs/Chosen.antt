@@ -1,17 +1,9 @@
--- The choice by tests on the two numbers and on what a row keeps.
-use Rattle.element.proofs.Names.{_≡_, refl, _∙_, Bool, true, false, cond, _||_, or-true, List, [], ℕ, _+_, _/_, _%_, _≤_, _<_, getD, eqb, leb, eq-eqb}
-use Rattle.element.proofs.Names.{ne-eqb, le-leb, lt-leb, on}
+-- Where a place that serves a class stands, nothing is designated; and where the slots of a row lie.
+use Rattle.element.proofs.Names.{_≡_, refl, _∙_, Bool, true, _||_, or-true, ℕ, _/_, _%_, _<_, arith, getD, eqb, ltb, eq-eqb, test}
 use mathlib.Core.Bool.{Bool·beq}
 use Rattle.base.proofs.Bools.{implies, implies-elim, upTo, up-to-both}
-use Rattle.grammar.specs.Units.{designation}
-use Rattle.shortest.specs.Writing.{designated}
-use Rattle.numbers.specs.Numbers.{setsInGL, setsInGR, servedInGL, servedInGR, afterFirst, afterSecond, chosenBy, change}
-use Rattle.emit.specs.Octets.{sideOf}
+use Rattle.numbers.specs.Numbers.{setsInGL, servedInGL, servedInGR, afterFirst, afterSecond, secondSlot, chosenBy}
 use Rattle.numbers.proofs.Numbers.{beq-eq}
-
-pub first-stays : (x k a u v : ℕ) → a ≡ afterFirst x k → a ≡ k → k ≡ chosenBy x k u v
-unfolding chosenBy
-first-stays x k a u v ea e = rw (← ea, eq-eqb a k e)
 
 -- where a place that serves the class stands, nothing is designated: by one computed test of all 17 classes and 80 numbers
 abbrev stands : ℕ → ℕ → Bool
@@ -45,31 +37,6 @@ its-place x g hx hg =
     beq-eq (eqb g (getD servedInGL x 0)) (eqb (getD setsInGL g 0) x)
     (up-to-both 15 5 (λ y m. Bool·beq (eqb m (getD servedInGL y 0)) (eqb (getD setsInGL m 0) y)) sided x g hx hg)
 
-module _ (x k a b u v : ℕ) (ea : a ≡ afterFirst x k) (eb : b ≡ afterSecond x k) where
-  pub second-stays : b ≡ k → k ≡ chosenBy x k u v
-  unfolding chosenBy
-  second-stays e = rw (← ea, ← eb, eq-eqb b k e, or-true (eqb a k))
-
-  module _ (n : a ≡ k → ⊥) (m : b ≡ k → ⊥) where
-    pub first-taken : u ≤ v → a ≡ chosenBy x k u v
-    unfolding chosenBy
-    first-taken l = rw (← ea, ← eb, ne-eqb a k n, ne-eqb b k m, le-leb u v l)
-
-    pub second-taken : v < u → b ≡ chosenBy x k u v
-    unfolding chosenBy
-    second-taken l = rw (← ea, ← eb, ne-eqb a k n, ne-eqb b k m, lt-leb u v l)
-
--- the designation that makes number k number j, by tests on the numbers
-pub change-none : (k j : ℕ) → j ≡ k → designated (change k j) ≡ []
-unfolding change
-change-none k j e = rw (eq-eqb j k e)
-
-pub change-gr : (k j c : ℕ) → (j ≡ k → ⊥) → j / 16 ≡ k / 16 → c ≡ getD setsInGR (j % 16) 0
-    → designated (change k j) ≡ designation (on (sideOf false) c)
-unfolding change
-change-gr k j c n e q = rw (ne-eqb j k n, eq-eqb (j / 16) (k / 16) e, q)
-
-pub change-gl : (k j c : ℕ) → (j ≡ k → ⊥) → (j / 16 ≡ k / 16 → ⊥) → c ≡ getD setsInGL (j / 16) 0
-    → designated (change k j) ≡ designation (on (sideOf true) c)
-unfolding change
-change-gl k j c n e q = rw (ne-eqb j k n, ne-eqb (j / 16) (k / 16) e, q)
+-- the slots lie before the row's unit
+pub slot-below : (x k : ℕ) → k < 80 → secondSlot x k < 65
+slot-below x k h = test (ltb x 15) (λ e. rw e (omega arith)) (λ e. rw e (omega arith))

@@ -7,17 +7,17 @@ use Rattle.grammar.specs.Units.{TextUnit, octets}
 use Rattle.shortest.specs.Writing.{Need, choose, after, met, need, cost, used, designated, writing}
 use Rattle.shortest.proofs.Needs.{chosen-met}
 use Rattle.rows.specs.Rows.{tagAt, highOctet, lowOctet, startFrom, unitFrom, unitsIn}
-use Rattle.numbers.specs.Numbers.{servedInGL, numbered, classOf, needOfClass, afterFirst, afterSecond, chosenBy, afterChoice, change, sideAt}
-use Rattle.plan.specs.Costs.{secondSlot}
+use Rattle.numbers.specs.Numbers.{servedInGL, numbered, classOf, needOfClass, chosenBy, afterChoice, change, sideAt}
+use Rattle.numbers.specs.Numbers.{secondSlot}
 use Rattle.plan.specs.Plan.{restFrom}
 use Rattle.numbers.proofs.Numbers.{Choice, choice-at, chosen-base, chosen-single, chosen-free, used-side}
 use Rattle.plan.proofs.Units.{need-tagged}
 use Rattle.plan.proofs.Rest.{class-below, fresh-number}
-use Rattle.emit.specs.Octets.{Written, sideOf}
+use Rattle.unit_octets.specs.Octets.{Written, Stored, sideOf}
 use Rattle.emit.specs.Emit.{Ready}
 use Rattle.emit.proofs.Chosen.{its-place}
 use Rattle.emit.proofs.Row.{side-free}
-use Rattle.emit.proofs.Stores.{written-both, written-none, written-length, written-as}
+use Rattle.unit_octets.proofs.Storing.{written-both, written-none, written-length, written-as, stored-written}
 
 -- one turn of the writing
 turn : (u : TextUnit) (us : List TextUnit) (s t : Sets) (p : Option Standing) (d : Side) → choose (need u) (cost us) s ≡ p
@@ -86,7 +86,7 @@ module _ (o w : List ℕ) (n i k : ℕ) (h : i < n) (hk : k < 80) where
   by-row : Ready o w n → (y : ℕ) → y ≡ x → chosenBy y k (firstKept w i k) (secondKept w i y k) ≡ next
   by-row r y e =
       rw e
-      (test (ltb x 12) (λ q. chosen-single x k _ _ _ _ (ltb-true x 12 q) hk)
+      (test (ltb x 12) (λ q. chosen-single x k _ _ _ _ (ltb-true x 12 q))
       (λ q. test (ltb x 16)
       (λ u. let c = r i h (ltb-false x 12 q, ltb-true x 16 u) in chosen-base x k (c .base) _ _ _ _ (c .first-cost k hk) (c .second-cost k hk))
       (λ u. let l = ltb-false x 16 u in
@@ -132,7 +132,7 @@ module _ {o w before : List ℕ} {n i k at : ℕ} {after : List ℕ} (g : Going 
   step : writing (unitsIn o w i (n - i)) (numbered k) ≡ changed ++ (unit′ ++ rest′)
   step = rw planned (write-step o w n i k h (g .state))
 
-  pub j-below : j < 80
+  j-below : j < 80
   j-below = rw planned (its-choice o w n i k h (g .state) .below)
 
   lengths : at + (length changed + length unit′) ≤ length (whole o w n)
@@ -147,10 +147,11 @@ module _ {o w before : List ℕ} {n i k at : ℕ} {after : List ℕ} (g : Going 
         length-append unit′ rest′,
       )
 
-  pub room-change : length (whole o w n) ≤ length before → at + length (designated (change k j)) ≤ length after
-  room-change fits = omega (arith, lengths, written-length (g .put))
+  module _ {l : ℕ} (el : l ≡ getD servedInGL x 0) (fits : length (whole o w n) ≤ length before) {a : ℕ} {mid : List ℕ}
+      (s : Stored after at (designated (change k j)) a mid) where
+    changed-put : Written after at (designated (change k j)) a mid
+    changed-put = stored-written (omega (arith, lengths, written-length (g .put))) s
 
-  module _ {l : ℕ} (el : l ≡ getD servedInGL x 0) where
     abbrev pub shownNow : List ℕ
     shownNow = octets (sideOf (eqb (j / 16) l)) (unitFrom o w (72 * i))
 
@@ -164,16 +165,15 @@ module _ {o w before : List ℕ} {n i k at : ℕ} {after : List ℕ} (g : Going 
         (ap (λ (y : ℕ). eqb (j / 16) y) c ∙ its-place (tagAt w i) (j / 16) t (omega (arith, j-below))))
         (λ e. side-free o w (72 * i) _ _ (ltb-false (tagAt w i) 15 e))
 
-    pub room-unit : length (whole o w n) ≤ length before → {a : ℕ} {mid : List ℕ} → Written after at (designated (change k j)) a mid
-        → a + length shownNow ≤ length mid
-    room-unit fits p = omega (arith, lengths, written-length (g .put), p .next, written-length p, ap length shown-same)
+    pub room-unit : a + length shownNow ≤ length mid
+    room-unit =
+        omega (arith, lengths, written-length (g .put), changed-put .next, written-length changed-put, ap length shown-same)
 
-    pub going-more : {a b : ℕ} {mid last : List ℕ} → Written after at (designated (change k j)) a mid → Written mid a shownNow b last
-        → Going o w before n (i + 1) j b last
-    going-more p q =
+    pub going-more : {b : ℕ} {last : List ℕ} → Written mid a shownNow b last → Going o w before n (i + 1) j b last
+    going-more q =
         record {
           done = g .done ++ (changed ++ unit′);
-          put = written-both (g .put) (written-both p (written-as (sym shown-same) q));
+          put = written-both (g .put) (written-both changed-put (written-as (sym shown-same) q));
           rest =
               let e : i + 1 ≡ suc i = omega arith in
               rw e

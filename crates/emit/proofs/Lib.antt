@@ -1,4 +1,3 @@
-pub mod Stores
 pub mod Chosen
 pub mod Row
 pub mod Forward

@@ -1,11 +1,11 @@
--- The octets of the unit of a row, by its tag: those of text, of a segment, of a mark. Only the octets of text depend on the side.
-use Rattle.element.proofs.Names.{ℕ, _+_, _%_, _≤_, _<_, arith, _≡_, refl, sym, ap, ap₂, _∙_, Bool, true, false, cond, _&&_, List, [], _∷_, ltb, leb, eqb, getD}
+-- The octets of the unit of a row, by its tag: those of text, or of a segment or a mark. Only the octets of text depend on the side.
+use Rattle.element.proofs.Names.{ℕ, _+_, _%_, _≤_, _<_, arith, _≡_, refl, ap, _∙_, Bool, true, false, cond, _&&_, List, [], _∷_, ltb, leb, eqb, getD}
 use Rattle.element.proofs.Names.{take, drop, le-ltb, pick, Side, GL}
 use Rattle.grammar.specs.Units.{TextUnit, space, control, tab, newline, ltr, rtl, revert, ext, octets, top}
-use Rattle.rows.specs.Rows.{highOctet, lowOctet, startFrom, countOf, textTagged, markTagged, unitTagged, unitFrom}
+use Rattle.rows.specs.Rows.{highOctet, lowOctet, startFrom, countOf, textTagged, markTagged, otherTagged, unitTagged, unitFrom}
 use Rattle.rows.specs.Tag as tag
-use Rattle.rows.proofs.Units.{unit-text, unit-segment, unit-mark}
-use Rattle.emit.proofs.Stores.{paired, two-octets, single-octet}
+use Rattle.rows.proofs.Units.{unit-text, unit-other}
+use Rattle.unit_octets.proofs.Storing.{paired, two-octets, single-octet}
 
 -- the octets of a unit that is no character are the same on each side
 mark-free : (t : ℕ) (d e : Side) → octets d (markTagged t) ≡ octets e (markTagged t)
@@ -34,6 +34,9 @@ tagged-free o t a b s d e h = rw (le-ltb t tag.double (omega arith), le-ltb t ta
     go false true = refl
     go false false = mark-free t d e
 
+pub side-free : (o w : List ℕ) (row : ℕ) (d e : Side) → tag.space ≤ getD w (row + 65) 0 → octets d (unitFrom o w row) ≡ octets e (unitFrom o w row)
+side-free o w row d e h = tagged-free o (getD w (row + 65) 0) (highOctet w row) (lowOctet w row) (startFrom w row) d e h
+
 module _ (o w : List ℕ) (row : ℕ) (d : Side) where
   abbrev t : ℕ
   t = getD w (row + 65) 0
@@ -49,15 +52,5 @@ module _ (o w : List ℕ) (row : ℕ) (d : Side) where
       → pick (ltb t tag.double) false (ltb t tag.space) ≡ false → t < tag.tab → octets d (unitFrom o w row) ≡ y ∷ []
   row-one y ey n h = text-octets h ∙ single-octet d t (highOctet w row) (lowOctet w row) y ey n h
 
-  pub segment-octets : (n s : ℕ) → n ≡ countOf (highOctet w row) (lowOctet w row) → s ≡ startFrom w row → tag.segment ≤ t → t < tag.spare
-      → octets d (unitFrom o w row) ≡ octets GL (ext (tag.d + t) (take n (drop s o)))
-  unfolding octets
-  segment-octets n s en es h k =
-      ap (octets d) (unit-segment o t (highOctet w row) (lowOctet w row) (startFrom w row) h k)
-      ∙ ap₂ (λ (x y : ℕ). octets GL (ext (tag.d + t) (take x (drop y o)))) (sym en) (sym es)
-
-  pub mark-octets : tag.tab ≤ t → (tag.segment ≤ t → t < tag.spare → ⊥) → octets d (unitFrom o w row) ≡ octets GL (markTagged t)
-  mark-octets h n = ap (octets d) (unit-mark o t (highOctet w row) (lowOctet w row) (startFrom w row) h n) ∙ mark-free t d GL
-
-pub side-free : (o w : List ℕ) (row : ℕ) (d e : Side) → tag.space ≤ getD w (row + 65) 0 → octets d (unitFrom o w row) ≡ octets e (unitFrom o w row)
-side-free o w row d e h = tagged-free o (getD w (row + 65) 0) (highOctet w row) (lowOctet w row) (startFrom w row) d e h
+  pub other-octets : tag.tab ≤ t → octets d (unitFrom o w row) ≡ octets GL (otherTagged o t (highOctet w row) (lowOctet w row) (startFrom w row))
+  other-octets h = side-free o w row d GL (omega arith) ∙ ap (octets GL) (unit-other o t (highOctet w row) (lowOctet w row) (startFrom w row) h)

@@ -8,12 +8,12 @@ use Rattle.shortest.specs.Writing.{cost, writing}
 use Rattle.shortest.specs.Demand.{writeAnswer, outputAfter}
 use Rattle.shortest.specs.Records.{workRoom}
 use Rattle.shortest.proofs.Costs.{writing-length}
-use Rattle.rows.specs.Rows.{tagAt, startFrom, unitTagged, unitFrom, unitsIn}
-use Rattle.numbers.specs.Numbers.{numbered, classOf, afterFirst, afterSecond}
-use Rattle.plan.specs.Costs.{TwoStandings, secondSlot}
-use Rattle.plan.specs.Plan.{rowsOf, Planned}
+use Rattle.rows.specs.Rows.{tagAt, startFrom, unitTagged, unitFrom, unitsIn, rowsOf}
+use Rattle.numbers.specs.Numbers.{numbered, classOf, afterFirst, afterSecond, secondSlot}
+use Rattle.table.specs.Table.{TwoStandings}
+use Rattle.plan.specs.Plan.{Planned}
 use Rattle.plan.proofs.Units.{same-start}
-use Rattle.emit.specs.Octets.{Written}
+use Rattle.unit_octets.specs.Octets.{Written}
 use Rattle.emit.specs.Emit.{rowsAnswer, rowsOutput, Ready}
 
 -- ---- the rows hold the same units before and after the plan

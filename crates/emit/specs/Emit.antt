@@ -12,7 +12,7 @@ use Rattle.rows.specs.Rows.{tagAt, unitsIn}
 use Rattle.shortest.specs.Demand.{writeAnswer, outputAfter}
 use Rattle.shortest.specs.Records.{workRoom}
 use Rattle.numbers.specs.Numbers.{classOf}
-use Rattle.plan.specs.Costs.{TwoStandings}
+use Rattle.table.specs.Table.{TwoStandings}
 use Rattle.plan.specs.Plan.{CostsKept}
 
 -- ---- the whole

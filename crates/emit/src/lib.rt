@@ -1,68 +1,28 @@
 // Writing the units of the rows: the plan, the answer, and where it accepts the shortest string, from the first row to the last.
 ghost use mathlib.Core.Path.{_≡_};
-ghost use Prim.Native.Nat.{_+_, _*_, _/_, _%_, _≤_, _<_};
+ghost use mathlib.Core.List.{[], _∷_};
+ghost use Prim.Native.Nat.{_+_, _*_, _%_, _≤_, _<_};
 ghost use lib.ListN.{length, getD};
 ghost use Rattle.state.specs.State.{fresh};
 ghost use Rattle.grammar.specs.Units.{octets};
-ghost use Rattle.shortest.specs.Writing.{writing, designated};
+ghost use Rattle.shortest.specs.Writing.{writing};
 ghost use Rattle.rows.specs.Layout as layouts;
 ghost use Rattle.rows.specs.Rows.{unitFrom, unitsIn};
-ghost use Rattle.numbers.specs.Numbers.{servedInGL, servedInGR, chosenBy, change};
-ghost use Rattle.plan.specs.Costs.{secondSlot};
-ghost use Rattle.emit.specs.Octets.{Written, sideOf};
+ghost use Rattle.numbers.specs.Numbers.{servedInGL, servedInGR, secondSlot, chosenBy};
+ghost use Rattle.unit_octets.specs.Octets.{Written, sideOf};
 ghost use Rattle.emit.specs.Emit.{rowsAnswer, rowsOutput, Ready};
 ghost use Rattle.numbers.specs.Size as sizes;
 ghost use Rattle.numbers.specs.Class as classes;
 use base::Answer;
 use base::limit;
 use base::refusal;
-use numbers::class;
 use numbers::size;
 use rows::layout;
 use rows::tag;
 
-mod octets;
-mod slots;
-
-// Where a row keeps what the rest costs after the second designation, for a class that has two.
-fn second_slot(x: usize, k: usize) -> usize
-    requires { ⌜ k < sizes.numbers ⌝ }
-    ensures { λ q. ⌜ (q ≡ secondSlot x k) × (q < layouts.tag) ⌝ }
-{
-    if x < class::SPACE {
-        size::COLUMNS + k / size::COLUMNS
-    } else {
-        size::COLUMNS + k % size::COLUMNS
-    }
-}
-
-// The number after the choice for a unit of class x under number k, by what its row keeps.
-fn choose(x: usize, k: usize, work: &[u8], row: usize) -> usize
-    requires { ⌜ (k < sizes.numbers) × (row + layouts.tag ≤ length (now work)) ⌝ }
-    ensures { λ q. ⌜ q ≡ chosenBy x k (getD (now (work .entry)) (row + k % sizes.columns) 0) (getD (now (work .entry)) (row + secondSlot x k) 0) ⌝ }
-{
-    let l = numbers::place_in_gl(x);
-    let r = numbers::place_in_gr(x);
-    let a = slots::after_first(x, l, r, k);
-    if a == k {
-        return k;
-    }
-    if x < class::DOUBLE {
-        return a;
-    }
-    let b = slots::after_second(x, l, r, k);
-    if b == k {
-        return k;
-    }
-    if work[row + k % size::COLUMNS] <= work[row + second_slot(x, k)] {
-        a
-    } else {
-        b
-    }
-}
-
-// The same, where l and r are the places of GL and GR that serve the class: k at once, where one of them stands.
-fn choose_quickly(x: usize, k: usize, l: usize, r: usize, work: &[u8], row: usize) -> usize
+// The number after the choice for a unit of class x under number k, by what its row keeps. Where l or r, the places of GL and GR that serve
+// the class, stands, it is k at once.
+fn choose(x: usize, k: usize, l: usize, r: usize, work: &[u8], row: usize) -> usize
     requires { ⌜ (x < classes.all) × (k < sizes.numbers) × (l ≡ getD servedInGL x 0) × (r ≡ getD servedInGR x 0)
         × (row + layouts.tag ≤ length (now work)) ⌝ }
     ensures { λ q. ⌜ q ≡ chosenBy x k (getD (now (work .entry)) (row + k % sizes.columns) 0) (getD (now (work .entry)) (row + secondSlot x k) 0) ⌝ }
@@ -73,21 +33,26 @@ fn choose_quickly(x: usize, k: usize, l: usize, r: usize, work: &[u8], row: usiz
     if k % size::COLUMNS == r {
         return k;
     }
-    choose(x, k, work, row)
+    let slot = numbers::second_slot(x, k);
+    numbers::chosen(x, k, work[row + k % size::COLUMNS], work[row + slot])
 }
 
-// Writes the designation that makes number k number j, and answers the next place.
-fn put_change(k: usize, j: usize, out: &mut [u8], at: usize) -> usize
-    requires { ⌜ (k < sizes.numbers) × (j < sizes.numbers) × (at + length (designated (change k j)) ≤ length (now out)) ⌝ }
-    ensures { λ r. ⌜ Written (now (out .entry)) at (designated (change k j)) r (now (out .exit)) ⌝ }
+// These write one octet and two, and answer the next place.
+fn put_one(a: u8, out: &mut [u8], at: usize) -> usize
+    requires { ⌜ at + 1 ≤ length (now out) ⌝ }
+    ensures { λ r. ⌜ Written (now (out .entry)) at (a ∷ []) r (now (out .exit)) ⌝ }
 {
-    if j == k {
-        return at;
-    }
-    if j / size::COLUMNS == k / size::COLUMNS {
-        return octets::put_designation(false, slots::set_in_gr(j % size::COLUMNS), out, at);
-    }
-    octets::put_designation(true, slots::set_in_gl(j / size::COLUMNS), out, at)
+    out[at] = a;
+    at + 1
+}
+
+fn put_two(a: u8, b: u8, out: &mut [u8], at: usize) -> usize
+    requires { ⌜ at + 2 ≤ length (now out) ⌝ }
+    ensures { λ r. ⌜ Written (now (out .entry)) at (a ∷ b ∷ []) r (now (out .exit)) ⌝ }
+{
+    out[at] = a;
+    out[at + 1] = b;
+    at + 2
 }
 
 // Writes the unit of the row that starts at a place, on a side, and answers the next place.
@@ -99,23 +64,16 @@ fn put_row(work: &[u8], row: usize, left: bool, segments: &[u8], out: &mut [u8],
 {
     let tag = work[row + layout::TAG];
     // two octets first: the compiler makes one comparison of the test
-    if octets::two_octets(tag) {
-        let high = octets::on_side(left, work[row + layout::HIGH]);
-        let low = octets::on_side(left, work[row + layout::LOW]);
-        return octets::put_two(high, low, out, at);
+    if unit_octets::two_octets(tag) {
+        let high = unit_octets::on_side(left, work[row + layout::HIGH]);
+        let low = unit_octets::on_side(left, work[row + layout::LOW]);
+        return put_two(high, low, out, at);
     }
     if tag < tag::TAB {
-        let octet = octets::single(tag, left, work[row + layout::LOW]);
-        return octets::put_one(octet, out, at);
+        let octet = unit_octets::single(tag, left, work[row + layout::LOW]);
+        return put_one(octet, out, at);
     }
-    if tag::SEGMENT <= tag {
-        if tag < tag::SPARE {
-            let n = rows::count_at(work, row);
-            let start = rows::start_at(work, row);
-            return octets::put_segment((tag::D + tag as u16) as u8, n, start, segments, out, at);
-        }
-    }
-    octets::put_mark(tag, out, at)
+    unit_octets::put_other(tag, work, row, segments, out, at)
 }
 
 // Writes n rows by their plan from the output's first place on, and answers the next place.
@@ -134,8 +92,8 @@ fn emit(work: &[u8], n: usize, segments: &[u8], out: &mut [u8]) -> usize
         let x = numbers::class_of(work[row + layout::TAG]);
         let l = rows::wide(in_gl[x]);
         let r = rows::wide(in_gr[x]);
-        let j = choose_quickly(x, k, l, r, work, row);
-        let a = put_change(k, j, out, at);
+        let j = choose(x, k, l, r, work, row);
+        let a = unit_octets::put_change(k, j, out, at);
         let left = j / size::COLUMNS == l;
         at = put_row(work, row, left, segments, out, a);
         k = j;

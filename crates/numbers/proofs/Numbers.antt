@@ -1,8 +1,8 @@
 -- The choice by number is the writer's choice: shown by one computed test of all 17 classes and 80 numbers, from which the laws follow.
 use Rattle.element.proofs.Names.{_≡_, refl, sym, ap, ap₂, _∙_, Bool, true, false, cond, _||_, _&&_, not, List, Option, none, some, ℕ, _+_, _-_, _≤_}
-use Rattle.element.proofs.Names.{_<_, arith, length, getD, List·getD-eq-default, eqb, leb, ltb, eqb-true, eq-eqb, ne-eqb, ltb-true, ltb-false, lt-ltb}
-use Rattle.element.proofs.Names.{le-ltb, leb-true, leb-false, le-leb, lt-leb, off, test, up-to, from-tests, Side, GL, GR, allowed, mayUse, formOf, Standing}
-use Rattle.element.proofs.Names.{on, put, Sets}
+use Rattle.element.proofs.Names.{_<_, arith, length, getD, List·getD-eq-default, eqb, leb, ltb, eqb-true, eq-eqb, ne-eqb, ltb-true, ltb-false, lt-ltb, le-ltb}
+use Rattle.element.proofs.Names.{leb-true, leb-false, le-leb, lt-leb, off, pick, test, up-to, from-tests, Side, GL, GR, allowed, mayUse, formOf, Standing, on, put}
+use Rattle.element.proofs.Names.{Sets}
 use mathlib.Core.Bool.{Bool·beq}
 pub use Rattle.base.proofs.Bools.{beq-eq}
 use Rattle.base.proofs.Bools.{implies, implies-elim, or-none, upTo, up-to-both, up-to-where}
@@ -10,7 +10,7 @@ use Rattle.state.specs.State.{sets}
 use Rattle.grammar.specs.Units.{designation}
 use Rattle.shortest.specs.Writing.{Need, free, either, stands, met, price, via, least, choose, after, used}
 use Rattle.shortest.proofs.Needs.{Steady, least-chosen}
-use Rattle.numbers.specs.Numbers.{setsInGL, setsInGR, numbered, withGL, withGR, needOfClass, priceOfClass, placesInGL, placesInGR, afterFirst}
+use Rattle.numbers.specs.Numbers.{numbered, withGL, withGR, needOfClass, priceOfClass, placesInGL, placesInGR, afterFirst}
 use Rattle.numbers.specs.Numbers.{afterSecond, chosenBy, afterChoice, surcharge, change, sideAt}
 
 -- ---- tests of equality
@@ -190,28 +190,50 @@ chosen-base x k b u v u′ v′ eu ev =
     ap (λ (t : Bool). cond (eqb (afterFirst x k) k || eqb (afterSecond x k) k) k (cond t (afterFirst x k) (afterSecond x k)))
     (sym (leb-base b u v) ∙ ap₂ leb eu ev)
 
+-- the choice by tests on the two numbers
+pub chosen-first : (x k a u v : ℕ) → a ≡ afterFirst x k → a ≡ k → k ≡ chosenBy x k u v
+unfolding chosenBy
+chosen-first x k a u v ea e = rw (← ea, eq-eqb a k e)
+
+pub chosen-tests : {q : ℕ} (x k a b u v : ℕ) → a ≡ afterFirst x k → b ≡ afterSecond x k → q ≡ pick (eqb a k) k (pick (eqb b k) k (pick (leb u v) a b))
+    → q ≡ chosenBy x k u v
+unfolding chosenBy pick
+chosen-tests x k a b u v ea eb e = e ∙ rw (← ea, ← eb) (go (eqb a k) (eqb b k) (leb u v))
+  where
+    go : (s t w : Bool) → pick s k (pick t k (pick w a b)) ≡ cond (s || t) k (cond w a b)
+    go true t w = refl
+    go false true w = refl
+    go false false true = refl
+    go false false false = refl
+
 -- ---- classes with one designation, and with none
 
-all-single : upTo 12 (λ x. upTo 80 (λ k. eqb (afterFirst x k) (afterSecond x k))) ≡ true
+-- a set of one octet has a place on one side alone
+single : (x k : ℕ) → x < 12 → afterFirst x k ≡ afterSecond x k
 unfolding afterFirst afterSecond
-all-single = refl
-
-pub single : (x k : ℕ) → x < 12 → k < 80 → afterFirst x k ≡ afterSecond x k
-single x k hx hk = eqb-true _ _ (up-to-both 12 80 (λ y m. eqb (afterFirst y m) (afterSecond y m)) all-single x k hx hk)
+single x k h =
+    let e : ltb (getD placesInGL x 0) 5 ≡ not (ltb (getD placesInGR x 0) 13) = beq-eq _ _
+    (up-to 12 (λ y. Bool·beq (ltb (getD placesInGL y 0) 5) (not (ltb (getD placesInGR y 0) 13))) refl x h) in
+    rw (lt-ltb x 15 (omega arith), e) (go (ltb (getD placesInGR x 0) 13))
+  where
+    go : (t : Bool) → cond (not t) (withGL (getD placesInGL x 0) k) (withGR (getD placesInGR x 0) k)
+        ≡ cond t (withGR (getD placesInGR x 0) k) (withGL (getD placesInGL x 0) k)
+    go true = refl
+    go false = refl
 
 cond-same : (t : Bool) (a : ℕ) → cond t a a ≡ a
 cond-same true a = refl
 cond-same false a = refl
 
-pub chosen-single : (x k u v u′ v′ : ℕ) → x < 12 → k < 80 → chosenBy x k u v ≡ chosenBy x k u′ v′
+pub chosen-single : (x k u v u′ v′ : ℕ) → x < 12 → chosenBy x k u v ≡ chosenBy x k u′ v′
 unfolding chosenBy
-chosen-single x k u v u′ v′ hx hk =
-    rw (← single x k hx hk)
+chosen-single x k u v u′ v′ hx =
+    rw (← single x k hx)
     (ap (cond (eqb (afterFirst x k) k || eqb (afterFirst x k) k) k) (cond-same (leb u v) (afterFirst x k) ∙ sym (cond-same (leb u′ v′) (afterFirst x k))))
 
-pub chosen-only : (x k a u v : ℕ) → a ≡ afterFirst x k → (a ≡ k → ⊥) → x < 12 → k < 80 → a ≡ chosenBy x k u v
+pub chosen-only : (x k a u v : ℕ) → a ≡ afterFirst x k → (a ≡ k → ⊥) → x < 12 → a ≡ chosenBy x k u v
 unfolding chosenBy
-chosen-only x k a u v ea n hx hk = rw (← single x k hx hk, ← ea, ne-eqb a k n) (sym (cond-same (leb u v) a))
+chosen-only x k a u v ea n hx = rw (← single x k hx, ← ea, ne-eqb a k n) (sym (cond-same (leb u v) a))
 
 pub chosen-free : (k u v u′ v′ : ℕ) → chosenBy 16 k u v ≡ chosenBy 16 k u′ v′
 unfolding chosenBy afterFirst
@@ -225,28 +247,19 @@ bounded l b t i =
     test (ltb i (length l)) (λ e. leb-true _ _ (up-to (length l) (λ j. leb (getD l j 0) b) t i (ltb-true _ _ e)))
     (λ e. omega (arith, List·getD-eq-default l 0 (ltb-false _ _ e)))
 
+pub past-end : (l : List ℕ) {i : ℕ} → length l ≤ i → 0 ≡ getD l i 0
+past-end l h = sym (List·getD-eq-default l 0 h)
+
 -- what stands at the places below n of a list for which a test holds
 in-table : (l : List ℕ) (n : ℕ) (p : ℕ → Bool) (v : ℕ → ℕ) → upTo n (λ y. implies (p y) (eqb (v y) (getD l y 0))) ≡ true
     → (x : ℕ) → x < n → p x ≡ true → v x ≡ getD l x 0
 in-table l n p v t x h e = eqb-true _ _ (up-to-where n p (λ y. eqb (v y) (getD l y 0)) t x h e)
 
-pub gl-none : (x : ℕ) → x < 12 → (x ≡ 0 → ⊥) → (x ≡ 2 → ⊥) → 5 ≡ getD placesInGL x 0
-gl-none x h a b = in-table placesInGL 12 (λ y. not (eqb y 0) && not (eqb y 2)) (λ _. 5) refl x h (rw (ne-eqb x 0 a, ne-eqb x 2 b))
-
 pub gl-two : (x : ℕ) → 12 ≤ x → x < 15 → x - 10 ≡ getD placesInGL x 0
 gl-two x h k = in-table placesInGL 15 (leb 12) (λ y. y - 10) refl x k (le-leb 12 x h)
 
-pub gl-other : (x : ℕ) → 15 ≤ x → 0 ≡ getD placesInGL x 0
-gl-other x h = sym (List·getD-eq-default placesInGL 0 h)
-
-pub gr-none : (x : ℕ) → x < 3 → (x ≡ 1 → ⊥) → 13 ≡ getD placesInGR x 0
-gr-none x h a = in-table placesInGR 3 (λ y. not (eqb y 1)) (λ _. 13) refl x h (rw (ne-eqb x 1 a))
-
 pub gr-most : (x : ℕ) → 3 ≤ x → x < 15 → x - 2 ≡ getD placesInGR x 0
 gr-most x h k = in-table placesInGR 15 (leb 3) (λ y. y - 2) refl x k (le-leb 3 x h)
-
-pub gr-other : (x : ℕ) → 15 ≤ x → 0 ≡ getD placesInGR x 0
-gr-other x h = sym (List·getD-eq-default placesInGR 0 h)
 
 -- the numbers by a class's places
 module _ (x l r k : ℕ) (el : l ≡ getD placesInGL x 0) (er : r ≡ getD placesInGR x 0) where
@@ -287,16 +300,6 @@ unfolding priceOfClass
 price-gr x l h el b =
     eqb-true _ _
     (up-to-where 15 (λ y. not (ltb (getD placesInGL y 0) 5)) (λ y. eqb (priceOfClass y) 3) refl x h (rw (← el, le-ltb l 5)))
-
--- the set at a place
-pub gl-set : (g : ℕ) → g < 5 → (g ≡ 0 → ⊥) → (g ≡ 1 → ⊥) → g + 10 ≡ getD setsInGL g 0
-gl-set g h a b = in-table setsInGL 5 (leb 2) (λ y. y + 10) refl g h (le-leb 2 g (omega arith))
-
-pub gr-set : (r : ℕ) → r < 13 → (r ≡ 0 → ⊥) → r + 2 ≡ getD setsInGR r 0
-gr-set r h a = in-table setsInGR 13 (leb 1) (λ y. y + 2) refl r h (le-leb 1 r (omega arith))
-
-pub gr-spare : (r : ℕ) → 13 ≤ r → 0 ≡ getD setsInGR r 0
-gr-spare r h = sym (List·getD-eq-default setsInGR 0 h)
 
 -- ---- the side
 

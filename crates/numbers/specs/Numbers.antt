@@ -1,6 +1,6 @@
 -- The sets in force by number, so that the costs from all of them stand in one table of 80 octets; and the writer's choice by number.
 use Prim.Native.Nat.{ℕ, _+_, _*_, _/_, _%_}
-use mathlib.Core.Bool.{cond, _||_, _&&_}
+use mathlib.Core.Bool.{Bool, true, false, cond, _||_, _&&_, not}
 use mathlib.Core.List.{List, [], _∷_}
 use mathlib.Core.Option.{Option, none, some}
 use lib.Dec.{eqb, leb, ltb}
@@ -74,6 +74,11 @@ afterSecond x k =
     (cond (ltb (getD placesInGR x 0) size.gr) (withGR (getD placesInGR x 0) k) (withGL (getD placesInGL x 0) k))
     (cond (eqb x class.space) (withGL 1 k) k)
 
+-- where a row keeps what the rest costs after the second designation: by GL's place for a character, by GR's for a space. What it costs
+-- after the first stands at k % 16
+abbrev pub secondSlot : ℕ → ℕ → ℕ
+secondSlot x k = size.columns + cond (ltb x class.space) (k / size.columns) (k % size.columns)
+
 -- the number after the choice, where u and v are what the rest costs after the first designation and after the second: none where the
 -- need is met, and the first where it costs no more
 unfoldable pub chosenBy : ℕ → ℕ → ℕ → ℕ → ℕ
@@ -97,3 +102,8 @@ change k j =
 -- the side on which a character of a set is written under number j
 unfoldable pub sideAt : ℕ → ℕ → Side
 sideAt x j = cond (eqb (getD setsInGL (j / size.columns) 0) x) GL GR
+
+-- a unit of class x changes the costs, where last is the class that changed them last: not where it needs no set, has that class, or is a
+-- space where that class is set 0
+unfoldable pub changes : ℕ → ℕ → Bool
+changes last x = pick (eqb x class.free) false (pick (eqb x last) false (pick (eqb x class.space) (not (eqb last 0)) true))

@@ -5,9 +5,9 @@ use Rattle.element.proofs.Names.{_<_, min, arith, length, getD, leb, ltb, eqb, 
 use Rattle.element.proofs.Names.{lt-ltb, test, cond-by, and-left, and-right, up-to}
 use Rattle.base.proofs.Bools.{or-cases, implies, implies-elim, upTo}
 use Rattle.numbers.specs.Numbers.{withGL, withGR, priceOfClass, placesInGL, placesInGR, servedInGL, servedInGR, afterFirst, afterSecond, chosenBy, surcharge}
-use Rattle.plan.specs.Table.{SumsFit, Charges, ColumnRead, fromGL}
+use Rattle.table.specs.Table.{SumsFit, Charges, ColumnRead, fromGL}
 use Rattle.plan.specs.Costs.{leastBy, surcharges, OfGL, Smooth, InGR, OnBoth}
-use Rattle.plan.proofs.Filled.{all-five}
+use Rattle.table.proofs.Filled.{all-five}
 use Rattle.numbers.proofs.Numbers.{bounded, first-gl, first-gr, second-gr, price-both, price-gr}
 
 -- ---- the least cost is the lesser of the two ways

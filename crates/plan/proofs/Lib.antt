@@ -1,6 +1,5 @@
 pub mod Least
 pub mod Turns
-pub mod Filled
 pub mod Again
 pub mod Units
 pub mod Rest

@@ -1,6 +1,6 @@
 -- The costs of what follows, unit by unit from the last to the first. They are kept less a base, since no two differ by more than two
 -- designations; and beside them the class that changed them last, since its need changes them no more.
-use Rattle.element.proofs.Names.{_≡_, refl, sym, ap, ap₂, _∙_, subst, Bool, true, false, not, true≢false, List, _⊎_, inl, inr, ⊎-elim, Option}
+use Rattle.element.proofs.Names.{_≡_, refl, sym, ap, ap₂, _∙_, subst, Bool, true, false, not, true≢false, List, _⊎_, inl, inr, Option}
 use Rattle.element.proofs.Names.{none, some, ℕ, zero, suc, _+_, _-_, _*_, _%_, _≤_, _<_, arith, ltb, eqb, ltb-true, ltb-false, eqb-true, length, getD}
 use Rattle.element.proofs.Names.{List·getD-eq-default, test, pick-by, pick, GL, GR, rowOf, allowed, mayUse, formOf, Standing, on, put, fresh, Sets}
 use mathlib.Core.Path.{fun-ext}
@@ -11,10 +11,11 @@ use Rattle.grammar.proofs.Sound.{lead-size}
 use Rattle.shortest.specs.Writing.{Need, least, choose, after, price, cost}
 use Rattle.shortest.proofs.Needs.{spent, least-chosen}
 use Rattle.shortest.proofs.Costs.{cost-steady}
-use Rattle.rows.specs.Rows.{tagAt, startFrom, countOf, partOf, unitsIn}
-use Rattle.numbers.specs.Numbers.{numbered, classOf, needOfClass, afterFirst, afterSecond, afterChoice, surcharge}
-use Rattle.plan.specs.Costs.{leastBy, Smooth, changes, Turned, TwoStandings, secondSlot, RowKept}
-use Rattle.plan.specs.Plan.{sizeOf, sizeAt, restFrom, CostsKept, Planned}
+use Rattle.rows.specs.Rows.{tagAt, startFrom, countOf, partOf, unitsIn, sizeOf}
+use Rattle.numbers.specs.Numbers.{numbered, classOf, needOfClass, afterFirst, afterSecond, afterChoice, surcharge, secondSlot, changes}
+use Rattle.plan.specs.Costs.{leastBy, Smooth, Turned}
+use Rattle.table.specs.Table.{TwoStandings, RowKept}
+use Rattle.plan.specs.Plan.{sizeAt, restFrom, CostsKept, Planned}
 use Rattle.numbers.proofs.Numbers.{choice-at, chosen-base, below, steady-at}
 use Rattle.plan.proofs.Again.{least-again, least-plus, least-space}
 use Rattle.plan.proofs.Units.{rest-end, rest-cons, same-start}
@@ -225,7 +226,7 @@ module _ {o before : List ℕ} {n i base last : ℕ} {cur : List ℕ} (v : Known
   pub known-sum : {w r : ℕ} → w ≤ 16389 → r ≤ 128 → Fits w64 (base + w) × Fits w64 (base + w + r)
   known-sum hw hr = (omega (arith, known-bound), omega (arith, known-bound))
 
-  pub known-low : (j : ℕ) → getD cur j 0 ≤ 208
+  known-low : (j : ℕ) → getD cur j 0 ≤ 208
   known-low j =
       test (ltb j 80)
       (λ e. let h = ltb-true j 80 e in
@@ -252,12 +253,11 @@ pub record RowLies (i : ℕ) (room : List ℕ) : Type 0 where
   pub tag : Fits w64 (72 * (i - 1) + 65)
   pub read : 72 * (i - 1) + 65 < length room
   pub costs : 72 * (i - 1) + 65 ≤ length room
-  pub whole : 72 * (i - 1) + 72 ≤ length room
 
 pub row-lies : {o before : List ℕ} {n i base last : ℕ} {cur room : List ℕ} → Known o before n i base last cur × Planned o before n i room → 0 < i
     → RowLies i room
 row-lies (v, p) h =
-    record { next = omega arith; less = omega arith; start = omega arith; tag = omega arith; read = omega arith; costs = omega arith; whole = omega arith }
+    record { next = omega arith; less = omega arith; start = omega arith; tag = omega arith; read = omega arith; costs = omega arith }
 
 -- ---- one turn of the plan: the unit before row i, which is read in the room as it then is
 

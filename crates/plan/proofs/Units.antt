@@ -5,10 +5,10 @@ use Rattle.element.proofs.Names.{formOf, Sets}
 use Rattle.grammar.specs.Units.{TextUnit, control, revert, wide, octets}
 use Rattle.shortest.specs.Writing.{Need, free, either, need, least, unitSize, cost}
 use Rattle.rows.proofs.Units.{part-length, unit-segment, unit-mark, mark-revert}
-use Rattle.rows.specs.Rows.{tagAt, highOctet, lowOctet, startFrom, countOf, partOf, textTagged, markTagged, unitTagged, unitsIn}
+use Rattle.rows.specs.Rows.{tagAt, highOctet, lowOctet, startFrom, countOf, partOf, textTagged, markTagged, unitTagged, unitsIn, sizeOf}
 use Rattle.rows.specs.Tag as tag
 use Rattle.numbers.specs.Numbers.{classOf, needOfClass}
-use Rattle.plan.specs.Plan.{sizeOf, sizeAt, restFrom}
+use Rattle.plan.specs.Plan.{sizeAt, restFrom}
 use Rattle.numbers.proofs.Numbers.{sameStanding, sameStanding-eq}
 
 abbrev sameNeed : Need → Need → Bool
@@ -60,7 +60,7 @@ module _ (o : List ℕ) (t a b s : ℕ) where
         le-ltb t tag.segment h,
       )
 
-  pub size-tagged : unitSize unit ≡ sizeOf t part
+  size-tagged : unitSize unit ≡ sizeOf t part
   unfolding unitSize octets pick
   size-tagged =
       test (ltb t tag.segment) (λ e. size-low (ltb-true t tag.segment e))

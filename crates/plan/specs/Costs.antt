@@ -1,17 +1,13 @@
--- The least costs from all numbers, unit by unit from the last to the first: what a unit put before does to them, and what a row keeps of
--- them.
-use Prim.Native.Nat.{ℕ, _+_, _/_, _%_, _≤_, _<_}
+-- The least costs from all numbers, unit by unit from the last to the first: what a unit put before does to them.
+use Prim.Native.Nat.{ℕ, _+_, _≤_, _<_}
 use mathlib.Core.Path.{_≡_}
-use mathlib.Core.Bool.{Bool, true, false, cond, not}
+use mathlib.Core.Bool.{true, false}
 use mathlib.Core.List.{List, [], _∷_}
-use mathlib.Core.Logic.{_⊎_}
-use lib.Dec.{eqb, ltb}
 use lib.ListN.{length, getD}
-use Rattle.base.specs.Choice.{pick}
 use Rattle.numbers.specs.Numbers.{placesInGL, placesInGR, servedInGL, servedInGR, afterFirst, afterSecond, afterChoice, surcharge, priceOfClass}
+use Rattle.numbers.specs.Numbers.{changes}
 use Rattle.numbers.specs.Class as class
 use Rattle.numbers.specs.Size as size
-use Rattle.rows.specs.Layout as layout
 
 -- a designation's price 31 times, but nothing in the middle, and then the price once more: from 15 - r on nothing stands at place r
 abbrev pub surcharges : ℕ → List ℕ
@@ -60,33 +56,10 @@ pub record CostsAhead (x : ℕ) (cur : List ℕ) : Type 0 where
   pub near : (k m : ℕ) → k < size.numbers → m < size.numbers → leastBy x cur k ≤ 8 + leastBy x cur m
   pub long : length cur ≡ size.numbers
 
--- a unit of class x changes the costs, where last is the class that changed them last: not where it needs no set, has that class, or is a
--- space where that class is set 0
-unfoldable pub changes : ℕ → ℕ → Bool
-changes last x = pick (eqb x class.free) false (pick (eqb x last) false (pick (eqb x class.space) (not (eqb last 0)) true))
-
 -- the costs after a unit of class x is put before: the same, or the new ones less r
 pub record Turned (last x : ℕ) (before : List ℕ) (r last′ : ℕ) (after : List ℕ) : Type 0 where
   pub still : changes last x ≡ false → (r ≡ 0) × (last′ ≡ last) × (after ≡ before)
   pub moved : changes last x ≡ true → (last′ ≡ x) × ((k : ℕ) → k < size.numbers → r + getD after k 0 ≡ leastBy x before k)
   pub low : getD after 1 0 ≤ 200
   pub small : r ≤ 128
-  pub long : length after ≡ length before
-
--- ---- what a row keeps
-
--- the classes that have two designations to choose from
-abbrev pub TwoStandings : ℕ → Type 0
-TwoStandings x = (class.double ≤ x) × (x < class.free)
-
--- where a row keeps what the rest costs after the second designation: by GL's place for a character, by GR's for a space. What it costs
--- after the first stands at k % 16
-abbrev pub secondSlot : ℕ → ℕ → ℕ
-secondSlot x k = size.columns + cond (ltb x class.space) (k / size.columns) (k % size.columns)
-
--- the row that starts at a place keeps the costs that the choice of a unit of class x compares
-pub record RowKept (x : ℕ) (costs before : List ℕ) (row : ℕ) (after : List ℕ) : Type 0 where
-  pub first-cost : TwoStandings x → (k : ℕ) → k < size.numbers → getD after (row + k % size.columns) 0 ≡ getD costs (afterFirst x k) 0
-  pub second-cost : TwoStandings x → (k : ℕ) → k < size.numbers → getD after (row + secondSlot x k) 0 ≡ getD costs (afterSecond x k) 0
-  pub kept : (p : ℕ) → (p < row) ⊎ (row + layout.tag ≤ p) → getD after p 0 ≡ getD before p 0
   pub long : length after ≡ length before

@@ -1,3 +1,2 @@
 pub mod Costs
-pub mod Table
 pub mod Plan

@@ -2,38 +2,20 @@
 use Prim.Native.Nat.{ℕ, suc, _+_, _-_, _*_, _%_, _≤_, _<_}
 use mathlib.Core.Path.{_≡_}
 use mathlib.Core.List.{List}
-use lib.Dec.{leb, ltb}
 use lib.ListN.{length, getD}
-use Rattle.base.specs.Choice.{pick}
-use Rattle.base.specs.Limit as limit
 use Rattle.state.specs.declared.Sets.{Sets}
-use Rattle.rows.specs.Rows.{tagAt, highOctet, lowOctet, startFrom, countOf, partOf, unitsIn}
+use Rattle.rows.specs.Rows.{tagAt, unitsIn, sizeOf, partFrom}
 use Rattle.shortest.specs.Writing.{cost}
-use Rattle.numbers.specs.Numbers.{numbered, classOf, afterFirst, afterSecond}
-use Rattle.plan.specs.Costs.{TwoStandings, secondSlot}
+use Rattle.numbers.specs.Numbers.{numbered, classOf, afterFirst, afterSecond, secondSlot}
+use Rattle.table.specs.Table.{TwoStandings}
 use Rattle.numbers.specs.Size as size
 use Rattle.rows.specs.Layout as layout
-use Rattle.rows.specs.Tag as tags
 
 -- ---- the units of the rows
 
--- the rows that are planned: all n where they lie in the m octets of the room and are no more than a list may have, else none
-unfoldable pub rowsOf : ℕ → ℕ → ℕ
-rowsOf n m = pick (leb n limit.units) (pick (leb (layout.row * n) m) n 0) 0
-
--- the octets of a unit by its tag, where p are those of a segment's part
-unfoldable pub sizeOf : ℕ → ℕ → ℕ
-sizeOf tag p =
-    pick (ltb tag tags.double) 1
-    (pick (ltb tag tags.space) 2 (pick (ltb tag tags.left-to-right) 1
-    (pick (ltb tag tags.revert) 3 (pick (ltb tag tags.segment) 2 (pick (ltb tag tags.spare) (6 + p) 2)))))
-
--- those of the unit of the row that starts at a place, where the segments stand in m octets
-abbrev pub sizeFrom : ℕ → List ℕ → ℕ → ℕ
-sizeFrom m w row = sizeOf (getD w (row + layout.tag) 0) (partOf (countOf (highOctet w row) (lowOctet w row)) (startFrom w row) m)
-
+-- the octets of the unit of row i
 abbrev pub sizeAt : List ℕ → List ℕ → ℕ → ℕ
-sizeAt o w i = sizeFrom (length o) w (layout.row * i)
+sizeAt o w i = sizeOf (tagAt w i) (partFrom (length o) w (layout.row * i))
 
 -- the least cost of the units of rows i to n
 abbrev pub restFrom : List ℕ → List ℕ → ℕ → ℕ → Sets → ℕ

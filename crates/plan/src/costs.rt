@@ -1,23 +1,13 @@
-// The least costs from all numbers: what a unit put before does to them, and what its row keeps.
+// The least costs from all numbers: what a unit put before does to them.
 ghost use mathlib.Core.Path.{_≡_};
-ghost use mathlib.Core.Bool.{cond};
-ghost use Prim.Native.Nat.{ℕ, _+_, _*_, _≤_, _<_};
-ghost use lib.Dec.{eqb};
-ghost use lib.ListN.{length, getD};
-ghost use Rattle.plan.specs.Table.{Columns};
-ghost use Rattle.plan.specs.Costs.{surcharges, Tables, OfGL, InGR, OnBoth, leastBy, Smooth, CostsAhead, changes, Turned, RowKept};
+ghost use Prim.Native.Nat.{ℕ, _+_, _*_, _<_};
+ghost use lib.ListN.{length};
+ghost use Rattle.table.specs.Table.{Columns};
+ghost use Rattle.plan.specs.Costs.{surcharges, Tables, OfGL, InGR, OnBoth, leastBy, Smooth, CostsAhead, Turned};
 ghost use Rattle.numbers.specs.Class as classes;
 ghost use Rattle.numbers.specs.Size as sizes;
-ghost use Rattle.rows.specs.Layout as layouts;
 use numbers::class;
 use numbers::size;
-
-// What a set costs a class more: two designations' price where it does not serve it, else nothing.
-fn unserved(x: usize, class: usize) -> u8
-    ensures { λ r. ⌜ r ≡ cond (eqb x class) 6 0 ⌝ }
-{
-    if x == class { 6 } else { 0 }
-}
 
 // The least costs of a unit that GL alone serves: of class 0, of class 2, or a space, which both sets serve. In place, since only the first
 // two rows are read, column by column.
@@ -26,13 +16,13 @@ fn gl_costs(x: usize, three: u8, cur: &mut [u8; size::NUMBERS])
     ensures { λ _. ⌜ Columns (λ g r. leastBy x (now (cur .entry)) (sizes.columns * g + r)) sizes.columns (now (cur .exit)) ⌝ }
 {
     // set 0 serves all three but class 2, and set 2 all but class 0
-    let p = unserved(x, 2);
-    let q = unserved(x, 0);
+    let p = table::unserved(x, 2);
+    let q = table::unserved(x, 0);
     let mut r: usize = 0;
     while r < size::COLUMNS {
         let a = cur[r];
         let b = cur[size::COLUMNS + r];
-        crate::table::gl_column(a, p, b, q, three, cur, r);
+        crate::sums::gl_column(a, p, b, q, three, cur, r);
         r += 1;
     }
 }
@@ -55,9 +45,9 @@ fn both_costs(
     let four = fours[31];
     let i = size::COLUMNS * l;
     let j = 15 - r;
-    let p = crate::table::charges(four, l);
-    let v = crate::table::column(next, r);
-    crate::table::lesser_costs(next, i, p, fours, j, v, cur);
+    let p = table::charges(four, l);
+    let v = table::column(next, r);
+    crate::sums::lesser_costs(next, i, p, fours, j, v, cur);
 }
 
 // Those of a character whose set has a place in GR alone.
@@ -73,8 +63,8 @@ fn gr_costs(
     ensures { λ _. ⌜ Columns (λ g r. leastBy x (now (next .entry)) (sizes.columns * g + r)) sizes.columns (now (cur .exit)) ⌝ }
 {
     let j = 15 - r;
-    let v = crate::table::column(next, r);
-    crate::table::lesser_costs(threes, j, v, threes, j, v, cur);
+    let v = table::column(next, r);
+    crate::sums::lesser_costs(threes, j, v, threes, j, v, cur);
 }
 
 // The least costs, but for the unit's own octets, of a unit of class x before what cur has; left and right have the places of GL and GR
@@ -105,21 +95,6 @@ fn costs_before(
     gr_costs(x, r, &next, threes, cur);
 }
 
-fn changed(last: usize, x: usize) -> bool
-    ensures { λ r. ⌜ r ≡ changes last x ⌝ }
-{
-    if x == class::FREE {
-        return false;
-    }
-    if x == last {
-        return false;
-    }
-    if x == class::SPACE {
-        return last != 0;
-    }
-    true
-}
-
 // What was taken from the costs, and the class that changed them last.
 pub struct Taken {
     pub base: usize,
@@ -139,32 +114,13 @@ pub fn unit_before(
     requires { ⌜ CostsAhead x (now cur) × Tables (now left) (now right) (now fours) (now threes) ⌝ }
     ensures { λ r. ⌜ Turned last x (now (cur .entry)) (r .base) (r .last) (now (cur .exit)) ⌝ }
 {
-    if changed(last, x) {
+    if numbers::changed(last, x) {
         costs_before(x, left, right, fours, threes, cur);
         if cur[1] <= 200 {
             return Taken { base: 0, last: x };
         }
-        crate::table::lower(cur);
+        table::lower(cur);
         return Taken { base: 128, last: x };
     }
     Taken { base: 0, last }
-}
-
-// Keeps in a unit's row the costs that its choice compares.
-pub fn keep(x: usize, cur: &[u8; size::NUMBERS], work: &mut [u8], row: usize)
-    requires { ⌜ (x < classes.all) × (row + layouts.tag ≤ length (now work)) ⌝ }
-    ensures { λ _. ⌜ RowKept x (now (cur .entry)) (now (work .entry)) row (now (work .exit)) ⌝ }
-{
-    if x < class::DOUBLE {
-        return;
-    }
-    if x < class::SPACE {
-        crate::table::keep_row(cur, size::COLUMNS * (x - 10), work, row);
-        crate::table::keep_column(cur, x - 2, work, row + size::COLUMNS);
-        return;
-    }
-    if x == class::SPACE {
-        crate::table::keep_row(cur, 0, work, row);
-        crate::table::keep_row(cur, size::COLUMNS, work, row + size::COLUMNS);
-    }
 }

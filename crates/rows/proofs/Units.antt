@@ -1,9 +1,9 @@
 -- The unit of a row by its tag: text, a segment, a mark; and the octets of a segment's part.
-use Rattle.element.proofs.Names.{ℕ, _+_, _≤_, _<_, arith, _≡_, false, _&&_, List, length, take, drop, length-take, length-drop, eqb, leb, ltb, eq-eqb}
+use Rattle.element.proofs.Names.{ℕ, _+_, _≤_, _<_, arith, _≡_, _∙_, false, _&&_, List, length, take, drop, length-take, length-drop, eqb, leb, ltb, eq-eqb}
 use Rattle.element.proofs.Names.{lt-ltb, le-ltb, le-leb, lt-leb, ltb-true, ltb-false, ne-eqb, pick, test, tested}
 use Rattle.base.proofs.Bools.{and-second}
 use Rattle.grammar.specs.Units.{control, tab, newline, revert, ext, controlOf}
-use Rattle.rows.specs.Rows.{countOf, partOf, textTagged, markTagged, unitTagged}
+use Rattle.rows.specs.Rows.{countOf, partOf, textTagged, markTagged, otherTagged, unitTagged}
 use Rattle.rows.specs.Tag as tag
 
 pub part-length : (o : List ℕ) (n s : ℕ) → length (take n (drop s o)) ≡ partOf n s (length o)
@@ -16,17 +16,25 @@ outside t n =
     (λ e. test (ltb t tag.spare) (λ f. absurd (n (ltb-false _ _ e) (ltb-true _ _ f))) (and-second (leb tag.segment t) _))
 
 module _ (o : List ℕ) (t a b s : ℕ) where
+  pub other-segment : tag.segment ≤ t → t < tag.spare → otherTagged o t a b s ≡ ext (tag.d + t) (take (countOf a b) (drop s o))
+  other-segment h k = rw (le-leb tag.segment t h, lt-ltb t tag.spare k)
+
+  pub other-mark : (tag.segment ≤ t → t < tag.spare → ⊥) → otherTagged o t a b s ≡ markTagged t
+  other-mark n = rw (outside t n)
+
+  pub unit-other : tag.tab ≤ t → unitTagged o t a b s ≡ otherTagged o t a b s
+  unfolding unitTagged
+  unit-other h = rw (le-ltb t tag.tab h)
+
   pub unit-text : t < tag.tab → unitTagged o t a b s ≡ textTagged t a b
   unfolding unitTagged
   unit-text h = rw (lt-ltb t tag.tab h)
 
   pub unit-segment : tag.segment ≤ t → t < tag.spare → unitTagged o t a b s ≡ ext (tag.d + t) (take (countOf a b) (drop s o))
-  unfolding unitTagged
-  unit-segment h k = rw (le-ltb t tag.tab (omega arith), le-leb tag.segment t h, lt-ltb t tag.spare k)
+  unit-segment h k = unit-other (omega arith) ∙ other-segment h k
 
   pub unit-mark : tag.tab ≤ t → (tag.segment ≤ t → t < tag.spare → ⊥) → unitTagged o t a b s ≡ markTagged t
-  unfolding unitTagged
-  unit-mark h n = rw (le-ltb t tag.tab h, outside t n)
+  unit-mark h n = unit-other h ∙ other-mark n
 
 -- from a revert's tag on, every mark is a revert
 pub mark-revert : (t : ℕ) → tag.revert ≤ t → markTagged t ≡ control revert

@@ -10,6 +10,7 @@ use lib.ListN.{length, getD, take, drop}
 use lib.Seq.{sets}
 use Rattle.base.specs.Choice.{pick}
 use Rattle.base.specs.Kind as kind
+use Rattle.base.specs.Limit as limit
 use Rattle.base.specs.declared.Unit.{Unit as UnitRecord}
 use Rattle.grammar.specs.Units.{TextUnit, char, space, control, tab, newline, ltr, rtl, revert, ext}
 use Rattle.rows.specs.Layout as layout
@@ -54,10 +55,11 @@ markTagged t =
     (pick (eqb t tag.left-to-right) (control ltr) (pick (eqb t tag.right-to-left) (control rtl) (control revert))))
 
 -- where o are the octets in which the segments stand
+abbrev pub otherTagged : List ℕ → ℕ → ℕ → ℕ → ℕ → TextUnit
+otherTagged o t high low start = cond (leb tag.segment t && ltb t tag.spare) (ext (tag.d + t) (take (countOf high low) (drop start o))) (markTagged t)
+
 unfoldable pub unitTagged : List ℕ → ℕ → ℕ → ℕ → ℕ → TextUnit
-unitTagged o t high low start =
-    cond (ltb t tag.tab) (textTagged t high low)
-    (cond (leb tag.segment t && ltb t tag.spare) (ext (tag.d + t) (take (countOf high low) (drop start o))) (markTagged t))
+unitTagged o t high low start = cond (ltb t tag.tab) (textTagged t high low) (otherTagged o t high low start)
 
 -- the unit of the row that starts at a place
 abbrev pub unitFrom : List ℕ → List ℕ → ℕ → TextUnit
@@ -67,6 +69,23 @@ unitFrom o w row = unitTagged o (getD w (row + layout.tag) 0) (highOctet w row) 
 unfoldable pub unitsIn : List ℕ → List ℕ → ℕ → ℕ → List TextUnit
 unitsIn o w i zero = []
 unitsIn o w i (suc m) = unitFrom o w (layout.row * i) ∷ unitsIn o w (suc i) m
+
+-- ---- what they take
+
+-- the rows that are written: all n where they lie in the m octets of the room and are no more than a list may have, else none
+unfoldable pub rowsOf : ℕ → ℕ → ℕ
+rowsOf n m = pick (leb n limit.units) (pick (leb (layout.row * n) m) n 0) 0
+
+-- the octets of a unit by its tag, where p are those of a segment's part
+unfoldable pub sizeOf : ℕ → ℕ → ℕ
+sizeOf t p =
+    pick (ltb t tag.double) 1
+    (pick (ltb t tag.space) 2 (pick (ltb t tag.left-to-right) 1
+    (pick (ltb t tag.revert) 3 (pick (ltb t tag.segment) 2 (pick (ltb t tag.spare) (6 + p) 2)))))
+
+-- those of a segment's part of the row that starts at a place, where the segments stand in m octets
+abbrev pub partFrom : ℕ → List ℕ → ℕ → ℕ
+partFrom m w row = partOf (countOf (highOctet w row) (lowOctet w row)) (startFrom w row) m
 
 -- ---- a record in its row
 

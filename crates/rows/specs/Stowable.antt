@@ -1,6 +1,6 @@
 -- What a record has to be to go into a row: its kind is one of the eight, and a segment's d and n are in their bounds.
 use Prim.Native.Nat.{_≤_}
-use mathlib.Core.Bool.{Bool, true, false}
+use mathlib.Core.Bool.{Bool, false}
 use mathlib.Core.Path.{_≡_}
 use lib.Dec.{eqb, leb, ltb}
 use Rattle.base.specs.Choice.{pick}

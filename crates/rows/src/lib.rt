@@ -1,8 +1,11 @@
 // The rows of the work room: where the units stand while their writing is planned.
 ghost use mathlib.Core.Path.{_≡_};
-ghost use Prim.Native.Nat.{_+_, _-_, _≤_};
+ghost use Prim.Native.Nat.{_+_, _-_, _*_, _≤_};
 ghost use lib.ListN.{getD};
-ghost use Rattle.rows.specs.Rows.{startFrom, highOctet, lowOctet, countOf, partOf};
+ghost use Rattle.rows.specs.Rows.{startFrom, highOctet, lowOctet, countOf, partOf, rowsOf, sizeOf, partFrom};
+ghost use Rattle.rows.specs.Layout as layouts;
+ghost use Rattle.base.specs.Limit as limits;
+use base::limit;
 
 pub mod layout;
 pub mod tag;
@@ -58,4 +61,43 @@ pub fn part_of(n: usize, start: usize, m: usize) -> usize
 {
     let left = rest(m, start);
     if n <= left { n } else { left }
+}
+
+// The octets of the unit of a tag in the row that starts at a place, where the segments stand in m octets.
+pub fn size_at(tag: u8, work: &[u8], row: usize, m: usize) -> usize
+    ensures { λ r. ⌜ (r ≡ sizeOf tag (partFrom m (now (work .entry)) row)) × (r ≤ 16389) ⌝ }
+{
+    if tag < tag::DOUBLE {
+        return 1;
+    }
+    if tag < tag::SPACE {
+        return 2;
+    }
+    if tag < tag::LEFT_TO_RIGHT {
+        return 1;
+    }
+    if tag < tag::REVERT {
+        return 3;
+    }
+    if tag < tag::SEGMENT {
+        return 2;
+    }
+    if tag < tag::SPARE {
+        let n = count_at(work, row);
+        let start = start_at(work, row);
+        return 6 + part_of(n, start, m);
+    }
+    2
+}
+
+// The rows that are written, of n in a room of m octets.
+pub fn rows_of(n: usize, m: usize) -> usize
+    ensures { λ r. ⌜ (r ≡ rowsOf n m) × (r ≤ limits.units) × (layouts.row * r ≤ m) ⌝ }
+{
+    if n <= limit::UNITS {
+        if layout::ROW * n <= m {
+            return n;
+        }
+    }
+    0
 }

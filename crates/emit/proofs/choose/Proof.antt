@@ -1,45 +1,38 @@
--- `emit::choose` meets its contract, test by test.
-use Rattle.element.proofs.Names.{arith, ℕ, _+_, ap, getD}
-use Rattle.numbers.proofs.Numbers.{chosen-only}
-use Rattle.emit.proofs.Chosen.{first-stays, second-stays, first-taken, second-taken}
+-- `emit::choose` meets its contract: where a place that serves the class stands, nothing is designated.
+use Rattle.element.proofs.Names.{arith, ℕ, _+_, _%_, ap, _∙_, getD}
+use Rattle.numbers.specs.Numbers.{chosenBy}
+use Rattle.emit.proofs.Chosen.{gl-stays, gr-stays, slot-below}
 use Rattle.emit.proofs.choose.Statement.{statement}
 use Rattle.emit.proofs.choose.Tie as tie
 
-returns-4 : tie.Need-returns-4
-returns-4 c =
-    let second = c .before .before .before .before in
-    let first = second .before .before .before .before in
-    let args = first .before .before .before .before .args in
-    let slot = ap (λ (q : ℕ). getD (args .work .now) (args .row + q) 0) (c .before .before .second-slot .ensures .0) in
-    first-taken _ _ _ _ _ _ (first .after-first .ensures) (second .before .after-second .ensures) (second .before .before .before .if1 .left)
-    (second .if3 .left)
-    (omega (arith, slot, c .if4 .taken))
+returns : tie.Need-returns
+returns c =
+    let pre = c .before .before .pre in
+    gl-stays _ _ _ _ _ (pre .0) (pre .1) (pre .2) (c .if1 .taken)
 
-returns-5 : tie.Need-returns-5
-returns-5 c =
-    let second = c .before .before .before .before in
-    let first = second .before .before .before .before in
-    let args = first .before .before .before .before .args in
-    let slot = ap (λ (q : ℕ). getD (args .work .now) (args .row + q) 0) (c .before .before .second-slot .ensures .0) in
-    second-taken _ _ _ _ _ _ (first .after-first .ensures) (second .before .after-second .ensures) (second .before .before .before .if1 .left)
-    (second .if3 .left)
-    (omega (arith, slot, c .if4 .left))
+returns-2 : tie.Need-returns-2
+returns-2 c =
+    let pre = c .before .before .before .pre in
+    gr-stays _ _ _ _ _ (pre .0) (pre .1) (pre .3) (c .if2 .taken)
+
+returns-3 : tie.Need-returns-3
+returns-3 c =
+    let args = c .before .before .before .before .before .before .before .args in
+    let slot = c .before .before .before .second-slot .ensures in
+    c .chosen .ensures ∙ ap (λ (q : ℕ). chosenBy (args .x) (args .k) (getD (args .work .now) (args .row + args .k % 16) 0) (getD (args .work .now) (args .row + q) 0)) slot
 
 pub choose-spec : {M : Type 1} → statement M
 choose-spec =
     tie.close
     (tie.spec
+    returns
+    returns-2
     (search arith)
     (search arith)
     (search arith)
-    (λ c. first-stays _ _ _ _ _ (c .before .after-first .ensures) (c .if1 .taken))
-    (λ c. chosen-only _ _ _ _ _ (c .before .before .after-first .ensures) (c .before .if1 .left) (c .if2 .taken) (search arith))
+    (λ c. let start = c .before .before .before .before .before in
+    omega (arith, c .before .second-slot .ensures, slot-below (start .args .x) (start .args .k) (start .pre .1)))
+    (λ c. let start = c .before .before .before .before .before .before in
+    omega (arith, c .before .before .second-slot .ensures, slot-below (start .args .x) (start .args .k) (start .pre .1)))
     (search arith)
-    (λ c. second-stays _ _ _ _ _ _ (c .before .before .before .before .after-first .ensures) (c .before .after-second .ensures) (c .if3 .taken))
-    (search arith)
-    (search arith)
-    (search arith)
-    (search arith)
-    (search arith)
-    returns-4
-    returns-5)
+    returns-3)

@@ -1,7 +1,7 @@
 -- `emit::emit` meets its contract. The invariant: what is written and the writing of the rest are the whole.
 use Rattle.element.proofs.Names.{arith, _≡_, refl, _∙_, _-_, _≤_, length}
-use Rattle.emit.proofs.Stores.{written-length}
-use Rattle.emit.proofs.Forward.{Going, going-none, j-below, room-change, room-unit, going-more, going-end}
+use Rattle.unit_octets.proofs.Storing.{written-length, stored-length}
+use Rattle.emit.proofs.Forward.{Going, going-none, room-unit, going-more, going-end}
 use Rattle.emit.proofs.emit.Statement.{statement}
 use Rattle.emit.proofs.emit.Tie as tie
 
@@ -11,8 +11,8 @@ Inv-loop work n segments out₀ in-gl in-gr i₀ k₀ at₀ out i k at = (i ≤ 
 abbrev μ-loop : tie.MeasureT-loop
 μ-loop work n segments out₀ in-gl in-gr i₀ k₀ at₀ out i k at = n - i
 
-choose-quickly-requires : tie.Need-choose-quickly-requires Inv-loop μ-loop
-choose-quickly-requires c κs =
+choose-requires : tie.Need-choose-requires Inv-loop μ-loop
+choose-requires c κs =
     let class = c .before .before in
     let turn = class .before .before in (
       class .class-of .ensures .1,
@@ -22,19 +22,6 @@ choose-quickly-requires c κs =
       omega (arith, turn .before .before .before .before .before .pre .1, turn .loop-test .taken),
     )
 
-put-change-requires : tie.Need-put-change-requires Inv-loop μ-loop
-put-change-requires c κs =
-    let class = c .before .before .before .before in
-    let turn = class .before .before in
-    let going = turn .before .loop .inv .2 in
-    let pre = turn .before .before .before .before .before .pre in
-    let its-class = class .class-of .ensures .0 in
-    let chosen = c .before .choose-quickly .ensures in (
-      going .state,
-      j-below going (pre .2) (turn .loop-test .taken) its-class chosen,
-      room-change going (pre .2) (turn .loop-test .taken) its-class chosen (pre .3),
-    )
-
 put-row-requires : tie.Need-put-row-requires Inv-loop μ-loop
 put-row-requires c κs =
     let chosen = c .before .before .before .before .before in
@@ -42,7 +29,7 @@ put-row-requires c κs =
     let turn = class .before .before in
     let pre = turn .before .before .before .before .before .pre in (
       omega (arith, pre .1, turn .loop-test .taken),
-      room-unit (turn .before .loop .inv .2) (pre .2) (turn .loop-test .taken) (class .class-of .ensures .0) (chosen .choose-quickly .ensures)
+      room-unit (turn .before .loop .inv .2) (pre .2) (turn .loop-test .taken) (class .class-of .ensures .0) (chosen .choose .ensures)
           (chosen .before .before .wide .ensures .0) (pre .3) (c .before .before .before .put-change .ensures),
     )
 
@@ -56,9 +43,9 @@ loop-again c =
     let changed = c .before .before .before .before .before .before .put-change .ensures in
     let written = c .before .before .put-row .ensures in (
       omega arith,
-      written-length written ∙ written-length changed ∙ inv .1,
-      going-more (inv .2) (pre .2) (turn .loop-test .taken) (class .class-of .ensures .0) (chosen .choose-quickly .ensures)
-          (chosen .before .before .wide .ensures .0) changed written,
+      written-length written ∙ stored-length changed ∙ inv .1,
+      going-more (inv .2) (pre .2) (turn .loop-test .taken) (class .class-of .ensures .0) (chosen .choose .ensures)
+          (chosen .before .before .wide .ensures .0) (pre .3) changed written,
     )
 
 pub emit-spec : {M : Type 1} → statement M
@@ -76,8 +63,8 @@ emit-spec =
     (search arith)
     (λ c. c .before .class-of .ensures .1)
     (search arith)
-    choose-quickly-requires
-    put-change-requires
+    choose-requires
+    (search arith)
     put-row-requires
     (search arith)
     (search arith)

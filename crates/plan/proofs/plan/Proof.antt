@@ -1,7 +1,8 @@
 -- `plan::plan` meets its contract. The invariant: what the rows from i on cost is known from all numbers, and those rows are planned.
 use Rattle.element.proofs.Names.{arith, refl, length}
 use lib.ListN.{replicate}
-use Rattle.plan.specs.Plan.{rowsOf, Planned}
+use Rattle.rows.specs.Rows.{rowsOf}
+use Rattle.plan.specs.Plan.{Planned}
 use Rattle.numbers.proofs.Numbers.{bounded}
 use Rattle.plan.proofs.Rest.{Known, known-none, planned-none, known-sum, known-result, known-smooth, row-lies}
 use Rattle.plan.proofs.Rest.{turn-near, turn-known, turn-planned, plan-end}
@@ -27,14 +28,14 @@ loop-holds c =
 unit-before-requires : tie.Need-unit-before-requires Inv-loop μ-loop
 unit-before-requires c κs =
     let class = c .before .before .before .before .before .before .before .before .before .before in
-    let size = class .before .before in
-    let turn = size .before .before in
+    let size = class .before in
+    let turn = size .before .before .before in
     let known = turn .before .loop .inv in (
       record {
         class-of = class .class-of .ensures .1;
         low = known .0 .low;
         smooth = known-smooth (known .0);
-        near = turn-near (row-lies known (turn .loop-test .taken) .next) (known .0) (known .1) (class .class-of .ensures .0) (size .size-from .ensures .0);
+        near = turn-near (row-lies known (turn .loop-test .taken) .next) (known .0) (known .1) (class .class-of .ensures .0) (size .size-at .ensures .0);
         long = known .0 .long;
       },
       record { in-gl = refl; in-gr = refl; by-four = refl; by-three = refl },
@@ -44,14 +45,14 @@ loop-again : tie.Need-loop-again Inv-loop μ-loop
 loop-again c =
     let kept = c .before .before .before .before .before .before .before .before .before in
     let class = kept .before .before .before in
-    let size = class .before .before in
-    let turn = size .before .before in
+    let size = class .before in
+    let turn = size .before .before .before in
     let known = turn .before .loop .inv in
     let next = row-lies known (turn .loop-test .taken) .next in
     let its-class = class .class-of .ensures .0 in
-    let its-size = size .size-from .ensures .0 in (
+    let its-size = size .size-at .ensures .0 in (
       turn-known next (known .0) (known .1) its-class its-size (c .before .unit-before .ensures),
-      turn-planned next (known .0) (known .1) its-class its-size (kept .keep .ensures),
+      turn-planned next (known .0) (known .1) its-class its-size (kept .keep .ensures .there (row-lies known (turn .loop-test .taken) .costs)),
     )
 
 pub plan-spec : {M : Type 1} → statement M
@@ -66,17 +67,16 @@ plan-spec =
     loop-holds
     (λ c. c .loop-test .taken)
     (λ c. row-lies (c .before .loop .inv) (c .loop-test .taken) .start)
-    (λ c κs. row-lies (c .before .before .loop .inv) (c .before .loop-test .taken) .whole)
-    (λ c. row-lies (c .before .before .before .loop .inv) (c .before .before .loop-test .taken) .tag)
-    (λ c. row-lies (c .before .before .before .before .loop .inv) (c .before .before .before .loop-test .taken) .read)
+    (λ c. row-lies (c .before .loop .inv) (c .loop-test .taken) .tag)
+    (λ c. row-lies (c .before .before .loop .inv) (c .before .loop-test .taken) .read)
     (search arith)
-    (λ c κs. let turn = c .before .before .before .before .before .before in
-    (c .before .before .class-of .ensures .1, row-lies (turn .before .loop .inv) (turn .loop-test .taken) .costs))
+    (search arith)
+    (search arith)
     unit-before-requires
+    (λ c. let size = c .before .before .before .before .before .before .before .before .before .before .before .before in
+    known-sum (size .before .before .before .before .loop .inv .0) (size .size-at .ensures .1) (c .unit-before .ensures .small) .0)
     (λ c. let size = c .before .before .before .before .before .before .before .before .before .before .before .before .before in
-    known-sum (size .before .before .before .loop .inv .0) (size .size-from .ensures .1) (c .unit-before .ensures .small) .0)
-    (λ c. let size = c .before .before .before .before .before .before .before .before .before .before .before .before .before .before in
-    known-sum (size .before .before .before .loop .inv .0) (size .size-from .ensures .1) (c .before .unit-before .ensures .small) .1)
+    known-sum (size .before .before .before .before .loop .inv .0) (size .size-at .ensures .1) (c .before .unit-before .ensures .small) .1)
     (λ c. let turn = c .before .before .before .before .before .before .before .before .before .before .before .before .before .before .before .before in
     row-lies (turn .before .loop .inv) (turn .loop-test .taken) .less)
     loop-again

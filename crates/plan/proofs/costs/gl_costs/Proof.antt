@@ -1,7 +1,7 @@
 -- `costs::gl_costs` meets its contract. The invariant: the first r columns hold the least costs, and the others what they held.
 use Rattle.element.proofs.Names.{arith, _+_, _-_, _≤_, _≡_, _∙_, cond, eqb}
-use Rattle.plan.specs.Table.{Swept}
-use Rattle.plan.proofs.Filled.{costsGL, swept-none, swept-next, swept-gl, swept-end, columns-as}
+use Rattle.table.specs.Table.{Swept}
+use Rattle.table.proofs.Filled.{costsGL, swept-none, swept-next, swept-gl, swept-end, columns-as}
 use Rattle.plan.proofs.Least.{gl-least, unserved-most}
 use Rattle.plan.proofs.costs.gl_costs.Statement.{statement}
 use Rattle.plan.proofs.costs.gl_costs.Tie as tie

@@ -1,6 +1,6 @@
 -- `costs::unit_before` meets its contract.
 use Rattle.element.proofs.Names.{arith, sym, _∙_}
-use Rattle.plan.proofs.Turns.{changes-class, turned-moved, turned-near, turned-lowered, turned-still}
+use Rattle.plan.proofs.Turns.{changes-class, turned-moved, turned-lowered, turned-still}
 use Rattle.plan.proofs.costs.unit_before.Statement.{statement}
 use Rattle.plan.proofs.costs.unit_before.Tie as tie
 
@@ -16,13 +16,6 @@ returns c =
     let start = change .before .before in
     let changed = sym (change .before .changed .ensures) ∙ change .if1 .taken in
     turned-moved _ _ (start .args .cur .now) _ (start .pre .0 .long) (c .before .before .costs-before .ensures) changed (c .if2 .taken)
-
-lower-requires : tie.Need-lower-requires
-lower-requires c κs =
-    let start = c .before .before .before .before .before .before .before in
-    let costs = c .before .before .before .costs-before .ensures in
-    let pre = start .pre .0 in
-    (turned-near (start .args .last) _ (start .args .cur .now) _ (pre .long) costs (pre .near) (c .before .if2 .left), costs .long)
 
 returns-2 : tie.Need-returns-2
 returns-2 c =
@@ -46,6 +39,6 @@ unit-before-spec =
     costs-before-requires
     (search arith)
     returns
-    lower-requires
+    (search arith)
     returns-2
     returns-3)

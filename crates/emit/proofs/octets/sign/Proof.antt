@@ -1,9 +1,0 @@
--- `octets::sign` meets its contract, test by test.
-use Rattle.element.proofs.Names.{ladder}
-use Rattle.emit.specs.Octets.{signOf}
-use Rattle.emit.proofs.octets.sign.Statement.{statement}
-use Rattle.emit.proofs.octets.sign.Tie as tie
-
-pub sign-spec : {M : Type 1} → statement M
-unfolding signOf
-sign-spec = tie.close (tie.spec (λ c. search ladder) (λ c. search ladder) (λ c. search ladder) (λ c. search ladder))

@@ -1,7 +1,0 @@
--- `octets::single` meets its contract.
-use Rattle.element.proofs.Names.{arith, ladder}
-use Rattle.emit.proofs.octets.single.Statement.{statement}
-use Rattle.emit.proofs.octets.single.Tie as tie
-
-pub single-spec : {M : Type 1} → statement M
-single-spec = tie.close (tie.spec (search arith) (λ c. search ladder depth 9) (λ c. search ladder depth 9))

@@ -1,7 +1,0 @@
--- `octets::two_octets` meets its contract.
-use Rattle.element.proofs.Names.{ladder}
-use Rattle.emit.proofs.octets.two_octets.Statement.{statement}
-use Rattle.emit.proofs.octets.two_octets.Tie as tie
-
-pub two-octets-spec : {M : Type 1} → statement M
-two-octets-spec = tie.close (tie.spec (λ c. search ladder depth 9) (λ c. search ladder depth 9))

@@ -1,7 +1,0 @@
--- `table::charge` meets its contract.
-use Rattle.element.proofs.Names.{eq-eqb, ne-eqb}
-use Rattle.plan.proofs.table.charge.Statement.{statement}
-use Rattle.plan.proofs.table.charge.Tie as tie
-
-pub charge-spec : {M : Type 1} → statement M
-charge-spec = tie.close (tie.spec (λ c. rw (eq-eqb _ _ (c .if1 .taken))) (λ c. rw (ne-eqb _ _ (c .if1 .left))))

@@ -1,0 +1,23 @@
+-- `stores::put_four` meets its contract.
+use Rattle.element.proofs.Names.{arith, length-set}
+use Rattle.unit_octets.proofs.Storing.{stored-yes, stored-no, written-4}
+use Rattle.unit_octets.proofs.stores.put_four.Statement.{statement}
+use Rattle.unit_octets.proofs.stores.put_four.Tie as tie
+
+pub put-four-spec : {M : Type 1} → statement M
+put-four-spec =
+    tie.close
+    (tie.spec
+    (λ c. stored-no (omega arith))
+    (search arith)
+    (λ c. stored-no (omega arith))
+    (search arith)
+    (search arith)
+    (λ c. simp length-set (omega arith))
+    (search arith)
+    (λ c. simp length-set (omega arith))
+    (search arith)
+    (λ c. simp length-set (omega arith))
+    (search arith)
+    (search (length-set, arith))
+    (λ c. stored-yes (omega arith) (written-4 _ _ _ _ _ _)))
