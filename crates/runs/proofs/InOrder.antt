@@ -45,8 +45,12 @@ module _ (s : List ℕ) where
   cuts-by : (at : ℕ) (st : State) (q : Piece) → Moved s at st q → Cuts (q .end) (q .state) → Cuts at st
   unfolding joined
   cuts-by at st q m (over n e) =
-      cut {p = q} (record { is = m .is ∙ (ap (joined q) e ∙ ap (λ (ps : List Piece). q ∷ ps) (sym e));
-      more = m .more; within = m .within; leads = m .leads })
+      cut {p = q} (record {
+        is = m .is ∙ (ap (joined q) e ∙ ap (λ (ps : List Piece). q ∷ ps) (sym e));
+        more = m .more;
+        within = m .within;
+        leads = m .leads;
+      })
   cuts-by at st q m (cut {p} {next} c) =
       test (sameRunOf (q .kind) (p .kind))
       (λ e. cut {p = longer q p} (record {
