@@ -179,13 +179,13 @@ module _ (s : List ℕ) (c : Cursor) (n : ℕ) where
 
   by-left : leftFirst octet ≡ true → hasTwo (c .gl) ≡ true → Spans (byForm s c n left-twos octets)
   unfolding byForm pick
-  by-left l t = 
+  by-left l t =
       pick-by Spans (ltb octets 2) (λ _. as-any)
       (λ k. (let h = ltb-false octets 2 k in as-twos in-left h (halves h .0) (halves h .1) l t))
 
   by-right : leb 0xA0 octet ≡ true → hasTwo (c .gr) ≡ true → Spans (byForm s c n right-twos octets)
   unfolding byForm pick
-  by-right l t = 
+  by-right l t =
       pick-by Spans (ltb octets 2) (λ _. as-any)
       (λ k. (let h = ltb-false octets 2 k in as-twos in-right h (halves h .0) (halves h .1) l t))
 
