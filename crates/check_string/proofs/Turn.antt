@@ -11,10 +11,10 @@ use Rattle.grammar.proofs.Places.{ahead, at-end, at-refused, at-passed, refused
 use Rattle.state.specs.State.{directedTo}
 use Rattle.state.specs.declared.elements.Shape.the-variants.{Ends}
 use Rattle.stretch.specs.Characters.{stretchAt}
-use Rattle.stretch.specs.Designation.{designationAt}
+use Rattle.designations.specs.Designation.{designationAt}
 use Rattle.stretch.specs.declared.characters.Stretch.{Stretch}
-use Rattle.stretch.specs.declared.designation.Designation.{Designation}
-use Rattle.stretch.proofs.Designations.{designation-silent}
+use Rattle.designations.specs.declared.Designation.{Designation}
+use Rattle.designations.proofs.Designations.{designation-silent}
 use Rattle.stretch.proofs.Law.{units-answer}
 use Rattle.stretch.proofs.Stretches.{stretch-ahead}
 

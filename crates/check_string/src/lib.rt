@@ -10,7 +10,7 @@ use state::State;
 use state::directions::Step;
 use state::elements::Shape;
 use stretch::characters::stretch_at;
-use stretch::designation::designation_at;
+use designations::designation_at;
 
 // What is said of a string with no list lent.
 pub struct Checked {

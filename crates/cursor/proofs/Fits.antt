@@ -3,9 +3,9 @@ use Rattle.element.proofs.Names.{ℕ, _+_, _≤_, _<_, _≡_, sym, refl, List, 
 use Rattle.element.specs.Element.{elementOf}
 use Rattle.element.proofs.Sizes.{silent}
 use Rattle.grammar.proofs.Places.{step-passed}
-use Rattle.stretch.specs.Designation.{designationAt}
-use Rattle.stretch.specs.declared.designation.Designation.{Designation}
-use Rattle.stretch.proofs.Designations.{designation-silent}
+use Rattle.designations.specs.Designation.{designationAt}
+use Rattle.designations.specs.declared.Designation.{Designation}
+use Rattle.designations.proofs.Designations.{designation-silent}
 
 pub placed-fits : (s : List ℕ) (at : ℕ) (d : Designation) → d ≡ designationAt (from at s) → d .set < no-set → at + d .octets ≤ length s
 placed-fits s at d e h =

@@ -11,9 +11,9 @@ use Rattle.element.specs.Element.{elementOf}
 use Rattle.element.proofs.Sizes.{silent as is-silent, found as is-found}
 use Rattle.grammar.specs.Reading.{Elements, size}
 use Rattle.grammar.proofs.Places.{ahead, at-passed, Ahead, ends, stops, passes, reads}
-use Rattle.stretch.specs.Designation.{designationAt}
-use Rattle.stretch.specs.declared.designation.Designation.{Designation}
-use Rattle.stretch.proofs.Designations.{designation-silent}
+use Rattle.designations.specs.Designation.{designationAt}
+use Rattle.designations.specs.declared.Designation.{Designation}
+use Rattle.designations.proofs.Designations.{designation-silent}
 use Rattle.units.specs.Records.{recordOf, recordsFrom}
 use Rattle.units.specs.Next.{outcomeOf, nextOf}
 use Rattle.units.specs.declared.Outcome.{Outcome}

@@ -12,8 +12,8 @@ use Rattle.state.specs.State.{sets, state, fresh, designatedOf}
 use Rattle.state.specs.declared.Sets.{Sets}
 use Rattle.state.specs.declared.State.{State}
 use Rattle.state.specs.declared.directions.Directions.{Directions}
-use Rattle.stretch.specs.Designation.{designationAt}
-use Rattle.stretch.specs.declared.designation.Designation.{Designation}
+use Rattle.designations.specs.Designation.{designationAt}
+use Rattle.designations.specs.declared.Designation.{Designation}
 use Rattle.charset.specs.Charsets.{no-set}
 use Rattle.units.specs.Records.{blank}
 use Rattle.units.specs.Next.{nextOf}

@@ -14,8 +14,8 @@ use Rattle.grammar.proofs.Places.{refused-number}
 use Rattle.reader.specs.Step.{mayStand}
 use Rattle.state.specs.Directions.{inForceOf}
 use Rattle.stretch.specs.Characters.{settledOf}
-use Rattle.stretch.specs.Designation.{designationAt}
-use Rattle.stretch.specs.declared.designation.Designation.{Designation}
+use Rattle.designations.specs.Designation.{designationAt}
+use Rattle.designations.specs.declared.Designation.{Designation}
 use Rattle.pieces.specs.Pieces.{piece, isRun, setIn}
 use Rattle.pieces.specs.declared.Piece.{Piece}
 use Rattle.pieces.proofs.Step.{elementAt, pieceAt}

@@ -24,7 +24,7 @@ use runs::stepping::run_of;
 use runs::stepping::stopped;
 use state::State;
 use stretch::characters::settled;
-use stretch::designation::designation_at;
+use designations::designation_at;
 
 // The position after several runs, and the answer: how many were stored, or why none could be.
 pub struct RunsStep {

@@ -7,9 +7,9 @@ use Rattle.element.proofs.Sizes.{Fit, silent, found}
 use Rattle.grammar.specs.Reading.{Octets, noneRefused}
 use Rattle.grammar.proofs.Places.{ahead, at-end, at-refused, at-passed, step-passed}
 use Rattle.stretch.specs.Characters.{settledOf}
-use Rattle.stretch.specs.Designation.{designationAt}
-use Rattle.stretch.specs.declared.designation.Designation.{Designation}
-use Rattle.stretch.proofs.Designations.{designation-silent}
+use Rattle.designations.specs.Designation.{designationAt}
+use Rattle.designations.specs.declared.Designation.{Designation}
+use Rattle.designations.proofs.Designations.{designation-silent}
 use Rattle.pieces.specs.PieceKind as pieceKind
 use Rattle.pieces.specs.Pieces.{piece, noPiece, sideKindOf, pieceOf, isRun, sameRunOf, joined, piecesFrom}
 use Rattle.pieces.specs.declared.Piece.{Piece}

@@ -17,7 +17,7 @@ use run_ends::text_end;
 use state::State;
 use state::elements::Element;
 use stretch::characters::settled;
-use stretch::designation::designation_at;
+use designations::designation_at;
 
 // A place of a string and the state there, and whether the whole string is known to be accepted.
 pub struct RunPosition {

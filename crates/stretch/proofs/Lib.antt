@@ -1,5 +1,4 @@
 pub mod Law
 pub mod Starts
 pub mod Loops
-pub mod Designations
 pub mod Stretches

@@ -1,2 +1,1 @@
-pub mod Designation
 pub mod Characters

@@ -1,3 +1,2 @@
-// What a reading passes without a whole element for each: designations, and stretches of characters of one width.
+// What a reading passes without a whole element for each: stretches of characters of one width.
 pub mod characters;
-pub mod designation;

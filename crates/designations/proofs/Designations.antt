@@ -8,8 +8,8 @@ use Rattle.charset.proofs.Laws.{final-range}
 use Rattle.control.specs.Escape.{designatesOf, designationOf, multiOctetOf, escapeOf}
 use Rattle.element.specs.Element.{shapeOf, directedOf, elementOf}
 use Rattle.element.specs.Start.{startOf, begunBy}
-use Rattle.stretch.specs.Designation as quick
-use Rattle.stretch.specs.declared.designation.Designation.{Designation}
+use Rattle.designations.specs.Designation as quick
+use Rattle.designations.specs.declared.Designation.{Designation}
 
 -- ---- the four octets at a place
 

@@ -1,7 +1,7 @@
 // Designations, found by their octets.
 ghost use mathlib.Core.Path.{_≡_};
 ghost use Rattle.base.specs.Choice.{from};
-ghost use Rattle.stretch.specs.Designation.{absent, byFinalOf, multiOctetAt, sequenceOf, designationAt};
+ghost use Rattle.designations.specs.Designation.{absent, byFinalOf, multiOctetAt, sequenceOf, designationAt};
 use charset::FORM_94;
 use charset::FORM_94X94;
 use charset::FORM_96;

@@ -1,8 +1,8 @@
 -- `designation::designation_at` meets its contract: four octets are there and decide, or they are not.
 use Rattle.element.proofs.Names.{arith, _∙_, ladder}
-use Rattle.stretch.proofs.Designations.{on-few, placing}
-use Rattle.stretch.proofs.designation.designation_at.Statement.{statement}
-use Rattle.stretch.proofs.designation.designation_at.Tie as tie
+use Rattle.designations.proofs.Designations.{on-few, placing}
+use Rattle.designations.proofs.designation_at.Statement.{statement}
+use Rattle.designations.proofs.designation_at.Tie as tie
 
 pub designation-at-spec : {M : Type 1} → statement M
 designation-at-spec =

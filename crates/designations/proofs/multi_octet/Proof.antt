@@ -1,8 +1,8 @@
 -- `designation::multi_octet` meets its contract, arm by arm.
 use Rattle.element.proofs.Names.{arith, ladder}
-use Rattle.stretch.specs.Designation.{multiOctetAt}
-use Rattle.stretch.proofs.designation.multi_octet.Statement.{statement}
-use Rattle.stretch.proofs.designation.multi_octet.Tie as tie
+use Rattle.designations.specs.Designation.{multiOctetAt}
+use Rattle.designations.proofs.multi_octet.Statement.{statement}
+use Rattle.designations.proofs.multi_octet.Tie as tie
 
 pub multi-octet-spec : {M : Type 1} → statement M
 unfolding multiOctetAt

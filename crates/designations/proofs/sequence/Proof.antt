@@ -1,8 +1,8 @@
 -- `designation::sequence` meets its contract, arm by arm.
 use Rattle.element.proofs.Names.{arith, ladder}
-use Rattle.stretch.specs.Designation.{sequenceOf}
-use Rattle.stretch.proofs.designation.sequence.Statement.{statement}
-use Rattle.stretch.proofs.designation.sequence.Tie as tie
+use Rattle.designations.specs.Designation.{sequenceOf}
+use Rattle.designations.proofs.sequence.Statement.{statement}
+use Rattle.designations.proofs.sequence.Tie as tie
 
 pub sequence-spec : {M : Type 1} → statement M
 unfolding sequenceOf

@@ -7,7 +7,7 @@ use Rattle.base.specs.Choice.{pick}
 use Rattle.charset.specs.Charsets.{form-94, form-96, form-94x94, no-set, setOf}
 use Rattle.charset.specs.declared.Side.{Side}
 use Rattle.charset.specs.declared.Side.the-variants.{GL, GR}
-use Rattle.stretch.specs.declared.designation.Designation.{Designation}
+use Rattle.designations.specs.declared.Designation.{Designation}
 
 abbrev pub designationWith : ℕ → Side → ℕ → Designation
 designationWith octets side set = record { octets = octets; side = side; set = set }
