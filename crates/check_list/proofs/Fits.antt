@@ -1,7 +1,7 @@
 -- A record that is not refused fits a row, and the row's unit is the record's.
 use Rattle.element.proofs.Names.{ℕ, _+_, _-_, _/_, _%_, _≤_, _<_, arith, _≡_, refl, sym, ap, ap₂, _∙_, subst, true, List, some}
-use Rattle.element.proofs.Names.{Option·some-injective, eqb, ltb, length, set, take, drop, eqb-true, eqb-false, ne-eqb, lt-ltb, ltb-true, ltb-false, leb-true}
-use Rattle.element.proofs.Names.{pick, UnitRecord, off, clash, test, from-tests, formOf}
+use Rattle.element.proofs.Names.{Option·some-injective, eqb, ltb, length, set, take, drop, eqb-true, eqb-false, ne-eqb, lt-ltb, ltb-true, ltb-false}
+use Rattle.element.proofs.Names.{leb-true, pick, UnitRecord, off, clash, test, from-tests, formOf}
 use Rattle.base.specs.Kind as kind
 use Rattle.charset.proofs.Laws.{narrow-form, wide-form}
 use Rattle.grammar.specs.Units.{TextUnit, char, space, control, ext, controlOf, unitOf, codeUsed, segment, good}

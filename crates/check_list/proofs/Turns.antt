@@ -1,6 +1,6 @@
 -- A turn of the check: by what it was before, and by what the record's refusal is.
-use Rattle.element.proofs.Names.{ℕ, _≤_, _<_, arith, _≡_, refl, ap, true, false, List, eqb, leb, ltb, eqb-true}
-use Rattle.element.proofs.Names.{le-leb, le-ltb, UnitRecord, Directions, Step, Goes, Stops, pick, clash, test, pick-by, pick-last, off, tested}
+use Rattle.element.proofs.Names.{ℕ, _≤_, _<_, arith, _≡_, refl, ap, true, false, List, eqb, leb, ltb, eqb-true, le-leb, le-ltb, UnitRecord, Directions}
+use Rattle.element.proofs.Names.{Step, Goes, Stops, pick, clash, test, pick-by, pick-last, off, tested}
 use Rattle.base.proofs.Bools.{pick-both}
 use Rattle.grammar.specs.Records.{unitRead}
 use Rattle.shortest.specs.Records.{fault}

@@ -1,7 +1,7 @@
 -- A turn of the loop of `whole`, on plain values: what is left answers what the whole string does, before the turn and after it.
-use Rattle.element.proofs.Names.{ℕ, _+_, _≤_, _<_, arith, _≡_, refl, ap, sym, _∙_, List, length, answer, refusedAt, from, Answer, from-end}
-use Rattle.element.proofs.Names.{no-set, Side, stepOf, fresh, designatedOf, State, Part, Directions, Step, Goes, Stops, Shape, Refuses, Designates, Gives}
-use Rattle.element.proofs.Names.{Element, End, Refused, Silent, Found}
+use Rattle.element.proofs.Names.{ℕ, _+_, _≤_, _<_, arith, _≡_, refl, ap, sym, _∙_, List, length, answer, refusedAt, from, Answer, from-end, no-set}
+use Rattle.element.proofs.Names.{Side, stepOf, fresh, designatedOf, State, Part, Directions, Step, Goes, Stops, Shape, Refuses, Designates, Gives, Element}
+use Rattle.element.proofs.Names.{End, Refused, Silent, Found}
 use native.Mathlib.Numerals.{unary-clauses}
 use Rattle.element.specs.Element.{shapeOf, steppedOf, directedOf, elementOf}
 use Rattle.element.proofs.Sizes.{silent, found}

@@ -6,11 +6,11 @@ use base::Answer;
 use base::limit;
 use base::refusal;
 use charset::NO_SET;
+use designations::designation_at;
 use state::State;
 use state::directions::Step;
 use state::elements::Shape;
 use stretch::characters::stretch_at;
-use designations::designation_at;
 
 // What is said of a string with no list lent.
 pub struct Checked {

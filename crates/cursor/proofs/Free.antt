@@ -1,8 +1,7 @@
 -- An element that is not refused is the same under directions that refuse nothing (`same-element`): its shape does not know the directions, and
 -- such directions let every unit pass. So a cursor keeps the sets alone.
-use Rattle.element.proofs.Names.{ℕ, _≡_, refl, Bool, true, false, List, pick, directions, writtenOf, deeperOf, begunOf}
-use Rattle.element.proofs.Names.{revertedOf, stepOf, State, Directions, Step, Goes, Stops, Part, Shape, Refuses, Designates, Gives, Element, End, Refused}
-use Rattle.element.proofs.Names.{Silent, Found}
+use Rattle.element.proofs.Names.{ℕ, _≡_, refl, Bool, true, false, List, pick, directions, writtenOf, deeperOf, begunOf, revertedOf, stepOf, State}
+use Rattle.element.proofs.Names.{Directions, Step, Goes, Stops, Part, Shape, Refuses, Designates, Gives, Element, End, Refused, Silent, Found}
 use Rattle.state.specs.State.{state, directedTo}
 use Rattle.state.specs.declared.elements.Shape.the-variants.{Ends}
 use Rattle.element.specs.Element.{shapeOf, steppedOf, directedOf, elementOf}

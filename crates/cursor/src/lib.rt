@@ -12,11 +12,11 @@ use crate::octets::one_octet;
 use crate::octets::two_octets;
 use base::Unit;
 use charset::NO_SET;
+use designations::Designation;
+use designations::designation_at;
 use state::Sets;
 use state::State;
 use state::directions::Directions;
-use designations::Designation;
-use designations::designation_at;
 use units::Outcome;
 
 pub mod octets;

@@ -7,8 +7,7 @@ use Rattle.grammar.specs.Units.{TextUnit, octets}
 use Rattle.shortest.specs.Writing.{Need, choose, after, met, need, cost, used, designated, writing}
 use Rattle.shortest.proofs.Needs.{chosen-met}
 use Rattle.rows.specs.Rows.{tagAt, highOctet, lowOctet, startFrom, unitFrom, unitsIn}
-use Rattle.numbers.specs.Numbers.{servedInGL, numbered, classOf, needOfClass, chosenBy, afterChoice, change, sideAt}
-use Rattle.numbers.specs.Numbers.{secondSlot}
+use Rattle.numbers.specs.Numbers.{servedInGL, numbered, classOf, needOfClass, chosenBy, afterChoice, change, sideAt, secondSlot}
 use Rattle.plan.specs.Plan.{restFrom}
 use Rattle.numbers.proofs.Numbers.{Choice, choice-at, chosen-base, chosen-single, chosen-free, used-side}
 use Rattle.plan.proofs.Units.{need-tagged}

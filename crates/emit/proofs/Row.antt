@@ -1,6 +1,6 @@
 -- The octets of the unit of a row, by its tag: those of text, or of a segment or a mark. Only the octets of text depend on the side.
-use Rattle.element.proofs.Names.{ℕ, _+_, _%_, _≤_, _<_, arith, _≡_, refl, ap, _∙_, Bool, true, false, cond, _&&_, List, [], _∷_, ltb, leb, eqb, getD}
-use Rattle.element.proofs.Names.{take, drop, le-ltb, pick, Side, GL}
+use Rattle.element.proofs.Names.{ℕ, _+_, _%_, _≤_, _<_, arith, _≡_, refl, ap, _∙_, Bool, true, false, cond, _&&_, List, [], _∷_, ltb, leb, eqb}
+use Rattle.element.proofs.Names.{getD, take, drop, le-ltb, pick, Side, GL}
 use Rattle.grammar.specs.Units.{TextUnit, space, control, tab, newline, ltr, rtl, revert, ext, octets, top}
 use Rattle.rows.specs.Rows.{highOctet, lowOctet, startFrom, countOf, textTagged, markTagged, otherTagged, unitTagged, unitFrom}
 use Rattle.rows.specs.Tag as tag

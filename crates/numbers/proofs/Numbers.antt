@@ -1,8 +1,8 @@
 -- The choice by number is the writer's choice: shown by one computed test of all 17 classes and 80 numbers, from which the laws follow.
 use Rattle.element.proofs.Names.{_≡_, refl, sym, ap, ap₂, _∙_, Bool, true, false, cond, _||_, _&&_, not, List, Option, none, some, ℕ, _+_, _-_, _≤_}
-use Rattle.element.proofs.Names.{_<_, arith, length, getD, List·getD-eq-default, eqb, leb, ltb, eqb-true, eq-eqb, ne-eqb, ltb-true, ltb-false, lt-ltb, le-ltb}
-use Rattle.element.proofs.Names.{leb-true, leb-false, le-leb, lt-leb, off, pick, test, up-to, from-tests, Side, GL, GR, allowed, mayUse, formOf, Standing, on, put}
-use Rattle.element.proofs.Names.{Sets}
+use Rattle.element.proofs.Names.{_<_, arith, length, getD, List·getD-eq-default, eqb, leb, ltb, eqb-true, eq-eqb, ne-eqb, ltb-true, ltb-false, lt-ltb}
+use Rattle.element.proofs.Names.{le-ltb, leb-true, leb-false, le-leb, lt-leb, off, pick, test, up-to, from-tests, Side, GL, GR, allowed, mayUse, formOf}
+use Rattle.element.proofs.Names.{Standing, on, put, Sets}
 use mathlib.Core.Bool.{Bool·beq}
 pub use Rattle.base.proofs.Bools.{beq-eq}
 use Rattle.base.proofs.Bools.{implies, implies-elim, or-none, upTo, up-to-both, up-to-where}
@@ -10,8 +10,8 @@ use Rattle.state.specs.State.{sets}
 use Rattle.grammar.specs.Units.{designation}
 use Rattle.shortest.specs.Writing.{Need, free, either, stands, met, price, via, least, choose, after, used}
 use Rattle.shortest.proofs.Needs.{Steady, least-chosen}
-use Rattle.numbers.specs.Numbers.{numbered, withGL, withGR, needOfClass, priceOfClass, placesInGL, placesInGR, afterFirst}
-use Rattle.numbers.specs.Numbers.{afterSecond, chosenBy, afterChoice, surcharge, change, sideAt}
+use Rattle.numbers.specs.Numbers.{numbered, withGL, withGR, needOfClass, priceOfClass, placesInGL, placesInGR, afterFirst, afterSecond, chosenBy}
+use Rattle.numbers.specs.Numbers.{afterChoice, surcharge, change, sideAt}
 
 -- ---- tests of equality
 

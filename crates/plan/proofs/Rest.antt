@@ -1,7 +1,7 @@
 -- The costs of what follows, unit by unit from the last to the first. They are kept less a base, since no two differ by more than two
 -- designations; and beside them the class that changed them last, since its need changes them no more.
-use Rattle.element.proofs.Names.{_≡_, refl, sym, ap, ap₂, _∙_, subst, Bool, true, false, not, true≢false, List, _⊎_, inl, inr, Option}
-use Rattle.element.proofs.Names.{none, some, ℕ, zero, suc, _+_, _-_, _*_, _%_, _≤_, _<_, arith, ltb, eqb, ltb-true, ltb-false, eqb-true, length, getD}
+use Rattle.element.proofs.Names.{_≡_, refl, sym, ap, ap₂, _∙_, subst, Bool, true, false, not, true≢false, List, _⊎_, inl, inr, Option, none, some}
+use Rattle.element.proofs.Names.{ℕ, zero, suc, _+_, _-_, _*_, _%_, _≤_, _<_, arith, ltb, eqb, ltb-true, ltb-false, eqb-true, length, getD}
 use Rattle.element.proofs.Names.{List·getD-eq-default, test, pick-by, pick, GL, GR, rowOf, allowed, mayUse, formOf, Standing, on, put, fresh, Sets}
 use mathlib.Core.Path.{fun-ext}
 use mir.Syntax.{w64}

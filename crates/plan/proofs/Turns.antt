@@ -1,6 +1,6 @@
 -- What a unit does to the costs.
-use Rattle.element.proofs.Names.{_≡_, refl, sym, _∙_, Bool, true, false, cond, not, _&&_, true≢false, false≢true, List, ℕ, _+_, _-_}
-use Rattle.element.proofs.Names.{_*_, _≤_, _<_, arith, length, getD, ltb, leb, eqb, eqb-false, pick}
+use Rattle.element.proofs.Names.{_≡_, refl, sym, _∙_, Bool, true, false, cond, not, _&&_, true≢false, false≢true, List, ℕ, _+_, _-_, _*_, _≤_}
+use Rattle.element.proofs.Names.{_<_, arith, length, getD, ltb, leb, eqb, eqb-false, pick}
 use Rattle.numbers.specs.Numbers.{priceOfClass, afterChoice, changes}
 use Rattle.table.specs.Table.{FilledTo, Columns}
 use Rattle.plan.specs.Costs.{leastBy, Turned}

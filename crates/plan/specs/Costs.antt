@@ -4,8 +4,7 @@ use mathlib.Core.Path.{_≡_}
 use mathlib.Core.Bool.{true, false}
 use mathlib.Core.List.{List, [], _∷_}
 use lib.ListN.{length, getD}
-use Rattle.numbers.specs.Numbers.{placesInGL, placesInGR, servedInGL, servedInGR, afterFirst, afterSecond, afterChoice, surcharge, priceOfClass}
-use Rattle.numbers.specs.Numbers.{changes}
+use Rattle.numbers.specs.Numbers.{placesInGL, placesInGR, servedInGL, servedInGR, afterFirst, afterSecond, afterChoice, surcharge, priceOfClass, changes}
 use Rattle.numbers.specs.Class as class
 use Rattle.numbers.specs.Size as size
 

@@ -4,7 +4,6 @@ use mathlib.Core.Bool.{not}
 use mathlib.Core.List.{List}
 use lib.Dec.{eqb}
 use Rattle.runs.specs.Steps.{position, firstPosition, nextRunOf}
-use Rattle.runs.specs.declared.Bounds.{Bounds}
 use Rattle.run_lists.specs.declared.RunsStep.{RunsStep}
 use Rattle.runs.specs.declared.stepping.RunPosition.{RunPosition}
 use Rattle.state.specs.Directions.{directions}

@@ -1,8 +1,8 @@
 -- What is printed, by the answer of `rewrite::shortest`: where it is accepted the octets stored are what is printed (`Form`), and where it
 -- has a count beside a refusal they are as many as are printed and the output stays; else the line of the refusal is printed (`Line`).
 -- The answer depends on the output's length only where that is too short for the shortest form, and then the count is not 0.
-use Rattle.element.proofs.Names.{ℕ, _≤_, _<_, arith, _≡_, refl, ap, sym, _∙_, subst, List, _++_, some, Option·some-injective}
-use Rattle.element.proofs.Names.{length, drop, eqb, eqb-true, eqb-false, eq-eqb, ne-eqb, answer, pick, test, Answer, UnitRecord, fresh}
+use Rattle.element.proofs.Names.{ℕ, _≤_, _<_, arith, _≡_, refl, ap, sym, _∙_, subst, List, _++_, some, Option·some-injective, length, drop, eqb}
+use Rattle.element.proofs.Names.{eqb-true, eqb-false, eq-eqb, ne-eqb, answer, pick, test, Answer, UnitRecord, fresh}
 use Rattle.base.specs.Limit as limit
 use Rattle.base.specs.Refusal as refusal
 use Rattle.grammar.specs.Reading.{checkOf, readingOf}

@@ -1,7 +1,7 @@
 -- The list that `read` fills, record by record at a cursor, is the list of its contract (`filled`): by induction on the elements of the
 -- string, the cursor stands where the next unit is that of the elements that are left.
-use Rattle.element.proofs.Names.{ℕ, _+_, _≤_, _<_, zero-le, not-suc-le-zero, arith, _≡_, refl, ap, _∙_, Bool, true, false, List}
-use Rattle.element.proofs.Names.{[], _∷_, _++_, ltb, length, drop, eq-eqb, ne-eqb, ltb-false, refusedAt, pick, Answer, UnitRecord, State}
+use Rattle.element.proofs.Names.{ℕ, _+_, _≤_, _<_, zero-le, not-suc-le-zero, arith, _≡_, refl, ap, _∙_, Bool, true, false, List, [], _∷_, _++_, ltb}
+use Rattle.element.proofs.Names.{length, drop, eq-eqb, ne-eqb, ltb-false, refusedAt, pick, Answer, UnitRecord, State}
 use native.Mathlib.Nat.{le-of-suc-le-suc}
 use Rattle.base.specs.Limit as limit
 use Rattle.base.specs.Refusal as refusal

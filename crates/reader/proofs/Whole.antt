@@ -1,9 +1,8 @@
 -- A reader opened on a string hands out the records of its units one after the other, and from then on the answer of `check` (`opened-items`);
 -- of a string that is too long it hands out no unit. By induction on the elements of the string: a reader from which the next unit is
 -- that of the elements that are left hands out their records.
-use Rattle.element.proofs.Names.{ℕ, zero, suc, _+_, _≤_, arith, _≡_, refl, ap, sym, _∙_, Bool, true, false, List, [], _∷_, ltb}
-use Rattle.element.proofs.Names.{length, ltb-false, le-ltb, lt-ltb, le-leb, ne-eqb, now, refusedAt, pick, Answer, UnitRecord, allowed, mayUse}
-use Rattle.element.proofs.Names.{fresh, State}
+use Rattle.element.proofs.Names.{ℕ, zero, suc, _+_, _≤_, arith, _≡_, refl, ap, sym, _∙_, Bool, true, false, List, [], _∷_, ltb, length, ltb-false}
+use Rattle.element.proofs.Names.{le-ltb, lt-ltb, le-leb, ne-eqb, now, refusedAt, pick, Answer, UnitRecord, allowed, mayUse, fresh, State}
 use denote.Ref.{RefT}
 use Rattle.base.specs.Limit as limit
 use Rattle.base.specs.Refusal as refusal

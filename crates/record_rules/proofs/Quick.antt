@@ -1,8 +1,7 @@
 -- The quick check is right: a record that it lets through, where the directions are settled, is refused for nothing and changes no
 -- direction. A space by its kind; a character since the bounds of its set's octets are those of the codes that the set uses.
-use Rattle.element.proofs.Names.{ℕ, _+_, _-_, _*_, _/_, _%_, _≤_, _<_, arith, _≡_, sym, ap, _∙_, true, false, List, eqb, leb, ltb, eqb-true}
-use Rattle.element.proofs.Names.{le-leb, lt-ltb, pick, UnitRecord, off, test, pick-last, from-tests}
-use Rattle.element.proofs.Names.{tested, no-set, formOf, writtenOf, stepOf, Directions, Goes}
+use Rattle.element.proofs.Names.{ℕ, _+_, _-_, _*_, _/_, _%_, _≤_, _<_, arith, _≡_, sym, ap, _∙_, true, false, List, eqb, leb, ltb, eqb-true, le-leb}
+use Rattle.element.proofs.Names.{lt-ltb, pick, UnitRecord, off, test, pick-last, from-tests, tested, no-set, formOf, writtenOf, stepOf, Directions, Goes}
 use Rattle.base.specs.Kind as kind
 use Rattle.charset.proofs.Laws.{formRule, form-rule}
 use Rattle.element.proofs.Starts.{graphic}

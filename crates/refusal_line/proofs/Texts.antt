@@ -1,7 +1,7 @@
 -- A text is put before a place from its last octet to its first: each store puts one octet before those from the place on (`before`). For a
 -- text that is there the octets come from its end (`Put`); for a number each is the last digit of what is left of it (`Counted`).
-use Rattle.element.proofs.Names.{ℕ, zero, suc, _+_, _-_, _*_, _/_, _%_, _^_, _≤_, _<_, arith, _≡_, refl, ap, ap₂, sym, _∙_, List, [], _∷_}
-use Rattle.element.proofs.Names.{_++_, length, getD, set, take, drop, length-set, length-drop, le-ltb, lt-ltb, pick, on-gt}
+use Rattle.element.proofs.Names.{ℕ, zero, suc, _+_, _-_, _*_, _/_, _%_, _^_, _≤_, _<_, arith, _≡_, refl, ap, ap₂, sym, _∙_, List, [], _∷_, _++_}
+use Rattle.element.proofs.Names.{length, getD, set, take, drop, length-set, length-drop, le-ltb, lt-ltb, pick, on-gt}
 use lib.Seq.{drop-cons, drop-length, take-all, drop-set-lt, getD-set-same, append-snoc}
 use Rattle.base.proofs.Ladder.{on-le}
 use Rattle.refusal_line.specs.Line.{digit, digits, decimal, refusalLine, storedIn}

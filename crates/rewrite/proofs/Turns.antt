@@ -1,7 +1,7 @@
 -- A turn of the loop that puts the units of an accepted string into their rows: the units to come are those from the i-th on, each before
 -- it stands in its row.
-use Rattle.element.proofs.Names.{ℕ, suc, _+_, _≤_, _<_, arith, add-one, _≡_, sym, _∙_, List, _∷_, length, getD, drop}
-use Rattle.element.proofs.Names.{UnitRecord, fresh, State, pick}
+use Rattle.element.proofs.Names.{ℕ, suc, _+_, _≤_, _<_, arith, add-one, _≡_, sym, _∙_, List, _∷_, length, getD, drop, UnitRecord, fresh, State}
+use Rattle.element.proofs.Names.{pick}
 use lib.Seq.{drop-cons}
 use Rattle.base.specs.Limit as limit
 use Rattle.check_list.proofs.Turns.{put-turn}

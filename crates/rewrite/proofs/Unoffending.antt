@@ -1,7 +1,7 @@
 -- No record of an accepted string offends: the string reads as its records do, so that the check of a list goes through all of them (`fine-end`),
 -- and so through the first k (`fine-at`).
-use Rattle.element.proofs.Names.{ℕ, zero, suc, _≤_, arith, _≡_, refl, sym, _∙_, subst, List, leb, length, getD, leb-true}
-use Rattle.element.proofs.Names.{UnitRecord, Directions, clash, test, tested}
+use Rattle.element.proofs.Names.{ℕ, zero, suc, _≤_, arith, _≡_, refl, sym, _∙_, subst, List, leb, length, getD, leb-true, UnitRecord, Directions}
+use Rattle.element.proofs.Names.{clash, test, tested}
 use Rattle.base.specs.Refusal as refusal
 use Rattle.grammar.specs.Reading.{Octets, checkOf, readingOf}
 use Rattle.check_list.specs.Turn.{turnOf}

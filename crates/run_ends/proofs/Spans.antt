@@ -2,9 +2,9 @@
 -- octet of the span of a side, or two, is a piece of a run of that side and leaves the state, by what such an octet starts; and a piece of a run
 -- starts with octets of the span, by where an octet lies that starts text.
 use Rattle.element.proofs.Names.{ℕ, zero, suc, _+_, _-_, _/_, _%_, _≤_, _<_, arith, not-suc-le-zero, _≡_, refl, ap, sym, _∙_, true, List, [], _∷_}
-use Rattle.element.proofs.Names.{Bool, eqb, ltb, length, getD, eqb-true, eqb-false, ltb-true, ltb-false, pick, from, off, test, tested, pick-by}
-use Rattle.element.proofs.Names.{on-true, on-lt, on-ge, from-octet, from-end, from-length, form-96, formOf, Side, GL, GR, writtenOf, stepOf, next}
-use Rattle.element.proofs.Names.{State, Sets, Directions, Step, Goes, Stops, Shape, Refuses, Designates, Gives}
+use Rattle.element.proofs.Names.{Bool, eqb, ltb, length, getD, eqb-true, eqb-false, ltb-true, ltb-false, pick, from, off, test, tested, pick-by, on-true}
+use Rattle.element.proofs.Names.{on-lt, on-ge, from-octet, from-end, from-length, form-96, formOf, Side, GL, GR, writtenOf, stepOf, next, State, Sets}
+use Rattle.element.proofs.Names.{Directions, Step, Goes, Stops, Shape, Refuses, Designates, Gives}
 use Rattle.element.specs.Element.{shapeOf, steppedOf, directedOf}
 use Rattle.element.specs.Start.{Start, startIn, begunBy}
 use Rattle.element.proofs.Sizes.{kindIn, escape-kind, mark-kind}

@@ -2,8 +2,8 @@
 -- given after it (`on-shown`), what is given from a later place where the first run is the same (`on-passed`), or nothing (`ends-stopped`). So the end
 -- stays the same from turn to turn (`Onward`).
 use Rattle.element.proofs.Names.{ℕ, zero, suc, _+_, _-_, _*_, _^_, _≤_, _<_, zero-le, arith, _≡_, refl, ap, sym, _∙_, Bool, true, false, List, eqb}
-use Rattle.element.proofs.Names.{length, set, length-set, sets, eq-eqb, ne-eqb, lt-ltb, answer, refusedAt, pick, from, Answer, on-true, on-false, on-eq, on-ne}
-use Rattle.element.proofs.Names.{on-lt, on-ge, no-set, Side, GL, GR, designatedOf, State, Element, End, Refused, Silent, Found}
+use Rattle.element.proofs.Names.{length, set, length-set, sets, eq-eqb, ne-eqb, lt-ltb, answer, refusedAt, pick, from, Answer, on-true, on-false, on-eq}
+use Rattle.element.proofs.Names.{on-ne, on-lt, on-ge, no-set, Side, GL, GR, designatedOf, State, Element, End, Refused, Silent, Found}
 use mathlib.Core.List.{map}
 use lib.ListN.{length-map}
 use lib.Seq.{sets-eq}
@@ -23,8 +23,8 @@ use Rattle.run_ends.specs.Ends.{leftTo, rightTo}
 use Rattle.run_ends.proofs.Spans.{left-grows, right-grows}
 use Rattle.runs.specs.Runs.{shownOf}
 use Rattle.runs.specs.Steps.{position, runStepTo, stopAt, runFrom, knownOf}
-use Rattle.run_lists.specs.Listed.{wordOf, upperOf, wordsAfter, runsStep, GivenRuns, before, givesNone, endOf, givenFrom}
-use Rattle.run_lists.specs.Listed.{checkedRuns, nextRunsOf, stand, finished, Onward}
+use Rattle.run_lists.specs.Listed.{wordOf, upperOf, wordsAfter, runsStep, GivenRuns, before, givesNone, endOf, givenFrom, checkedRuns, nextRunsOf}
+use Rattle.run_lists.specs.Listed.{stand, finished, Onward}
 use Rattle.runs.specs.declared.Bounds.{Bounds}
 use Rattle.run_lists.specs.declared.RunsStep.{RunsStep}
 use Rattle.run_lists.specs.declared.Stand.{Stand}

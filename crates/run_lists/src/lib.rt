@@ -13,6 +13,7 @@ use base::Answer;
 use base::limit;
 use base::refusal;
 use charset::NO_SET;
+use designations::designation_at;
 use pieces::Piece;
 use pieces::TAB;
 use run_ends::left_end;
@@ -24,7 +25,6 @@ use runs::stepping::run_of;
 use runs::stepping::stopped;
 use state::State;
 use stretch::characters::settled;
-use designations::designation_at;
 
 // The position after several runs, and the answer: how many were stored, or why none could be.
 pub struct RunsStep {

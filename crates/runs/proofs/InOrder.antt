@@ -2,9 +2,8 @@
 -- others follow (`cuts`); so a step from a position of an accepted string shows the first of the runs that are left, and the runs that are left after
 -- it are the others (`one-step`). Of a refused string each step answers the refusal and stays.
 use Rattle.element.proofs.Names.{ℕ, zero, suc, _+_, _-_, _≤_, _<_, zero-le, arith, not-suc-le-zero, _≡_, refl, ap, sym, _∙_, true, false, Bool, List}
-use Rattle.element.proofs.Names.{[], _∷_, eqb, ltb, length, eq-eqb, eqb-true, eqb-false, ltb-false, le-ltb, refusedAt, pick, from, off, clash, test}
-use Rattle.element.proofs.Names.{Answer, on-true, on-false, on-ne, fresh, State}
-use Rattle.element.proofs.Names.{Element, End, Refused, Silent, Found}
+use Rattle.element.proofs.Names.{[], _∷_, eqb, ltb, length, eq-eqb, eqb-true, eqb-false, ltb-false, le-ltb, refusedAt, pick, from, off, clash, test, Answer}
+use Rattle.element.proofs.Names.{on-true, on-false, on-ne, fresh, State, Element, End, Refused, Silent, Found}
 use Rattle.base.specs.Limit as limit
 use Rattle.base.specs.Refusal as refusal
 use Rattle.element.proofs.Sizes.{Fit}

@@ -11,13 +11,13 @@ use base::Answer;
 use base::limit;
 use base::refusal;
 use charset::NO_SET;
+use designations::designation_at;
 use pieces::Piece;
 use pieces::TAB;
 use run_ends::text_end;
 use state::State;
 use state::elements::Element;
 use stretch::characters::settled;
-use designations::designation_at;
 
 // A place of a string and the state there, and whether the whole string is known to be accepted.
 pub struct RunPosition {

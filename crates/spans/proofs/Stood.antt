@@ -17,8 +17,8 @@ use Rattle.cursor.specs.Cursor.{octetOf, quickOf, textTurn, advanceAt, advanceO
 use Rattle.cursor.specs.declared.Cursor.{Cursor}
 use Rattle.cursor.specs.declared.Turn.{Turn}
 use Rattle.cursor.proofs.Rules.{on-quick, on-text, on-double, on-advance}
-use Rattle.spans.specs.Spans.{any, ones, left-twos, right-twos, singleUnder, leftFirst, hasTwo, formAt, lesserOf, anyOf, ofForm, byForm, spanOf}
-use Rattle.spans.specs.Spans.{Fits, movedOf, standsAfter, oneUnitAt, twoOctetUnitAt, unitAfter}
+use Rattle.spans.specs.Spans.{any, ones, left-twos, right-twos, singleUnder, leftFirst, hasTwo, formAt, lesserOf, anyOf, ofForm, byForm, spanOf, Fits}
+use Rattle.spans.specs.Spans.{movedOf, standsAfter, oneUnitAt, twoOctetUnitAt, unitAfter}
 use Rattle.spans.specs.declared.Span.{Span}
 
 -- ---- what an octet is taken for

@@ -2,8 +2,8 @@
 -- that leaves the state: text in a state that text leaves as it is, a tab or newline in any.
 use Rattle.element.proofs.Names.{ℕ, _+_, _*_, _/_, _%_, _<_, _≤_, arith, _≡_, refl, ap, sym, _∙_, subst, Bool, true, false, false≢true, List, []}
 use Rattle.element.proofs.Names.{_∷_, _⊎_, inl, inr, ⊎-elim, eqb, ltb, eqb-true, eq-eqb, ltb-true, ltb-false, leb-true, pick, on-true, on-false}
-use Rattle.element.proofs.Names.{pick-last, form-96, form-94x94, formOf, Side, GL, GR, directions, writtenOf, stepOf, part, next, get, Sets, State, Directions}
-use Rattle.element.proofs.Names.{Goes, Part, Found, Shape, Gives}
+use Rattle.element.proofs.Names.{pick-last, form-96, form-94x94, formOf, Side, GL, GR, directions, writtenOf, stepOf, part, next, get, Sets, State}
+use Rattle.element.proofs.Names.{Directions, Goes, Part, Found, Shape, Gives}
 use native.Mathlib.Nat.{eq-or-lt-of-le}
 use Rattle.base.specs.Kind as kind
 use Rattle.base.proofs.Bools.{pick-both}

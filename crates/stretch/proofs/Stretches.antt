@@ -1,6 +1,6 @@
 -- A stretch's octets are as many elements as it has units (`stretch-ahead`): each of the three kinds of stretch is the law of its width.
-use Rattle.element.proofs.Names.{ℕ, _*_, _<_, _≤_, arith, _≡_, refl, sym, subst, Bool, true, false, List, _∷_, eqb, ltb, length, pick, pick-by, from, on-lt}
-use Rattle.element.proofs.Names.{on-ge, from-end, from-length, form-94x94, formOf, Side, GL, GR, get, State}
+use Rattle.element.proofs.Names.{ℕ, _*_, _<_, _≤_, arith, _≡_, refl, sym, subst, Bool, true, false, List, _∷_, eqb, ltb, length, pick, pick-by, from}
+use Rattle.element.proofs.Names.{on-lt, on-ge, from-end, from-length, form-94x94, formOf, Side, GL, GR, get, State}
 use Rattle.element.specs.Element.{elementOf}
 use Rattle.element.proofs.Starts.{wideIn}
 use Rattle.stretch.specs.Characters.{leadOf, oneAt, twoAt, singlesOf, pairsOf, settledOf, stretch, twosOf, byFormsOf, stretchAt}

@@ -21,13 +21,13 @@
 use Rattle.walks.proofs.Names.{_≡_, refl, ap, subst, sym, _∙_, List, [], _∷_, URA, named, Val, SProp, ent, sep, ex, guard, id⊢, emp, via}
 use Rattle.walks.proofs.Names.{fst∗, snd∗, Fml, ftrue, Lft, GName, Share, fsep, flft, fobs, fauth, flent, fobor, Heap, Env, Calls, Loops, Tables}
 use Rattle.walks.proofs.Names.{Atoms, sem, FmC, fmOf, fact, Given, Item, ‵, raw, _⊛_, given, some, later, prop, runs, Sq, _$_, _∵_, !, qed}
-use Rattle.walks.proofs.Names.{move, let-go, use1, split, learn, pick, check, rewrite, await, show, done, use3, fsplit, fjoin, frame, ⋆, by, keep}
-use Rattle.walks.proofs.Names.{use2, join, suffices, RattleType, owns, Is, shows, only, peeks, heard, nothing, Contract, Triple, tripleOf, Clauses}
-use Rattle.walks.proofs.Names.{Lasts, lasts, ℕ, length, fullShare, cells, Arr, pureI, mem, RefT, sliceVal, MutSlice, heres, Room, finally, at-slice}
+use Rattle.walks.proofs.Names.{move, let-go, use1, split, learn, pick, check, rewrite, await, show, done, use3, fsplit, fjoin, frame, ⋆, by, use2}
+use Rattle.walks.proofs.Names.{join, suffices, RattleType, owns, Is, shows, only, peeks, heard, nothing, Contract, Triple, tripleOf, Clauses, Lasts}
+use Rattle.walks.proofs.Names.{lasts, ℕ, length, fullShare, cells, Arr, pureI, mem, RefT, sliceVal, MutSlice, heres, Room, finally, at-slice}
 use Rattle.walks.proofs.Names.{codedHoleys, Held, lends-slice, slice-back, row, opens-slice, closes-slice, lft-new, lft-end, Stays, walkOf, ends-at}
 use mir.Syntax.{Name, Place, Opd as Operand, Body, seq, call, Lifetime}
 use mir.Val.{WT, hasTy}
-use base.Logic.{comm∗, assoc∗, assoc′, mono∗, monoL, monoR, emp∗, exI}
+use base.Logic.{comm∗, assoc∗, mono∗, monoL, monoR, emp∗, exI}
 use base.Fml.{fdead}
 use contract.Monad.{top}
 use types.Kit.{Post, lands, Seq, regoal, updating, mean, nth, del, push, pop, unpull, aim, use0, now as at-once}

@@ -1,6 +1,7 @@
 -- The answer and the output after the list is checked and its records stand in their rows are those of the writer.
 use Rattle.element.proofs.Names.{ℕ, _+_, _≤_, _<_, arith, _≡_, refl, sym, ap, _∙_, subst, Bool, true, false, cond, List, _⊎_, inl, inr, some, ltb}
-use Rattle.element.proofs.Names.{eqb, length, getD, ltb-true, ltb-false, lt-ltb, le-ltb, le-leb, ne-eqb, pick, test, Answer, UnitRecord, undirected, Directions}
+use Rattle.element.proofs.Names.{eqb, length, getD, ltb-true, ltb-false, lt-ltb, le-ltb, le-leb, ne-eqb, pick, test, Answer, UnitRecord, undirected}
+use Rattle.element.proofs.Names.{Directions}
 use Rattle.base.specs.Limit as limit
 use Rattle.base.specs.Refusal as refusal
 use Rattle.grammar.specs.Units.{TextUnit}

@@ -2,8 +2,8 @@
 -- those of `Turn`.
 use Rattle.element.proofs.Names.{_-_, arith, _∙_, length, on-lt, on-ge}
 use Rattle.grammar.specs.Reading.{checkOf}
-use Rattle.check_string.proofs.Turn.{Head, head-first, turn-done, turn-designation, turn-stretch}
-use Rattle.check_string.proofs.Turn.{turn-ends, turn-short, turn-refuses, turn-designates, turn-stops, turn-goes}
+use Rattle.check_string.proofs.Turn.{Head, head-first, turn-done, turn-designation, turn-stretch, turn-ends, turn-short, turn-refuses}
+use Rattle.check_string.proofs.Turn.{turn-designates, turn-stops, turn-goes}
 use Rattle.check_string.proofs.whole.Statement.{statement}
 use Rattle.check_string.proofs.whole.Tie as tie
 

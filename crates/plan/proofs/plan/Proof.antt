@@ -4,8 +4,8 @@ use lib.ListN.{replicate}
 use Rattle.rows.specs.Rows.{rowsOf}
 use Rattle.plan.specs.Plan.{Planned}
 use Rattle.numbers.proofs.Numbers.{bounded}
-use Rattle.plan.proofs.Rest.{Known, known-none, planned-none, known-sum, known-result, known-smooth, row-lies}
-use Rattle.plan.proofs.Rest.{turn-near, turn-known, turn-planned, plan-end}
+use Rattle.plan.proofs.Rest.{Known, known-none, planned-none, known-sum, known-result, known-smooth, row-lies, turn-near, turn-known, turn-planned}
+use Rattle.plan.proofs.Rest.{plan-end}
 use Rattle.plan.proofs.plan.Statement.{statement}
 use Rattle.plan.proofs.plan.Tie as tie
 

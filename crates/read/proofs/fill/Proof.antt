@@ -3,8 +3,8 @@
 -- list. Of the functions that it calls the proof knows their contracts alone.
 -- Assumes nothing.
 use Rattle.walks.proofs.Names.{_≡_, refl, sym, _∙_, ap, subst, ℕ, suc, _+_, _-_, _*_, _≤_, _<_, _^_, [], _∷_, List, length, fullShare, named, w64}
-use Rattle.walks.proofs.Names.{Val, vint, SProp, id⊢, flft, fobs, ‵, _⊛_, prop, atRet, Sq, _$_, !, move, let-go, join, fsplit, fjoin}
-use Rattle.walks.proofs.Names.{look, lit, of-opd, bin, Is, u8, RefT, sliceVal, Room, heres, Held, owned}
+use Rattle.walks.proofs.Names.{Val, vint, SProp, id⊢, flft, fobs, ‵, _⊛_, prop, atRet, Sq, _$_, !, move, let-go, join, fsplit, fjoin, look, lit, of-opd}
+use Rattle.walks.proofs.Names.{bin, Is, u8, RefT, sliceVal, Room, heres, Held, owned}
 use Rattle.walks.proofs.Names as kit
 use Rattle.element.proofs.Names.{add-one, arith, ltb→lt, nltb→le, lit<, length-set, afterTurn, UnitRecord}
 use denote.Struct.Laws as LL

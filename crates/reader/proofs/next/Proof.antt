@@ -2,9 +2,8 @@
 -- opened, its fields are read, `step` is called on them, the place, the count and the state are stored, and the borrow is closed.
 -- Assumes nothing.
 use Rattle.walks.proofs.Names.{_≡_, refl, [], _∷_, List, fullShare, named, erased, w64, Val, vint, vptr, SProp, Sq, prop, id⊢, flft, ‵, _⊛_, _$_, ! }
-use Rattle.walks.proofs.Names.{move}
-use Rattle.walks.proofs.Names.{use1, split, join, frame, done, look, stop, hop, fld, from, load, of-opd, assigns, whole, sub, look-in, store-in, mem, Is}
-use Rattle.walks.proofs.Names.{shows, u8, usize, owned, nothing}
+use Rattle.walks.proofs.Names.{move, use1, split, join, frame, done, look, stop, hop, fld, from, load, of-opd, assigns, whole, sub, look-in, store-in, mem}
+use Rattle.walks.proofs.Names.{Is, shows, u8, usize, owned, nothing}
 use Rattle.walks.proofs.Names as kit
 use contract.Lifetimes.{AllOutlive}
 use denote.Struct.Laws as LL

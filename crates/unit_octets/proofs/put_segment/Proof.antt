@@ -1,6 +1,7 @@
 -- `octets::put_segment` meets its contract: two threes of octets, and the part.
 use Rattle.element.proofs.Names.{arith, _+_, _≤_, length}
-use Rattle.unit_octets.proofs.Storing.{written-as, written-both, stored-yes, stored-no, segment-parts, segment-length, lead-written, count-written, copy-room}
+use Rattle.unit_octets.proofs.Storing.{written-as, written-both, stored-yes, stored-no, segment-parts, segment-length, lead-written, count-written}
+use Rattle.unit_octets.proofs.Storing.{copy-room}
 use Rattle.unit_octets.proofs.put_segment.Statement.{statement}
 use Rattle.unit_octets.proofs.put_segment.Tie as tie
 

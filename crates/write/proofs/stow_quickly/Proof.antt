@@ -4,8 +4,7 @@
 -- it calls the proof knows their contracts alone. Assumes nothing.
 use Rattle.walks.proofs.Names.{_≡_, refl, sym, _∙_, ap, ℕ, suc, _+_, _-_, _*_, _≤_, _<_, _^_, true, false, [], _∷_, List, length, named, w64, Val}
 use Rattle.walks.proofs.Names.{vint, SProp, id⊢, GName, Fml, flft, let-go, ‵, _⊛_, atRet, _$_, !, move, split, join, rewrite, done, look, lit, of-opd}
-use Rattle.walks.proofs.Names.{bin}
-use Rattle.walks.proofs.Names.{Is, shows, u8, RefT, Room}
+use Rattle.walks.proofs.Names.{bin, Is, shows, u8, RefT, Room}
 use Rattle.walks.proofs.Names as kit
 use Rattle.element.proofs.Names.{add-one, arith, ltb→lt, nltb→le, afterTurn, pick, UnitRecord}
 use denote.Enum.Laws as EL

@@ -5,8 +5,8 @@
 -- Whole.antt. Assumes nothing.
 use Rattle.walks.proofs.Names.{_≡_, refl, sym, _∙_, ap, subst, ℕ, suc, _+_, _-_, _*_, _≤_, _<_, _^_, [], _∷_, List, length, fullShare, named, w64}
 use Rattle.walks.proofs.Names.{Val, vint, SProp, ex, guard, Sq, prop, id⊢, GName, Fml, ftrue, flft, sem, let-go, ‵, raw, _⊛_, atRet, _$_, !, move, keep}
-use Rattle.walks.proofs.Names.{use1, split, join, feqL, fsplit, frame, done, look, stop, from, lit, of-opd, bin, no-more, Is, shows, u8, RefT, sliceVal}
-use Rattle.walks.proofs.Names.{Room, finally, nothing}
+use Rattle.walks.proofs.Names.{use1, split, join, feqL, fsplit, frame, done, look, stop, from, lit, of-opd, bin, no-more, Is, shows, u8, RefT, sliceVal, Room}
+use Rattle.walks.proofs.Names.{finally, nothing}
 use Rattle.walks.proofs.Names as kit
 use native.Mathlib.Nat.{le-antisymm}
 use Rattle.element.proofs.Names.{add-one, arith, ltb, ltb→lt, nltb→le, lit<, afterTurn, Answer, UnitRecord}
