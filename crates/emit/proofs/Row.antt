@@ -1,10 +1,10 @@
 -- The octets of the unit of a row, by its tag: those of text, or of a segment or a mark. Only the octets of text depend on the side.
 use Rattle.element.proofs.Names.{ℕ, _+_, _%_, _≤_, _<_, arith, _≡_, refl, ap, _∙_, Bool, true, false, cond, _&&_, List, [], _∷_, ltb, leb, eqb}
-use Rattle.element.proofs.Names.{getD, take, drop, le-ltb, pick, Side, GL}
+use Rattle.element.proofs.Names.{getD, take, drop, le-ltb, eqb-false, eq-eqb, pick, test, Side, GL}
 use Rattle.grammar.specs.Units.{TextUnit, space, control, tab, newline, ltr, rtl, revert, ext, octets, top}
 use Rattle.rows.specs.Rows.{highOctet, lowOctet, startFrom, countOf, textTagged, markTagged, otherTagged, unitTagged, unitFrom}
 use Rattle.rows.specs.Tag as tag
-use Rattle.rows.proofs.Units.{unit-text, unit-other}
+use Rattle.rows.proofs.Units.{unit-text, unit-other, unit-mark}
 use Rattle.unit_octets.proofs.Storing.{paired, two-octets, single-octet}
 
 -- the octets of a unit that is no character are the same on each side
@@ -21,6 +21,16 @@ mark-free t d e = go (eqb t tag.tab) (eqb t tag.newline) (eqb t tag.left-to-righ
     go false false true s = refl
     go false false false true = refl
     go false false false false = refl
+
+-- a tab or a newline is one octet
+control-octet : (t y : ℕ) → y ≡ pick (eqb t tag.tab) 0x09 0x0A → tag.tab ≤ t → t < tag.left-to-right → octets GL (markTagged t) ≡ y ∷ []
+unfolding markTagged octets pick
+control-octet t y e h k =
+    test (eqb t tag.tab)
+    (λ p. let f : y ≡ 0x09 = rw p at e in rw (p, f))
+    (λ p. let f : y ≡ 0x0A = rw p at e in
+    let n : t ≡ tag.newline = omega (arith, eqb-false t tag.tab p) in
+    rw (p, eq-eqb t tag.newline n, f))
 
 tagged-free : (o : List ℕ) (t a b s : ℕ) (d e : Side) → tag.space ≤ t → octets d (unitTagged o t a b s) ≡ octets e (unitTagged o t a b s)
 unfolding unitTagged textTagged octets pick
@@ -54,3 +64,7 @@ module _ (o w : List ℕ) (row : ℕ) (d : Side) where
 
   pub other-octets : tag.tab ≤ t → octets d (unitFrom o w row) ≡ octets GL (otherTagged o t (highOctet w row) (lowOctet w row) (startFrom w row))
   other-octets h = side-free o w row d GL (omega arith) ∙ ap (octets GL) (unit-other o t (highOctet w row) (lowOctet w row) (startFrom w row) h)
+
+  pub row-control : (y : ℕ) → y ≡ pick (eqb t tag.tab) 0x09 0x0A → tag.tab ≤ t → t < tag.left-to-right → octets d (unitFrom o w row) ≡ y ∷ []
+  row-control y e h k =
+      ap (octets d) (unit-mark o t (highOctet w row) (lowOctet w row) (startFrom w row) h (λ a b. omega arith)) ∙ mark-free t d GL ∙ control-octet t y e h k

@@ -73,6 +73,9 @@ fn put_row(work: &[u8], row: usize, left: bool, segments: &[u8], out: &mut [u8],
         let octet = unit_octets::single(tag, left, work[row + layout::LOW]);
         return put_one(octet, out, at);
     }
+    if tag < tag::LEFT_TO_RIGHT {
+        return put_one(unit_octets::control(tag), out, at);
+    }
     unit_octets::put_other(tag, work, row, segments, out, at)
 }
 

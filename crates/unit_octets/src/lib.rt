@@ -47,6 +47,13 @@ pub fn single(tag: u8, left: bool, b: u8) -> u8
     }
 }
 
+// The octet of a tab or a newline.
+pub fn control(tag: u8) -> u8
+    ensures { λ r. ⌜ r ≡ pick (eqb tag tags.tab) 0x09 0x0A ⌝ }
+{
+    if tag == tag::TAB { 0x09 } else { 0x0A }
+}
+
 // The final octet of a set.
 fn final_of(set: usize) -> u8
     requires { ⌜ set < 15 ⌝ }

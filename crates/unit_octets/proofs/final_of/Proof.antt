@@ -1,4 +1,4 @@
--- `octets::final_of` meets its contract: one test of all fifteen.
+-- `unit_octets::final_of` meets its contract: one test of all fifteen.
 use Rattle.element.proofs.Names.{arith, refl, eqb, getD, List, [], _∷_, ℕ, eqb-true, up-to, rowOf}
 use Rattle.unit_octets.proofs.final_of.Statement.{statement}
 use Rattle.unit_octets.proofs.final_of.Tie as tie

@@ -1,4 +1,4 @@
--- `octets::on_side` meets its contract.
+-- `unit_octets::on_side` meets its contract.
 use Rattle.element.proofs.Names.{arith}
 use Rattle.unit_octets.proofs.on_side.Statement.{statement}
 use Rattle.unit_octets.proofs.on_side.Tie as tie

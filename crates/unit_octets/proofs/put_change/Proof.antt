@@ -1,4 +1,4 @@
--- `octets::put_change` meets its contract, by where the two numbers differ.
+-- `unit_octets::put_change` meets its contract, by where the two numbers differ.
 use Rattle.element.proofs.Names.{arith}
 use Rattle.unit_octets.proofs.Storing.{stored-none, stored-as, change-none, change-gr, change-gl}
 use Rattle.unit_octets.proofs.put_change.Statement.{statement}

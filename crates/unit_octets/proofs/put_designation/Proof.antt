@@ -1,4 +1,4 @@
--- `octets::put_designation` meets its contract, for one-octet and two-octet sets.
+-- `unit_octets::put_designation` meets its contract, for one-octet and two-octet sets.
 use Rattle.element.proofs.Names.{arith}
 use Rattle.unit_octets.proofs.Storing.{stored-as, designation-one, designation-two}
 use Rattle.unit_octets.proofs.put_designation.Statement.{statement}

@@ -1,4 +1,4 @@
--- `octets::put_mark` meets its contract, tag by tag.
+-- `unit_octets::put_mark` meets its contract, tag by tag.
 use Rattle.element.proofs.Names.{arith, ladder}
 use Rattle.grammar.specs.Units.{tab, newline, ltr, rtl, revert, octets}
 use Rattle.rows.specs.Rows.{markTagged}

@@ -1,4 +1,4 @@
--- `octets::put_other` meets its contract, by the tag.
+-- `unit_octets::put_other` meets its contract, by the tag.
 use Rattle.element.proofs.Names.{arith, ⊎-elim}
 use Rattle.unit_octets.proofs.Storing.{stored-as, other-segment-octets, other-mark-octets}
 use Rattle.unit_octets.proofs.put_other.Statement.{statement}

@@ -1,4 +1,4 @@
--- `octets::put_segment` meets its contract: two threes of octets, and the part.
+-- `unit_octets::put_segment` meets its contract: two threes of octets, and the part.
 use Rattle.element.proofs.Names.{arith, _+_, _≤_, length}
 use Rattle.unit_octets.proofs.Storing.{written-as, written-both, stored-yes, stored-no, segment-parts, segment-length, lead-written, count-written}
 use Rattle.unit_octets.proofs.Storing.{copy-room}

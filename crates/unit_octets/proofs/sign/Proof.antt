@@ -1,4 +1,4 @@
--- `octets::sign` meets its contract, test by test.
+-- `unit_octets::sign` meets its contract, test by test.
 use Rattle.element.proofs.Names.{ladder}
 use Rattle.unit_octets.specs.Octets.{signOf}
 use Rattle.unit_octets.proofs.sign.Statement.{statement}

@@ -1,4 +1,4 @@
--- `octets::single` meets its contract.
+-- `unit_octets::single` meets its contract.
 use Rattle.element.proofs.Names.{arith, ladder}
 use Rattle.unit_octets.proofs.single.Statement.{statement}
 use Rattle.unit_octets.proofs.single.Tie as tie

@@ -1,4 +1,4 @@
--- `octets::two_octets` meets its contract.
+-- `unit_octets::two_octets` meets its contract.
 use Rattle.element.proofs.Names.{ladder}
 use Rattle.unit_octets.proofs.two_octets.Statement.{statement}
 use Rattle.unit_octets.proofs.two_octets.Tie as tie
