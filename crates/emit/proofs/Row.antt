@@ -67,4 +67,5 @@ module _ (o w : List ℕ) (row : ℕ) (d : Side) where
 
   pub row-control : (y : ℕ) → y ≡ pick (eqb t tag.tab) 0x09 0x0A → tag.tab ≤ t → t < tag.left-to-right → octets d (unitFrom o w row) ≡ y ∷ []
   row-control y e h k =
-      ap (octets d) (unit-mark o t (highOctet w row) (lowOctet w row) (startFrom w row) h (λ a b. omega arith)) ∙ mark-free t d GL ∙ control-octet t y e h k
+      ap (octets d) (unit-mark o t (highOctet w row) (lowOctet w row) (startFrom w row) h (λ a b. omega arith)) ∙ mark-free t d GL
+      ∙ control-octet t y e h k

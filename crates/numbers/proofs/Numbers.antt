@@ -195,7 +195,8 @@ pub chosen-first : (x k a u v : ℕ) → a ≡ afterFirst x k → a ≡ k → k 
 unfolding chosenBy
 chosen-first x k a u v ea e = rw (← ea, eq-eqb a k e)
 
-pub chosen-tests : {q : ℕ} (x k a b u v : ℕ) → a ≡ afterFirst x k → b ≡ afterSecond x k → q ≡ pick (eqb a k) k (pick (eqb b k) k (pick (leb u v) a b))
+pub chosen-tests : {q : ℕ} (x k a b u v : ℕ) → a ≡ afterFirst x k → b ≡ afterSecond x k
+    → q ≡ pick (eqb a k) k (pick (eqb b k) k (pick (leb u v) a b))
     → q ≡ chosenBy x k u v
 unfolding chosenBy pick
 chosen-tests x k a b u v ea eb e = e ∙ rw (← ea, ← eb) (go (eqb a k) (eqb b k) (leb u v))

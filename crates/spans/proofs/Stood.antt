@@ -256,7 +256,8 @@ module _ (s : List ℕ) (c : Cursor) (n : ℕ) where
   ones-at m zero = ap (λ (p : ℕ). cursor p (stateIn c)) none
   ones-at m (suc j) = refl
 
-  twos-at : {form set : ℕ} {first : ℕ → Bool} → Twos form set first → (m j : ℕ) → stood (ofForm c form m) j ≡ cursor (c .place + 2 * j) (stateIn c)
+  twos-at : {form set : ℕ} {first : ℕ → Bool} → Twos form set first → (m j : ℕ)
+      → stood (ofForm c form m) j ≡ cursor (c .place + 2 * j) (stateIn c)
   twos-at w m zero = ap (λ (p : ℕ). cursor p (stateIn c)) nothing
   twos-at w m (suc j) = w .moved m (suc j)
 

@@ -48,8 +48,10 @@ module _ (x : ℕ) (cur before mid after : List ℕ) (row : ℕ) where
       (λ k. omega (arith, first-gl x (x - 10) (x - 2) k gl gr m (omega arith))) (λ k. k / 16) (λ k hk. omega arith) (λ k. rw (lt-ltb x 15 m))
       (λ k. omega (arith, second-gr x (x - 10) (x - 2) k gl gr m (omega arith)))
 
-  pub kept-space : row + 65 ≤ length before → x ≡ 15 → PlacesFilled (λ q. getD cur (0 + q) 0) row 16 before mid → PlacesFilled (λ q. getD cur (16 + q) 0) (row + 16) 16 mid after
+  pub kept-space : row + 65 ≤ length before → x ≡ 15 → PlacesFilled (λ q. getD cur (0 + q) 0) row 16 before mid
+      → PlacesFilled (λ q. getD cur (16 + q) 0) (row + 16) 16 mid after
       → Kept x cur before row after
   kept-space fits e a b =
-      kept-both (λ q. 0 + q) (λ q. 16 + q) 16 (omega arith) fits a b (λ k. rw e (omega (arith, first-space k))) (λ k. k % 16) (λ k hk. omega arith) (λ k. rw e)
+      kept-both (λ q. 0 + q) (λ q. 16 + q) 16 (omega arith) fits a b (λ k. rw e (omega (arith, first-space k))) (λ k. k % 16) (λ k hk. omega arith)
+      (λ k. rw e)
       (λ k. rw e (omega (arith, second-space k)))

@@ -85,7 +85,8 @@ stored-as {l} {m} {at} {r} e p = subst (λ (z : List ℕ). Stored l at z r m) (s
 pub stored-none : (l : List ℕ) (at : ℕ) → Stored l at [] at l
 unfolding pick
 stored-none l at =
-    test (leb (at + 0) (length l)) (λ e. record { next = rw e (let z : at ≡ at + 0 = omega arith in z); now = rw e }) (λ e. record { next = rw e; now = rw e })
+    test (leb (at + 0) (length l)) (λ e. record { next = rw e (let z : at ≡ at + 0 = omega arith in z); now = rw e })
+    (λ e. record { next = rw e; now = rw e })
 
 -- ---- a copy
 
@@ -215,7 +216,8 @@ module _ (o w : List ℕ) (row t : ℕ) where
   pub other-segment-octets : (n s : ℕ) → n ≡ countOf (highOctet w row) (lowOctet w row) → s ≡ startFrom w row → tag.segment ≤ t → t < tag.spare
       → other ≡ octets GL (ext (tag.d + t) (take n (drop s o)))
   other-segment-octets n s en es h k =
-      ap (octets GL) (other-segment o t (highOctet w row) (lowOctet w row) (startFrom w row) h k) ∙ ap₂ (λ (x y : ℕ). octets GL (ext (tag.d + t) (take x (drop y o)))) (sym en) (sym es)
+      ap (octets GL) (other-segment o t (highOctet w row) (lowOctet w row) (startFrom w row) h k)
+      ∙ ap₂ (λ (x y : ℕ). octets GL (ext (tag.d + t) (take x (drop y o)))) (sym en) (sym es)
 
   pub other-mark-octets : (tag.segment ≤ t → t < tag.spare → ⊥) → other ≡ octets GL (markTagged t)
   other-mark-octets n = ap (octets GL) (other-mark o t (highOctet w row) (lowOctet w row) (startFrom w row) n)

@@ -19,7 +19,8 @@ returns-3 : tie.Need-returns-3
 returns-3 c =
     let args = c .before .before .before .before .before .before .before .args in
     let slot = c .before .before .before .second-slot .ensures in
-    c .chosen .ensures ∙ ap (λ (q : ℕ). chosenBy (args .x) (args .k) (getD (args .work .now) (args .row + args .k % 16) 0) (getD (args .work .now) (args .row + q) 0)) slot
+    c .chosen .ensures ∙ ap (λ (q : ℕ). chosenBy (args .x) (args .k) (getD (args .work .now) (args .row + args .k % 16) 0)
+    (getD (args .work .now) (args .row + q) 0)) slot
 
 pub choose-spec : {M : Type 1} → statement M
 choose-spec =

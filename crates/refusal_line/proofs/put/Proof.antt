@@ -20,7 +20,8 @@ put-spec =
     (λ c. omega arith)
     (λ c. omega (arith, c .before .loop .inv .stands, c .before .before .pre .0))
     (λ c. omega (arith, c .before .before .loop .inv .few))
-    (λ c. let inv = c .before .before .loop .inv in let pre = c .before .before .before .pre in omega (arith, inv .stands, inv .same, inv .few, pre .0, pre .1))
+    (λ c. let inv = c .before .before .loop .inv in let pre = c .before .before .before .pre in
+    omega (arith, inv .stands, inv .same, inv .few, pre .0, pre .1))
     (λ c. omega arith)
     (λ c. let pre = c .before .before .before .pre in put-next _ _ _ (pre .0) (pre .1) _ _ _ (c .before .before .loop .inv) (c .before .loop-test .taken))
     (λ c. c .before .loop .inv .same)

@@ -24,7 +24,8 @@ shortest-spec =
     tie.close
     (tie.spec
     (search arith)
-    (λ c κs. let answer = c .before .before .before .answer .ensures in (accepts _ _ answer (c .before .if1 .taken), counts _ _ answer (c .before .if1 .taken)))
+    (λ c κs. let answer = c .before .before .before .answer .ensures in
+    (accepts _ _ answer (c .before .if1 .taken), counts _ _ answer (c .before .if1 .taken)))
     (search arith)
     (search arith)
     (search arith)

@@ -9,7 +9,8 @@ returns c =
     let count = c .before .before .before .before .before in
     let args = count .before .before .before .before .before .before .args in
     stored-as
-    (other-segment-octets (args .segments .now) (args .work .now) (args .row) _ _ _ (count .count-at .ensures .0) (c .before .before .before .before .start-at .ensures)
+    (other-segment-octets (args .segments .now) (args .work .now) (args .row) _ _ _ (count .count-at .ensures .0)
+    (c .before .before .before .before .start-at .ensures)
     (count .before .before .if1 .taken) (count .before .if2 .taken))
     (c .before .before .put-segment .ensures)
 

@@ -6,8 +6,11 @@ use Rattle.unit_octets.proofs.put_segment.Statement.{statement}
 use Rattle.unit_octets.proofs.put_segment.Tie as tie
 
 copy-requires : tie.Need-copy-requires
-copy-requires c κs =
-    (omega arith, copy-room (c .before .before .before .before .before .before .before .before .before .before .before .part-of .result) (omega arith) (c .before .before .before .before .before .before .before .put-three .ensures) (c .before .before .before .put-three2 .ensures))
+copy-requires c κs = (
+  omega arith,
+  copy-room (c .before .before .before .before .before .before .before .before .before .before .before .part-of .result) (omega arith)
+      (c .before .before .before .before .before .before .before .put-three .ensures) (c .before .before .before .put-three2 .ensures),
+)
 
 returns-3 : tie.Need-returns-3
 returns-3 c =

@@ -232,9 +232,11 @@ module _ {M : Type 1} (𝓤 : kit.URA M) (H : kit.Heap 𝓤) (𝓜 : kit.Model �
       steps.beside ! P.the-row (EL.makes P.the-type P′.the-plain 𝓤 H A) (at n) _ is $ joins ! 0 refl $ frame ! $ done !
 
   abbrev Finished : List ℕ → Answer → Z → Type 0
-  Finished w m z = (m ≡ finishAnswer (at n) (length us) os w (length zs)) × (z .1 ≡ finishOutput (at n) (length us) os w zs) × (length (z .0) ≡ length w)
+  Finished w m z = (m ≡ finishAnswer (at n) (length us) os w (length zs)) × (z .1 ≡ finishOutput (at n) (length us) os w zs)
+      × (length (z .0) ≡ length w)
 
-  gives-finish : (w : List ℕ) → Stowed os us n ys w → (m : Answer) (ws : kit.Lasts finish.ended (κ₁, (κ₂, (κ₃, tt))) (at n, (length us, (t, (x γ w, (r, tt))))))
+  gives-finish : (w : List ℕ) → Stowed os us n ys w
+      → (m : Answer) (ws : kit.Lasts finish.ended (κ₁, (κ₂, (κ₃, tt))) (at n, (length us, (t, (x γ w, (r, tt))))))
       → Sq W (‵ (kit.lasts finish.ended (κ₁, (κ₂, (κ₃, tt))) (at n, (length us, (t, (x γ w, (r, tt))))) ws) ∷
       raw (kit.fact 𝓤 (Finished w m (ws .1 .1 .1 .0, ws .1 .1 .1 .1 .0))) ∷ [])
       (prop (ex 𝓤 (λ (z : Z). guard 𝓤 ((m ≡ ans) × Known z) (sem 𝓤 H A (Said z)))))

@@ -13,5 +13,9 @@ ctext-next-spec =
     (search arith)
     (search arith)
     (search arith)
-    (λ c. rw (← (c .before .before .before .before .state-in .ensures), ← (c .before .before .before .step .ensures), ← (c .before .position-of .ensures))
+    (λ c. rw (
+      ← (c .before .before .before .before .state-in .ensures),
+      ← (c .before .before .before .step .ensures),
+      ← (c .before .position-of .ensures),
+    )
     (c .hand .ensures)))

@@ -21,7 +21,8 @@ returns c =
     let pre = start .pre in
     let charged = charges-as (last-surcharge _ 4 (pre .2)) (column .before .charges .ensures) in
     columns-as _
-    (λ g q hg hq. lesser-both (start .args .x) (start .args .next .now) g q hg hq (pre .0) _ _ _ _ _ (pre .4) (pre .2) charged (column-at (omega (arith, pre .4 .4)) (column .column .ensures)))
+    (λ g q hg hq. lesser-both (start .args .x) (start .args .next .now) g q hg hq (pre .0) _ _ _ _ _ (pre .4) (pre .2) charged
+    (column-at (omega (arith, pre .4 .4)) (column .column .ensures)))
     (c .lesser-costs .ensures)
 
 pub both-costs-spec : {M : Type 1} → statement M
