@@ -1,5 +1,5 @@
 -- A reader that is opened on a string and stepped until it repeats gives the list of `read` and the answer of `check` (`same-list`).
-use Rattle.element.proofs.Names.{ℕ, _≡_, ap, sym, _∙_, List, length, le-ltb, now, pick, UnitRecord}
+use Rattle.element.proofs.Names.{ℕ, _≤_, arith, _≡_, refl, ap, sym, _∙_, Bool, true, false, List, [], ltb, length, le-ltb, now, pick, UnitRecord}
 use denote.Ref.{RefT}
 use Rattle.base.specs.Limit as limit
 use Rattle.base.specs.Refusal as refusal

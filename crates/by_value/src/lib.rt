@@ -5,46 +5,26 @@ ghost use Rattle.grammar.specs.Reading.{checkOf};
 ghost use Rattle.read.specs.Listing.{listAfter};
 ghost use Rattle.reader.specs.Reader.{unitsBefore, itemOf};
 use base::Unit;
-use cursor::Cursor;
 use reader::Item;
-use state::State;
 
 // What step k of a reader that is opened on a string hands out, counted from 0.
 pub fn nth(s: &[u8], k: usize) -> Item
     ensures { λ i. ⌜ i ≡ itemOf k (unitsBefore (now (s .entry))) (checkOf (now (s .entry))) ⌝ }
 {
-    let mut t = reader::step(s, 0, 0, State::FRESH);
+    let mut r = reader::open(s);
     let mut i: usize = 0;
     while i < k {
-        let item = t.item;
-        match item {
-            Item::Given(unit) => {
-                let next = reader::step(s, t.place, t.count, t.state);
-                t = next;
-                i += 1;
-            }
-            Item::Ended(answer) => {
-                return item;
-            }
-        }
+        reader::next(&mut r);
+        i += 1;
     }
-    t.item
+    reader::next(&mut r)
 }
 
-// A list of eight records, each of which is `mark`, after `read`: the units are stored one by one, so that no list has to be lent.
+// A list of eight records, each of which is `mark`, after `read`.
 pub fn read_eight(s: &[u8], mark: Unit) -> [Unit; 8]
     ensures { λ r. ⌜ r ≡ listAfter (now (s .entry)) (replicate 8 mark) ⌝ }
 {
-    let n = read::stored(read::answer(s, 8));
     let mut list = [mark; 8];
-    let mut c = Cursor::first();
-    let mut i: usize = 0;
-    while i < n {
-        let t = cursor::advance(s, c);
-        let unit = t.unit;
-        list[i] = unit;
-        c = t.cursor;
-        i += 1;
-    }
+    read::read(s, &mut list);
     list
 }

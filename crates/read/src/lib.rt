@@ -36,7 +36,7 @@ pub fn answer(s: &[u8], room: usize) -> Answer
 }
 
 // How many records an answer stores.
-pub fn stored(a: Answer) -> usize
+fn stored(a: Answer) -> usize
     ensures { λ r. ⌜ r ≡ storedOf a ⌝ }
 {
     let number = a.number;

@@ -2,6 +2,7 @@ pub mod Names
 pub mod Data
 pub mod Body
 pub mod Calls
+pub mod Locals
 pub mod Filling
 pub mod Frame
 pub mod Steps
