@@ -10,8 +10,8 @@
      or words stand there for the whole call. Beside a length of 0 the pointer
      is not followed and may be null.
    - What is lent for an answer (units of ctext_read, runs of ctext_next_runs,
-     work and out of ctext_write, out of ctext_program) overlaps nothing else
-     that is lent to the same call.
+     work and out of ctext_write, out of ctext_program, ctext_resource_write and
+     ctext_resource_read) overlaps nothing else that is lent to the same call.
    - While a call runs, nobody else writes to what it was lent, and nobody
      else looks at what it was lent for an answer.
    Nothing else is left to the caller. Any octets, records, readers and
@@ -37,6 +37,9 @@
 #define CTEXT_MOST_SEGMENT 16383
 #define CTEXT_MOST_OPEN 16
 
+/* The most octets of a resource form, four for each octet of a string. */
+#define CTEXT_MOST_FORM 262140
+
 /* The octets of work room that ctext_write needs for a list of n units. */
 #ifdef __cplusplus
 #define CTEXT_WORK_ROOM(n) (72 * (static_cast<size_t>(n) + 1))
@@ -52,9 +55,9 @@ extern "C" {
 
 /* number  CTEXT_ACCEPTED, or why the input is refused (below)
    place   accepted: the input's length, in octets or units;
-           refused: where the offending element starts in the string, or the
-           index of the offending unit; 0 for 1, 10, 12, and for a run or a
-           reader that does not exist
+           refused: where the offending element starts in the string, the
+           offending octet of a resource form, or the index of the offending
+           unit; 0 for 1, 10, 12, and for a run or a reader that does not exist
    count   accepted: the units read, the octets written or shown, or the runs
            stored; refused: 0, but under CTEXT_NO_ROOM the records or octets
            needed */
@@ -66,7 +69,8 @@ typedef struct ctext_answer {
 
 enum ctext_refusal {
     CTEXT_ACCEPTED = 0,
-    CTEXT_TOO_LONG = 1,             /* string, list or shortest writing over 65,535 */
+    CTEXT_TOO_LONG = 1,             /* string, list or shortest writing over 65,535, or
+                                       resource form over 262,140 */
     CTEXT_CUT = 2,                  /* end inside an element */
     CTEXT_UNUSED = 3,               /* octet not used there */
     CTEXT_UNKNOWN = 4,              /* unknown sequence */
@@ -77,7 +81,9 @@ enum ctext_refusal {
     CTEXT_TOO_DEEP = 9,             /* a seventeenth open direction */
     CTEXT_NO_ROOM = 10,             /* list or output too short; count is what is needed */
     CTEXT_BAD_UNIT = 11,            /* bad unit; no such run; no such reader */
-    CTEXT_NO_WORK_ROOM = 12         /* work room under CTEXT_WORK_ROOM(units) */
+    CTEXT_NO_WORK_ROOM = 12,        /* work room under CTEXT_WORK_ROOM(units) */
+    CTEXT_BAD_FORM = 13             /* backslash that begins no escape, raw newline or raw 00
+                                       in a resource form */
 };
 
 /* The text of a number of refusal: a constant string, never null. */
@@ -85,7 +91,7 @@ static inline const char *ctext_refusal_text(unsigned number)
 {
     switch (number) {
     case CTEXT_ACCEPTED: return "accepted";
-    case CTEXT_TOO_LONG: return "string, list or shortest writing over 65,535";
+    case CTEXT_TOO_LONG: return "string, list or shortest writing over 65,535, or resource form over 262,140";
     case CTEXT_CUT: return "end inside an element";
     case CTEXT_UNUSED: return "octet not used there";
     case CTEXT_UNKNOWN: return "unknown sequence";
@@ -97,6 +103,7 @@ static inline const char *ctext_refusal_text(unsigned number)
     case CTEXT_NO_ROOM: return "list or output too short";
     case CTEXT_BAD_UNIT: return "bad unit, or no such run or reader";
     case CTEXT_NO_WORK_ROOM: return "work room too short";
+    case CTEXT_BAD_FORM: return "bad escape, raw newline or raw 00 in a resource form";
     default: return "no number of refusal";
     }
 }
@@ -404,6 +411,31 @@ ctext_answer ctext_write(const ctext_unit *units, size_t count,
                          const uint8_t *segments, size_t m,
                          uint8_t *work, size_t w,
                          uint8_t *out, size_t o);
+
+/* ---- Resource files ----------------------------------------------------- */
+
+/* The form of octets as the value of an X resource, by the standard's Resources
+   section: a backslash becomes two backslashes, a newline \n, an octet 00 \000,
+   and every other octet stays. It is for any octets, Compound Text or not. A form
+   has at least as many octets as it stands for, and at most four times as many.
+   Each string has one form, and each form that is accepted is that of one string.
+
+   Neither function needs work room, and out is touched by an acceptance alone. */
+
+/* The form of the n octets at s, at the start of the o octets at out.
+   Accepted: 0, n and the octets of the form; the rest of out stays as it was.
+   Refused: CTEXT_TOO_LONG where n is over 65,535; CTEXT_NO_ROOM with the octets
+   needed, which are at most 4 * n. */
+ctext_answer ctext_resource_write(const uint8_t *s, size_t n, uint8_t *out, size_t o);
+
+/* The octets that the form of n octets at s stands for, at the start of the o
+   octets at out. Accepted: 0, n and the number of these octets; the rest of out
+   stays as it was. Refused, in this order: CTEXT_TOO_LONG where n is over 262,140;
+   CTEXT_BAD_FORM at the first backslash that does not begin one of the three
+   escapes (one that the form's end cuts too), raw newline or raw 00;
+   CTEXT_TOO_LONG where the form stands for more than 65,535 octets; CTEXT_NO_ROOM
+   with the octets needed, which are at most n. */
+ctext_answer ctext_resource_read(const uint8_t *s, size_t n, uint8_t *out, size_t o);
 
 /* ---- The program ------------------------------------------------------- */
 
