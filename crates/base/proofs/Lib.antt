@@ -1,2 +1,3 @@
 pub mod Ladder
 pub mod Bools
+pub mod Stores

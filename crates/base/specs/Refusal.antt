@@ -52,3 +52,7 @@ bad-unit = 11
 -- too little work room
 abbrev pub no-work-room : ℕ
 no-work-room = 12
+
+-- in a resource form: a backslash that begins no escape, a raw newline, a raw 00
+abbrev pub bad-form : ℕ
+bad-form = 13

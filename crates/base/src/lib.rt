@@ -1,7 +1,7 @@
 // The numbers of the rules, each under a name; the answer that every entry point gives; the record of a unit.
 ghost use mathlib.Core.Path.{_≡_};
 ghost use Rattle.base.specs.Answers.{answer, refusedAt};
-ghost use Rattle.base.specs.Refusal.{accepted};
+ghost use Rattle.base.specs.Refusal.{accepted, no-room};
 
 pub mod direction;
 pub mod kind;
@@ -34,6 +34,17 @@ impl Answer {
             place: place,
             count: 0,
             number: number,
+        }
+    }
+
+    // What is lent for the answer is too short: so many octets or records are needed.
+    pub fn no_room(needed: usize) -> Answer
+        ensures { λ r. ⌜ r ≡ answer no-room 0 needed ⌝ }
+    {
+        Answer {
+            place: 0,
+            count: needed,
+            number: refusal::NO_ROOM,
         }
     }
 }

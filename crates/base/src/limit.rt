@@ -6,3 +6,5 @@ pub const OCTETS: usize = 65535;
 pub const UNITS: usize = 65535;
 // the most directions that may be open at once
 pub const DEPTH: u8 = 16;
+// the most octets of a resource form
+pub const FORM: usize = 262140;

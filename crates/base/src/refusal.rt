@@ -26,3 +26,5 @@ pub const NO_ROOM: u8 = 10;
 pub const BAD_UNIT: u8 = 11;
 // work room too short
 pub const NO_WORK_ROOM: u8 = 12;
+// in a resource form: a backslash that begins no escape, a raw newline, a raw 00
+pub const BAD_FORM: u8 = 13;

@@ -7,6 +7,7 @@ use runs::Bounds;
 
 pub mod lists;
 pub mod printing;
+pub mod resources;
 pub mod running;
 pub mod stepping;
 

@@ -18,9 +18,10 @@ use Rattle.shortest.proofs.Outcome.{accepted-where, outcome, outcome-is}
 use Rattle.shortest.proofs.Output.{refused-output, accepted-output}
 use Rattle.units.specs.Records.{recordsOf}
 use Rattle.units.proofs.Records.{records-read}
-use Rattle.refusal_line.specs.Line.{refusalLine, storedIn}
+use Rattle.base.specs.Stored.{storedIn}
+use Rattle.refusal_line.specs.Line.{refusalLine}
 use Rattle.program.specs.Printed.{room, printedOf}
-use Rattle.refusal_line.proofs.Texts.{stored-fits, stored-not}
+use Rattle.base.proofs.Stores.{stored-fits, stored-not}
 
 pub record Form (s out : List ℕ) (count : ℕ) : Type 0 where
   pub counts : count ≡ length (printedOf s)

@@ -1,10 +1,11 @@
 -- A text is put before a place from its last octet to its first: each store puts one octet before those from the place on (`before`). For a
 -- text that is there the octets come from its end (`Put`); for a number each is the last digit of what is left of it (`Counted`).
 use Rattle.element.proofs.Names.{ℕ, zero, suc, _+_, _-_, _*_, _/_, _%_, _^_, _≤_, _<_, arith, _≡_, refl, ap, ap₂, sym, _∙_, List, [], _∷_, _++_}
-use Rattle.element.proofs.Names.{length, getD, set, take, drop, length-set, length-drop, le-ltb, lt-ltb, pick, on-gt}
+use Rattle.element.proofs.Names.{length, getD, set, take, drop, length-set, length-drop, le-ltb, lt-ltb, pick}
 use lib.Seq.{drop-cons, drop-length, take-all, drop-set-lt, getD-set-same, append-snoc}
-use Rattle.base.proofs.Ladder.{on-le}
-use Rattle.refusal_line.specs.Line.{digit, digits, decimal, refusalLine, storedIn}
+use Rattle.base.proofs.Stores.{stored-fits}
+use Rattle.base.specs.Stored.{storedIn}
+use Rattle.refusal_line.specs.Line.{digit, digits, decimal, refusalLine}
 
 before : (l : List ℕ) (i b : ℕ) → i < length l → drop i (set l i b) ≡ b ∷ drop (suc i) l
 before l i b h =
@@ -122,15 +123,6 @@ line-of number place xs₀ xs₁ xs₂ xs₃ xs₄ xs₅ e₀ e₁ e₂ e₃ e�
 
 pub line-length : (line l : List ℕ) (start : ℕ) → drop start l ≡ line → length l ≡ 64 → 64 - start ≡ length line
 line-length line l start e f = ap (λ (k : ℕ). k - start) (sym f) ∙ sym (length-drop start l) ∙ ap length e
-
--- a text that fits is stored from the first place on, and one that does not fit is not
-pub stored-fits : (text out r : List ℕ) → length text ≤ length out → r ≡ text ++ drop (length text) out → r ≡ storedIn text out
-unfolding storedIn
-stored-fits text out r h e = on-le (length text) (length out) r (text ++ drop (length text) out) out h e
-
-pub stored-not : (text out r : List ℕ) → length out < length text → r ≡ out → r ≡ storedIn text out
-unfolding storedIn
-stored-not text out r h e = on-gt (length text) (length out) r (text ++ drop (length text) out) out h e
 
 -- the line that stands from a place on in a buffer l, put before the place of its length in the output
 pub stored-line : (line l out next : List ℕ) (start r : ℕ) → drop start l ≡ line → length l ≡ 64 → 64 - start ≤ length out

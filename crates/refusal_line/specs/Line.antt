@@ -1,8 +1,7 @@
--- The line that the program prints for a refusal, and how a text is stored in an output (rules P2, P4).
+-- The line that the program prints for a refusal (rule P2).
 use Prim.Native.Nat.{ℕ, zero, suc, _+_, _/_, _%_}
 use mathlib.Core.List.{List, [], _∷_, _++_}
-use lib.ListN.{length, drop}
-use lib.Dec.{leb, ltb}
+use lib.Dec.{ltb}
 use Rattle.base.specs.Choice.{pick}
 
 -- the octet of a digit, 30 to 39
@@ -23,7 +22,3 @@ unfoldable pub refusalLine : ℕ → ℕ → List ℕ
 refusalLine number place =
     (0x72 ∷ 0x65 ∷ 0x66 ∷ 0x75 ∷ 0x73 ∷ 0x65 ∷ 0x64 ∷ 0x20 ∷ [])
     ++ (decimal number ++ ((0x20 ∷ 0x61 ∷ 0x74 ∷ 0x20 ∷ []) ++ (decimal place ++ (0x0A ∷ []))))
-
--- an output after a text was stored from its first place on; the rest stays, and all of it where the text has more octets
-unfoldable pub storedIn : List ℕ → List ℕ → List ℕ
-storedIn text out = pick (leb (length text) (length out)) (text ++ drop (length text) out) out

@@ -5,6 +5,7 @@ use Rattle.element.proofs.Names.{lt-leb, eqb-true, ne-eqb, length, getD, set, t
 use Rattle.element.proofs.Names.{pick-by, and-left, and-right, up-to, pick, Side, GL, GR, rowOf, formOf, on}
 use borrow.Author.Tests.{not-true}
 use lib.Seq.{length-sets, take-suc, take-all, take-take, getD-drop}
+use Rattle.base.proofs.Stores.{sets-append}
 use Rattle.grammar.specs.Units.{Control, control, ext, wide, top, octets, designation}
 use Rattle.rows.specs.Rows.{highOctet, lowOctet, startFrom, countOf, partOf, textTagged, markTagged, otherTagged}
 use Rattle.rows.specs.Tag as tag
@@ -14,12 +15,6 @@ use Rattle.numbers.specs.Numbers.{setsInGL, setsInGR, change}
 use Rattle.unit_octets.specs.Octets.{Written, Stored, sideOf, signOf}
 
 -- ---- stores
-
-sets-append : (xs ys l : List ℕ) (i : ℕ) → sets (sets l i xs) (i + length xs) ys ≡ sets l i (xs ++ ys)
-sets-append [] ys l i = ap (λ (k : ℕ). sets l k ys) (let e : i + 0 ≡ i = omega arith in e)
-sets-append (x ∷ xs) ys l i =
-    ap (λ (k : ℕ). sets (sets (set l i x) (suc i) xs) k ys) (let e : i + suc (length xs) ≡ suc i + length xs = omega arith in e)
-    ∙ sets-append xs ys (set l i x) (suc i)
 
 pub written-both : {l m n : List ℕ} {at p r : ℕ} {xs ys : List ℕ} → Written l at xs p m → Written m p ys r n → Written l at (xs ++ ys) r n
 written-both {l} {m} {n} {at} {p} {r} {xs} {ys} a b =

@@ -1,6 +1,7 @@
 -- `refusal_line::refused` meets its contract: the line is put before the place of its own length (`stored-line`), where there is room for it.
 use Rattle.element.proofs.Names.{arith, refl, now}
-use Rattle.refusal_line.proofs.Texts.{line-length, stored-line, stored-not}
+use Rattle.base.proofs.Stores.{stored-not}
+use Rattle.refusal_line.proofs.Texts.{line-length, stored-line}
 use Rattle.refusal_line.proofs.refused.Statement.{statement}
 use Rattle.refusal_line.proofs.refused.Tie as tie
 

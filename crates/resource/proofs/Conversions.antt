@@ -1,0 +1,86 @@
+-- The answer and the output of a conversion, by what it is: a refusal, octets that have no room, and octets that have it. And what a string is converted
+-- to, and a reading, by the tests that the functions make.
+use Prim.Native.Nat.{ℕ, _≤_, _<_}
+use mathlib.Core.Path.{_≡_, refl, ap, ap₂, sym, _∙_}
+use mathlib.Core.List.{List}
+use lib.Dec.{ltb}
+use lib.ListN.{length}
+use Rattle.base.specs.Answers.{answer, refusedAt}
+use Rattle.base.specs.Limit as limit
+use Rattle.base.specs.Refusal as refusal
+use Rattle.base.specs.Stored.{storedIn}
+use Rattle.base.specs.declared.Answer.{Answer}
+use Rattle.base.proofs.Bools.{clash}
+use Rattle.base.proofs.Ladder.{on-le, on-gt, on-lt, on-ge}
+use Rattle.base.proofs.Stores.{stored-not}
+use Rattle.resource_form.specs.Form.{resourceForm, Reading, octets, fault-at, formReading}
+use Rattle.resource_form.specs.Conversion.{Conversion, refuses, gives, toForm, ofReading, fromForm, givenAnswer, conversionAnswer, conversionOutput}
+use Rattle.resource.specs.Scan.{scanOf, octetsOf}
+use Rattle.resource.specs.declared.read.Scan.the-variants.{Octets, FaultAt}
+
+-- an answer and an output are those of a conversion of n octets
+abbrev pub Converted : Conversion → ℕ → List ℕ → Answer → List ℕ → Type 0
+Converted x n out r after = (r ≡ conversionAnswer x n (length out)) × (after ≡ conversionOutput x out)
+
+module _ (n : ℕ) (out : List ℕ) (r : Answer) where
+  pub converted-refused : (number place : ℕ) (x : Conversion) → refuses number place ≡ x → r ≡ refusedAt number place → Converted x n out r out
+  unfolding conversionAnswer conversionOutput
+  converted-refused number place x q e = rw (← q) (e, refl)
+
+  pub converted-as : (x y : Conversion) (after : List ℕ) → x ≡ y → Converted x n out r after → Converted y n out r after
+  converted-as x y after e h = rw (← e) h
+
+  module _ (bs : List ℕ) (x : Conversion) (q : gives bs ≡ x) (k : ℕ) (is : k ≡ length bs) where
+    pub converted-short : length out < k → r ≡ answer refusal.no-room 0 k → Converted x n out r out
+    unfolding conversionAnswer conversionOutput givenAnswer
+    converted-short h e =
+        rw (← q) (
+          on-gt (length bs) (length out) r (answer refusal.accepted n (length bs)) (answer refusal.no-room 0 (length bs)) (rw is at h) (rw is at e),
+          stored-not bs out out (rw is at h) refl,
+        )
+
+    pub converted-fits : (after : List ℕ) → k ≤ length out → r ≡ answer refusal.accepted n k → after ≡ storedIn bs out → Converted x n out r after
+    unfolding conversionAnswer conversionOutput givenAnswer
+    converted-fits after h e f =
+        rw (← q)
+        (on-le (length bs) (length out) r (answer refusal.accepted n (length bs)) (answer refusal.no-room 0 (length bs)) (rw is at h) (rw is at e), f)
+
+-- a string, by its length
+pub string-over : (s : List ℕ) → limit.octets < length s → refuses refusal.too-long 0 ≡ toForm s
+unfolding toForm
+string-over s h = on-lt limit.octets (length s) (refuses refusal.too-long 0) _ _ h refl
+
+pub string-within : (s : List ℕ) → length s ≤ limit.octets → gives (resourceForm s) ≡ toForm s
+unfolding toForm
+string-within s h = on-ge limit.octets (length s) (gives (resourceForm s)) _ _ h refl
+
+-- a form, by its length, and then as it is read
+pub form-over : (t : List ℕ) → limit.form < length t → refuses refusal.too-long 0 ≡ fromForm t
+unfolding fromForm
+form-over t h = on-lt limit.form (length t) (refuses refusal.too-long 0) _ _ h refl
+
+pub form-within : (t : List ℕ) → length t ≤ limit.form → ofReading (formReading t) ≡ fromForm t
+unfolding fromForm
+form-within t h = on-ge limit.form (length t) (ofReading (formReading t)) _ _ h refl
+
+-- a reading, by what was found when the form was looked over
+pub reading-faulty : (r : Reading) (p : ℕ) → FaultAt p ≡ scanOf r → refuses refusal.bad-form p ≡ ofReading r
+unfolding scanOf ofReading
+reading-faulty (octets bs) p e = clash (cc e)
+reading-faulty (fault-at q) p e = ap (refuses refusal.bad-form) (let f : p ≡ q = cc e in f)
+
+pub reading-length : (r : Reading) (k : ℕ) → Octets k ≡ scanOf r → k ≡ length (octetsOf r)
+unfolding scanOf octetsOf
+reading-length (octets bs) k e = let f : k ≡ length bs = cc e in f
+reading-length (fault-at q) k e = clash (cc e)
+
+pub reading-over : (r : Reading) (k : ℕ) → Octets k ≡ scanOf r → limit.octets < k → refuses refusal.too-long 0 ≡ ofReading r
+unfolding scanOf ofReading
+reading-over (octets bs) k e h =
+    on-lt limit.octets (length bs) (refuses refusal.too-long 0) _ _ (let f : k ≡ length bs = cc e in rw f at h) refl
+reading-over (fault-at q) k e h = clash (cc e)
+
+pub reading-within : (r : Reading) (k : ℕ) → Octets k ≡ scanOf r → k ≤ limit.octets → gives (octetsOf r) ≡ ofReading r
+unfolding scanOf octetsOf ofReading
+reading-within (octets bs) k e h = on-ge limit.octets (length bs) (gives bs) _ _ (let f : k ≡ length bs = cc e in rw f at h) refl
+reading-within (fault-at q) k e h = clash (cc e)

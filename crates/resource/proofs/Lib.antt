@@ -1,0 +1,3 @@
+pub mod Conversions
+pub mod Writing
+pub mod Reading

@@ -1,0 +1,80 @@
+-- The form of octets as the value of an X resource (rule F1), and, stated apart from it, what a form reads as (rules F2, F3).
+use Prim.Native.Nat.{ℕ, zero, suc, _+_, _-_}
+use mathlib.Core.List.{List, [], _∷_, _++_}
+use lib.Dec.{eqb}
+use Rattle.base.specs.Choice.{pick}
+use Rattle.resource_form.specs.declared.First.{First, the-variants.Stands, the-variants.Bad}
+
+-- the octets that have a form of their own, and those that stand for them after a backslash
+abbrev pub backslash : ℕ
+backslash = 0x5C
+
+abbrev pub newline : ℕ
+newline = 0x0A
+
+abbrev pub nul : ℕ
+nul = 0x00
+
+abbrev pub letter-n : ℕ
+letter-n = 0x6E
+
+abbrev pub digit-0 : ℕ
+digit-0 = 0x30
+
+-- the form of an octet (rule F1)
+unfoldable pub octetForm : ℕ → List ℕ
+octetForm b =
+    pick (eqb b backslash) (backslash ∷ backslash ∷ [])
+    (pick (eqb b newline) (backslash ∷ letter-n ∷ [])
+    (pick (eqb b nul) (backslash ∷ digit-0 ∷ digit-0 ∷ digit-0 ∷ []) (b ∷ [])))
+
+-- the form of a string is the forms of its octets, one after the other (rule F1)
+unfoldable pub resourceForm : List ℕ → List ℕ
+resourceForm [] = []
+resourceForm (b ∷ bs) = octetForm b ++ resourceForm bs
+
+-- after a backslash and a digit 0: two digits 0 more end the escape of an octet 00 (rule F2)
+unfoldable pub zerosOf : List ℕ → First
+zerosOf [] = Bad
+zerosOf (b ∷ []) = Bad
+zerosOf (b ∷ c ∷ t) = pick (eqb b digit-0) (pick (eqb c digit-0) (Stands nul 4) Bad) Bad
+
+-- after a backslash: the octet that the escape stands for, and the octets of the escape (rule F2)
+unfoldable pub escapeOf : List ℕ → First
+escapeOf [] = Bad
+escapeOf (b ∷ t) =
+    pick (eqb b backslash) (Stands backslash 2)
+    (pick (eqb b letter-n) (Stands newline 2)
+    (pick (eqb b digit-0) (zerosOf t) Bad))
+
+-- what stands first in a form: an escape, or an octet for itself; a raw newline and a raw 00 are bad (rules F2, F3)
+unfoldable pub firstOf : List ℕ → First
+firstOf [] = Bad
+firstOf (b ∷ t) =
+    pick (eqb b backslash) (escapeOf t) (pick (eqb b newline) Bad (pick (eqb b nul) Bad (Stands b 1)))
+
+-- what a form reads as: the octets that it stands for, or the place of its first fault
+pub data Reading : Type 0 where
+  octets : List ℕ → Reading
+  fault-at : ℕ → Reading
+
+-- an octet before what the rest reads as
+abbrev pub before : ℕ → Reading → Reading
+before b (octets bs) = octets (b ∷ bs)
+before b (fault-at p) = fault-at p
+
+-- what stands first at a place, and what follows: f reads on after so many further octets
+unfoldable pub onFirst : ℕ → First → (ℕ → Reading) → Reading
+onFirst at (Stands b k) f = before b (f (k - 1))
+onFirst at Bad f = fault-at at
+
+-- the reading of octets that start at a place, of which k belong to the escape before and are passed
+unfoldable pub readFrom : List ℕ → ℕ → ℕ → Reading
+unfolding onFirst
+readFrom [] k at = octets []
+readFrom (b ∷ t) zero at = onFirst at (firstOf (b ∷ t)) (λ k. readFrom t k (at + 1))
+readFrom (b ∷ t) (suc k) at = readFrom t k (at + 1)
+
+-- the reading of a form (rules F2, F3)
+abbrev pub formReading : List ℕ → Reading
+formReading t = readFrom t 0 0

@@ -1,0 +1,97 @@
+// The form of octets in a resource file: what stands first in it, and how long the form of an octet is.
+ghost use mathlib.Core.Path.{_≡_};
+ghost use lib.ListN.{length};
+ghost use Rattle.base.specs.Choice.{from};
+ghost use Rattle.resource_form.specs.Form.{octetForm, zerosOf, escapeOf, firstOf};
+
+pub const BACKSLASH: u8 = 0x5C;
+
+pub const NEWLINE: u8 = 0x0A;
+
+pub const NUL: u8 = 0x00;
+
+// what stands for a newline, and three times for an octet 00, after a backslash
+pub const LETTER_N: u8 = 0x6E;
+
+pub const DIGIT_0: u8 = 0x30;
+
+// What stands first in a form: an octet, with the octets of its form, or nothing that a form may begin with.
+pub enum First {
+    Stands(u8, usize),
+    Bad,
+}
+
+// The octets of the form of an octet.
+pub fn size(octet: u8) -> usize
+    ensures { λ r. ⌜ r ≡ length (octetForm octet) ⌝ }
+{
+    if octet == BACKSLASH {
+        return 2;
+    }
+    if octet == NEWLINE {
+        return 2;
+    }
+    if octet == NUL {
+        return 4;
+    }
+    1
+}
+
+// The two digits that end the escape of an octet 00, from a place on.
+pub fn zeros_at(form: &[u8], at: usize) -> First
+    ensures { λ r. ⌜ r ≡ zerosOf (from at (now (form .entry))) ⌝ }
+{
+    if form.len() <= at {
+        return First::Bad;
+    }
+    if form.len() - at < 2 {
+        return First::Bad;
+    }
+    if form[at] != DIGIT_0 {
+        return First::Bad;
+    }
+    if form[at + 1] != DIGIT_0 {
+        return First::Bad;
+    }
+    First::Stands(NUL, 4)
+}
+
+// The escape whose octets after the backslash start at a place.
+pub fn escape_at(form: &[u8], at: usize) -> First
+    ensures { λ r. ⌜ r ≡ escapeOf (from at (now (form .entry))) ⌝ }
+{
+    if form.len() <= at {
+        return First::Bad;
+    }
+    let b = form[at];
+    if b == BACKSLASH {
+        return First::Stands(BACKSLASH, 2);
+    }
+    if b == LETTER_N {
+        return First::Stands(NEWLINE, 2);
+    }
+    if b == DIGIT_0 {
+        return zeros_at(form, at + 1);
+    }
+    First::Bad
+}
+
+// What stands first in the octets from a place on.
+pub fn first_at(form: &[u8], at: usize) -> First
+    ensures { λ r. ⌜ r ≡ firstOf (from at (now (form .entry))) ⌝ }
+{
+    if form.len() <= at {
+        return First::Bad;
+    }
+    let b = form[at];
+    if b == BACKSLASH {
+        return escape_at(form, at + 1);
+    }
+    if b == NEWLINE {
+        return First::Bad;
+    }
+    if b == NUL {
+        return First::Bad;
+    }
+    First::Stands(b, 1)
+}
