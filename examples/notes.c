@@ -1,5 +1,6 @@
 /* notes.c: reads notes in Compound Text, lists their units and runs, rewrites
-   them in their shortest form, steps a reader over them, and shows refusals.
+   them in their shortest form, steps a reader over them, shows refusals, and puts
+   a note into the form of resource files and back.
 
    cc -std=c99 -I include -o notes examples/notes.c -L target/staticlib -lctext */
 
@@ -173,6 +174,27 @@ static void show_readers(void)
     print_answer("ASCII in GR", ctext_next(note, sizeof note, reader).answer);
 }
 
+/* The form of a note for a resource file, the note out of that form again, and a
+   line of a file that was read with its newline. */
+static void show_resource(void)
+{
+    static const uint8_t note[] = { 'u', 'p', ' ', '\\', 0x0A, 0x00, 0xE9 };
+    static const uint8_t line[] = { 'u', 'p', 0x0A };
+    uint8_t form[4 * sizeof note], plain[sizeof form];
+    ctext_answer a;
+    printf("resource form:");
+    print_octets(note, sizeof note);
+    a = ctext_resource_write(note, sizeof note, form, sizeof form);
+    print_answer("write", a);
+    printf("  form:");
+    print_octets(form, a.count);
+    a = ctext_resource_read(form, a.count, plain, sizeof plain);
+    print_answer("read", a);
+    printf("  note:");
+    print_octets(plain, a.count);
+    print_answer("newline", ctext_resource_read(line, sizeof line, plain, sizeof plain));
+}
+
 #define SHOW(name, note) show(name, note, sizeof note)
 
 int main(void)
@@ -205,5 +227,6 @@ int main(void)
     SHOW("mark after text", late_mark);
     show_lists();
     show_readers();
+    show_resource();
     return 0;
 }

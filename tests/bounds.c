@@ -2,8 +2,9 @@
    is lent, for valgrind to watch, and its answers held against each other.
 
    All strings of up to three elements out of a table are read, shown, stepped
-   over and written. What is lent is filled with a pattern or left as malloc
-   gives it, and what must stay is looked at afterwards. */
+   over and written, and all of up to five octets out of another are put into
+   their resource form and read as one. What is lent is filled with a pattern or
+   left as malloc gives it, and what must stay is looked at afterwards. */
 
 #include <stdio.h>
 #include <stdlib.h>
@@ -25,7 +26,10 @@ static const char *const ELEMENTS[] = {
 
 #define MANY (sizeof ELEMENTS / sizeof ELEMENTS[0])
 
-static unsigned long failures, strings, accepted;
+/* What escapes are made of and for, and others; resource forms are tried over it. */
+static const uint8_t LETTERS[] = { '\\', 'n', '0', 0x0A, 0x00, 'A', 0xE9 };
+
+static unsigned long failures, strings, accepted, forms;
 
 static void expect(int holds, const char *what, const uint8_t *s, size_t n)
 {
@@ -46,6 +50,27 @@ static void *lend(size_t octets)
     if (octets != 0 && memory == NULL)
         exit(2);
     return memory;
+}
+
+static uint8_t *lend_copy(const uint8_t *octets, size_t n)
+{
+    uint8_t *copy = (uint8_t *)lend(n);
+    if (n > 0)
+        memcpy(copy, octets, n);
+    return copy;
+}
+
+static uint8_t *lend_pattern(size_t octets)
+{
+    uint8_t *memory = (uint8_t *)lend(octets);
+    if (octets > 0)
+        memset(memory, PATTERN, octets);
+    return memory;
+}
+
+static int same_octets(const uint8_t *a, size_t n, const uint8_t *b, size_t m)
+{
+    return n == m && (n == 0 || memcmp(a, b, n) == 0);
 }
 
 static int same_answer(ctext_answer a, ctext_answer b)
@@ -298,12 +323,10 @@ static void printed(const uint8_t *s, size_t n, const ctext_unit *units, ctext_a
 
 static void try_string(const uint8_t *octets, size_t n)
 {
-    uint8_t *s = (uint8_t *)lend(n);
+    uint8_t *s = lend_copy(octets, n);
     ctext_answer check, a;
     size_t room;
     ctext_unit *units;
-    if (n > 0)
-        memcpy(s, octets, n);
     check = ctext_check(s, n);
     strings++;
     accepted += check.number == CTEXT_ACCEPTED;
@@ -343,6 +366,152 @@ static void try_elements(unsigned most, const uint8_t *before, size_t n)
         size_t more = strlen(ELEMENTS[i]);
         memcpy(octets + n, ELEMENTS[i], more);
         try_elements(most - 1, octets, n + more);
+    }
+}
+
+/* ctext_resource_write or ctext_resource_read. */
+typedef ctext_answer resource_way(const uint8_t *s, size_t n, uint8_t *out, size_t o);
+
+static int is_answer(ctext_answer a, unsigned number, size_t place, size_t count)
+{
+    return a.number == number && a.place == place && a.count == count;
+}
+
+/* One call, into output of exactly so many octets, which the caller frees. What
+   the answer does not count stays. */
+static uint8_t *turned_into(resource_way *way, const uint8_t *s, size_t n, size_t room, ctext_answer *a)
+{
+    uint8_t *out = lend_pattern(room);
+    size_t stored;
+    *a = way(s, n, out, room);
+    stored = a->number == CTEXT_ACCEPTED ? a->count : 0;
+    expect(stored == room || (stored < room && untouched(out + stored, room - stored)),
+           "what stays of a resource's output", s, n);
+    return out;
+}
+
+/* Into no output, and into one octet less than is needed, as many, and more: the
+   answer, and the octets, which the caller frees. */
+static uint8_t *turned(resource_way *way, const uint8_t *s, size_t n, ctext_answer *a)
+{
+    size_t needed = way(s, n, NULL, 0).count;
+    ctext_answer larger;
+    uint8_t *out;
+    if (needed > 0) {
+        free(turned_into(way, s, n, needed - 1, a));
+        expect(is_answer(*a, CTEXT_NO_ROOM, 0, needed), "a resource's output too short", s, n);
+    }
+    out = turned_into(way, s, n, needed > 0 ? needed + 1 : n + 1, &larger);
+    free(out);
+    out = turned_into(way, s, n, needed, a);
+    expect(same_answer(*a, larger), "a resource's exact output", s, n);
+    expect(a->number != CTEXT_ACCEPTED || (a->place == n && a->count == needed), "a resource's answer", s, n);
+    return out;
+}
+
+/* What is read of a form is what was written, and 1 to 4 octets stand for each. */
+static void form_written(const uint8_t *s, size_t n)
+{
+    ctext_answer written, read;
+    uint8_t *form = turned(ctext_resource_write, s, n, &written);
+    uint8_t *plain = turned(ctext_resource_read, form, written.count, &read);
+    expect(written.number == CTEXT_ACCEPTED && written.count >= n && written.count <= 4 * n,
+           "the form of a string", s, n);
+    expect(read.number == CTEXT_ACCEPTED && same_octets(plain, read.count, s, n), "a form read", s, n);
+    free(plain);
+    free(form);
+}
+
+/* A string as a form is the one of its octets, or what stands before the place of
+   its refusal is a form. */
+static void form_read(const uint8_t *s, size_t n)
+{
+    ctext_answer read, other;
+    uint8_t *plain = turned(ctext_resource_read, s, n, &read);
+    if (read.number == CTEXT_ACCEPTED) {
+        uint8_t *form = turned(ctext_resource_write, plain, read.count, &other);
+        expect(same_octets(form, other.count, s, n), "the only form", s, n);
+        free(form);
+        forms++;
+    } else {
+        int placed = read.number == CTEXT_BAD_FORM && read.place < n && read.count == 0;
+        uint8_t *before = lend_copy(s, placed ? read.place : 0);
+        expect(placed && memchr("\\\n", s[read.place], 3) != NULL, "an octet that is refused", s, n);
+        free(turned(ctext_resource_read, before, placed ? read.place : 0, &other));
+        expect(other.number == CTEXT_ACCEPTED, "a form before a refusal", s, n);
+        free(before);
+    }
+    free(plain);
+}
+
+static void try_form(const uint8_t *octets, size_t n)
+{
+    uint8_t *s = lend_copy(octets, n);
+    form_written(s, n);
+    form_read(s, n);
+    expect(same_octets(s, n, octets, n), "the string itself, by a resource", s, n);
+    free(s);
+}
+
+static void try_forms(unsigned most, uint8_t *octets, size_t n)
+{
+    size_t i;
+    try_form(octets, n);
+    for (i = 0; most > 0 && i < sizeof LETTERS; i++) {
+        octets[n] = LETTERS[i];
+        try_forms(most - 1, octets, n + 1);
+    }
+}
+
+/* Each escape, and what looks like one. */
+static void try_escapes(void)
+{
+    static const uint8_t plain[] = { 'A', '\\', 0x0A, 0x00, '1', 0x1B, 0xE9 };
+    static const char form[] = "A\\\\\\n\\0001\x1B\xE9";
+    static const struct { const char *form; size_t place; } bad[] = {
+        { "\\", 0 }, { "A\\0", 1 }, { "\\\\\\00", 2 }, { "\\N", 0 }, { "\\x00", 0 }, { "\\012", 0 },
+        { "\\n\\001", 2 }, { "\\ ", 0 }, { "A\n", 1 }, { "A\n\\", 1 }
+    };
+    ctext_answer a;
+    uint8_t *out = turned(ctext_resource_write, plain, sizeof plain, &a);
+    size_t i;
+    expect(same_octets(out, a.count, (const uint8_t *)form, strlen(form)), "the escapes", plain, sizeof plain);
+    free(out);
+    for (i = 0; i < sizeof bad / sizeof bad[0]; i++) {
+        const uint8_t *s = (const uint8_t *)bad[i].form;
+        a = ctext_resource_read(s, strlen(bad[i].form), NULL, 0);
+        expect(is_answer(a, CTEXT_BAD_FORM, bad[i].place, 0), "no escape", s, strlen(bad[i].form));
+    }
+}
+
+/* Strings and forms at their limits and one octet longer, of one octet but for
+   the last. */
+static void try_form_limits(void)
+{
+    static const struct { resource_way *way; int octet, last; size_t n; ctext_answer a; } most[] = {
+        { ctext_resource_write, 'A', '\\', 65535, { 65535, 65536, 0 } },
+        { ctext_resource_write, 0x00, 0x00, 65535, { 65535, 262140, 0 } },
+        { ctext_resource_write, 'A', 'A', 65536, { 0, 0, CTEXT_TOO_LONG } },
+        { ctext_resource_read, 'A', 'A', 65535, { 65535, 65535, 0 } },
+        { ctext_resource_read, '\\', '\\', 131070, { 131070, 65535, 0 } },
+        { ctext_resource_read, 'A', 'A', 65536, { 0, 0, CTEXT_TOO_LONG } },
+        { ctext_resource_read, 'A', 0x0A, 65536, { 65535, 0, CTEXT_BAD_FORM } },
+        { ctext_resource_read, 'A', 'A', 262140, { 0, 0, CTEXT_TOO_LONG } },
+        { ctext_resource_read, 'A', '\\', 262140, { 262139, 0, CTEXT_BAD_FORM } },
+        { ctext_resource_read, 0x00, 0x00, 262141, { 0, 0, CTEXT_TOO_LONG } }
+    };
+    size_t i;
+    for (i = 0; i < sizeof most / sizeof most[0]; i++) {
+        size_t n = most[i].n;
+        uint8_t *s = (uint8_t *)lend(n);
+        ctext_answer a;
+        memset(s, most[i].octet, n);
+        s[n - 1] = (uint8_t)most[i].last;
+        free(turned(most[i].way, s, n, &a));
+        expect(same_answer(a, most[i].a), "a resource at its limit", s, 1);
+        if (most[i].way == ctext_resource_write && n <= CTEXT_MOST_OCTETS)
+            form_written(s, n);
+        free(s);
     }
 }
 
@@ -503,15 +672,20 @@ static void try_limits(void)
 int main(int argc, char **argv)
 {
     unsigned most = argc > 1 ? (unsigned)atoi(argv[1]) : 3;
+    uint8_t octets[7]; /* of a resource form: most + 2 */
     if (most > 5)
         most = 5;
     try_elements(most, NULL, 0);
+    try_forms(most + 2, octets, 0);
+    try_escapes();
+    try_form_limits();
     try_readers();
     try_program();
     try_run_readers();
     try_depth();
     try_many_runs();
     try_limits();
-    printf("bounds: %lu strings, %lu accepted, %lu failures\n", strings, accepted, failures);
+    printf("bounds: %lu strings, %lu accepted, %lu resource forms, %lu failures\n", strings, accepted, forms,
+           failures);
     return failures != 0;
 }

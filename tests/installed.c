@@ -42,7 +42,9 @@ static void try_names(void)
     same("none", ctext_direction_text(0), "no direction");
     same("not a direction", ctext_direction_text(3), "not a direction");
     same("a refusal", ctext_refusal_text(CTEXT_CUT), "end inside an element");
-    same("no refusal", ctext_refusal_text(13), "no number of refusal");
+    same("the last refusal", ctext_refusal_text(CTEXT_BAD_FORM),
+         "bad escape, raw newline or raw 00 in a resource form");
+    same("no refusal", ctext_refusal_text(14), "no number of refusal");
     same("the version", ctext_version(), CTEXT_VERSION);
 }
 

@@ -5,19 +5,26 @@
 
 #include "tool.h"
 
+/* most is the octets of the longest note that the verb takes. */
 typedef struct verb {
     const char *name;
     int (*answer)(const note *n);
+    size_t most;
     const char *help;
 } verb;
 
 /* A new verb is a line here, a line of tool.h and a file. */
 static const verb VERBS[] = {
-    { "shorten", shorten, "write its shortest form, nothing added" },
-    { "check", check, "say whether it is accepted, or why not" },
-    { "units", units, "list its units: characters, spaces, tabs, newlines, directions, segments" },
-    { "runs", runs, "list its runs: stretches of text in one set" },
-    { "explain", explain, "show where it is refused, or what it holds" }
+    { "shorten", shorten, CTEXT_MOST_OCTETS, "write its shortest form, nothing added" },
+    { "check", check, CTEXT_MOST_OCTETS, "say whether it is accepted, or why not" },
+    { "units", units, CTEXT_MOST_OCTETS,
+      "list its units: characters, spaces, tabs, newlines, directions, segments" },
+    { "runs", runs, CTEXT_MOST_OCTETS, "list its runs: stretches of text in one set" },
+    { "explain", explain, CTEXT_MOST_OCTETS, "show where it is refused, or what it holds" },
+    { "escape", escape, CTEXT_MOST_OCTETS,
+      "write its resource form, a value for an X resource file, nothing added" },
+    { "unescape", unescape, CTEXT_MOST_FORM,
+      "read a resource form, and write the octets it stands for, nothing added" }
 };
 
 #define COUNT (sizeof VERBS / sizeof VERBS[0])
@@ -76,7 +83,7 @@ static int answer_one(const verb *v, const char *file, int several)
     note n;
     int status = STATUS_FAILED;
     n.several = several;
-    if (input_note(file, &n))
+    if (input_note(file, v->most, &n))
         status = v->answer(&n);
     out_flush();
     return status;

@@ -100,6 +100,19 @@ void out_name(const note *n, const char *after)
     out_text(after);
 }
 
+int out_made(const note *n, ctext_answer a, const uint8_t *octets)
+{
+    if (a.number != CTEXT_ACCEPTED)
+        return complain_refusal(n, a);
+    out_name(n, ": ");
+    if (n->several)
+        out_format("octets %zu\n", a.count);
+    out_octets(octets, a.count);
+    if (n->several)
+        out_text("\n");
+    return STATUS_ACCEPTED;
+}
+
 void complain(const char *name, const char *what)
 {
     out_flush();

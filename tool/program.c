@@ -8,7 +8,7 @@ int program(void)
     static uint8_t out[CTEXT_MOST_OCTETS];
     note n;
     ctext_printed printed;
-    if (!input_note("-", &n))
+    if (!input_note("-", CTEXT_MOST_OCTETS, &n))
         return STATUS_FAILED;
     printed = ctext_program(n.octets, n.length, out, sizeof out);
     out_octets(out, printed.length);

@@ -1,5 +1,6 @@
 /* tool.h: what the verbs of the command ctext share. All memory is of fixed
-   size: one note of the library's limits, its units and its shortest form. */
+   size: one note of the library's limits, its units, its shortest form and its
+   resource form. */
 
 #ifndef TOOL_H
 #define TOOL_H
@@ -22,10 +23,11 @@ typedef struct note {
 
 /* ---- input.c ------------------------------------------------------------ */
 
-/* Reads the file, or standard input where its name is "-". Of a longer one the
-   first 65,536 octets, which are refused as too long. Where that fails, says so
-   and answers 0. The octets stay until the next call. */
-int input_note(const char *file, note *n);
+/* Reads the file, or standard input where its name is "-". Of one with more than
+   most octets, CTEXT_MOST_FORM at most, the first most + 1, so that it is seen to
+   be too long. Where that fails, says so and answers 0. The octets stay until the
+   next call. */
+int input_note(const char *file, size_t most, note *n);
 
 /* ---- output.c ----------------------------------------------------------- */
 
@@ -40,6 +42,12 @@ void out_hexadecimal(const uint8_t *octets, size_t n);
 
 /* The note's name and the text after it, where it is one of several. */
 void out_name(const note *n, const char *after);
+
+/* What a verb made of the note: the octets, a.count of them, or the refusal in
+   words to standard error; its status. Nothing is added to the octets, but of
+   several notes each has a line with its name and the count of its octets before
+   it, and a newline after it. */
+int out_made(const note *n, ctext_answer a, const uint8_t *octets);
 
 /* Writes what the buffer holds. */
 void out_flush(void);
@@ -78,5 +86,7 @@ int check(const note *n);
 int units(const note *n);
 int runs(const note *n);
 int explain(const note *n);
+int escape(const note *n);
+int unescape(const note *n);
 
 #endif
