@@ -14,8 +14,8 @@
      whole note where a backslash stands before the form;
    - one with an octet 80-FF, in a locale with characters of several octets that
      is not UTF-8: Xrm takes the value apart into characters of the locale. How
-     many values are other octets is counted. Read in the C locale, with a
-     backslash before a leading blank, each must be the whole note.
+     many values are other octets is counted. Where the file is read in the C
+     locale, with a backslash before a leading blank, each must be the whole note.
    Anything else is a failure.
 
    Last, what XrmPutFileDatabase writes for a note of one octet: either our form,
@@ -270,23 +270,27 @@ static void read_forms(const batch *b, enum kind kind, counts *c)
     XrmDestroyDatabase(db);
 }
 
-/* What is to be done for the notes of a kind makes each of them whole. */
-static void read_whole(const batch *b, enum kind kind)
-{
-    XrmDatabase db = database(b, kind, 1);
-    size_t i;
-    for (i = 0; i < b->count; i++)
-        if (b->kinds[i] == kind && !is_value(db, i, &b->notes[i], 0))
-            fail("not the whole note, with a backslash before it", &b->notes[i]);
-    XrmDestroyDatabase(db);
-}
-
 /* Whether Xrm takes a value apart into characters of more than one octet. In
    UTF-8 these hold none of ASCII, and what is no character stays as it is. */
 static int in_locale(const char *locale)
 {
     need(setlocale(LC_ALL, locale) != NULL && XSupportsLocale(), locale);
     return MB_CUR_MAX > 1 && strcmp(nl_langinfo(CODESET), "UTF-8") != 0;
+}
+
+/* What is to be done for the notes of a kind makes each of them whole: the
+   backslash, and to read the file in this locale before that of the client. */
+static void read_whole(const batch *b, enum kind kind, const char *file_locale, const char *locale)
+{
+    XrmDatabase db;
+    size_t i;
+    in_locale(file_locale);
+    db = database(b, kind, 1);
+    in_locale(locale);
+    for (i = 0; i < b->count; i++)
+        if (b->kinds[i] == kind && !is_value(db, i, &b->notes[i], 0))
+            fail("not the whole note, with a backslash before it", &b->notes[i]);
+    XrmDestroyDatabase(db);
 }
 
 static void try_batch(batch *b, const char *locale, counts *c)
@@ -297,12 +301,11 @@ static void try_batch(batch *b, const char *locale, counts *c)
         b->kinds[i] = kind_of(&b->notes[i], by_characters);
     read_forms(b, PLAIN, c);
     read_forms(b, BLANKS, c);
-    read_whole(b, BLANKS);
+    read_whole(b, BLANKS, locale, locale);
     if (!by_characters)
         return;
     read_forms(b, CHARACTERS, c);
-    in_locale("C");
-    read_whole(b, CHARACTERS);
+    read_whole(b, CHARACTERS, "C", locale);
 }
 
 static void show(const char *locale, const counts *c)
