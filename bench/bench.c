@@ -3,27 +3,25 @@
 //   bench table CORPUS..              for each corpus and each function: the median time of a string, and the ratios to the yardstick
 //   bench ladder FUNCTION CORPUS ..   for each length of the strings of the corpus: the time that the function takes for one
 //
-// Times are of the thread's processor clock. Each repetition goes through all corpora and measures every function in turn, and each
-// function directly after the yardstick: a ratio is the median of the ratios within a repetition, so that what slows the whole machine
-// down cancels out. One work room and one list are used again for every string.
-#define _POSIX_C_SOURCE 200809L
+// Each repetition goes through all corpora and measures every function in turn, and each function directly after the yardstick: a ratio is
+// the median of the ratios within a repetition, so that what slows the whole machine down cancels out. One work room and one list are used
+// again for every string.
 #include <stdbool.h>
 #include <stdio.h>
 #include <stdlib.h>
 #include <string.h>
-#include <time.h>
 
 #include "corpus.h"
 #include "library.h"
 #include "libx11.h"
+#include "times.h"
 #include "yardstick.h"
 
 #ifdef WITH_LIMIT
 #include "limit.h"
 #endif
 
-enum { REPETITIONS = 41, LADDER_REPETITIONS = 31 };
-static const double SLICE = 2e6; // nanoseconds that a function runs for, at least, before another has its turn
+enum { REPETITIONS = 41 };
 
 static ctext_unit units[CTEXT_MOST_UNITS];
 static uint8_t work[WORK_ROOM], out[CTEXT_MOST_OCTETS];
@@ -122,12 +120,6 @@ static size_t run_next_runs(size_t i)
 static size_t run_x11_read(size_t i) { return x11_read(corpus.notes[i].octets, corpus.notes[i].length); }
 
 static size_t run_x11_write(size_t i) { return x11_write(prepared[i].utf8); }
-
-struct function {
-    const char *name;
-    size_t (*run)(size_t);
-    size_t turns; // how often the whole corpus is gone through in a slice
-};
 
 enum { YARDSTICK, LIMIT, CHECK, READ, WRITE, RUN, NEXT, NEXT_RUN, NEXT_RUNS, X11_READ, X11_WRITE, FUNCTIONS };
 
@@ -246,49 +238,6 @@ static bool x11_takes_all(void)
     return true;
 }
 
-// ---- times
-
-static double now(void)
-{
-    struct timespec t;
-    clock_gettime(CLOCK_THREAD_CPUTIME_ID, &t);
-    return 1e9 * (double)t.tv_sec + (double)t.tv_nsec;
-}
-
-static volatile size_t kept;
-
-// The time that the strings from `first` to before `last` take, on average over the turns.
-static double slice(const struct function *f, size_t first, size_t last)
-{
-    size_t sum = 0;
-    double begun = now();
-    for (size_t t = 0; t < f->turns; t++)
-        for (size_t i = first; i < last; i++) sum += f->run(i);
-    double time = now() - begun;
-    kept += sum;
-    return time / (double)f->turns;
-}
-
-static void choose_turns(struct function *f, size_t first, size_t last)
-{
-    for (f->turns = 1;; f->turns *= 2) {
-        double time = slice(f, first, last) * (double)f->turns;
-        if (time >= SLICE / 2) return;
-    }
-}
-
-static int by_size(const void *a, const void *b)
-{
-    double x = *(const double *)a, y = *(const double *)b;
-    return (x > y) - (x < y);
-}
-
-static double median(double *values, size_t count)
-{
-    qsort(values, count, sizeof *values, by_size);
-    return count % 2 ? values[count / 2] : (values[count / 2 - 1] + values[count / 2]) / 2;
-}
-
 // ---- the table
 
 struct times {
@@ -367,40 +316,7 @@ static void table(size_t count, char **paths)
 
 // ---- the ladder
 
-// Strings of one length, which stand together in the corpus, are a step of the ladder.
-struct step {
-    size_t first, last, turns;
-    double units, values[LADDER_REPETITIONS];
-};
-
-static size_t steps_of_corpus(struct step *steps)
-{
-    size_t count = 0;
-    for (size_t i = 0; i < corpus.count; i++) {
-        if (i == 0 || corpus.notes[i].length != corpus.notes[i - 1].length) steps[count++] = (struct step){.first = i};
-        steps[count - 1].last = i + 1;
-        steps[count - 1].units += (double)prepared[i].count;
-    }
-    return count;
-}
-
-static void climb(struct function f, struct step *steps, size_t count, const char *path)
-{
-    for (size_t i = 0; i < count; i++) {
-        choose_turns(&f, steps[i].first, steps[i].last);
-        steps[i].turns = f.turns;
-    }
-    for (int r = 0; r < LADDER_REPETITIONS; r++)
-        for (size_t i = 0; i < count; i++) {
-            f.turns = steps[i].turns;
-            steps[i].values[r] = slice(&f, steps[i].first, steps[i].last);
-        }
-    for (size_t i = 0; i < count; i++) {
-        double strings = (double)(steps[i].last - steps[i].first);
-        printf("%s\t%s\t%zu\t%.0f\t%.1f\n", path, f.name, corpus.notes[steps[i].first].length, steps[i].units / strings,
-               median(steps[i].values, LADDER_REPETITIONS) / strings);
-    }
-}
+static double units_of(size_t i) { return (double)prepared[i].count; }
 
 static struct function named(const char *name)
 {
@@ -417,12 +333,7 @@ static void ladder(const char *name, const char *path)
     struct function f = named(name);
     if (!f.run) return;
     load(path, false);
-    struct step *steps = malloc(corpus.count * sizeof *steps);
-    if (!steps) abort();
-    size_t count = steps_of_corpus(steps);
-    climb(f, steps, count, path);
-    free(steps);
-    fflush(stdout);
+    climb(f, &corpus, units_of, path);
 }
 
 int main(int count, char **words)

@@ -1,9 +1,9 @@
 // Writes the corpora that bench/run measures with: corpora SEED FOLDER
 //
-// A corpus is a row of accepted strings, each as its length in four octets, lowest first, and then its octets. The same seed gives the
-// same corpora. The ladder is a corpus for each kind of string, of lengths in sixteen equal steps up to the longest that is accepted; each
-// length has as many strings as make some 262,140 octets, so that a processor learns the branches of short strings no better than those
-// of long ones.
+// A corpus is a row of strings, each as its length in four octets, lowest first, and then its octets; all but those for resource files are
+// accepted. The same seed gives the same corpora. The ladder is a corpus for each kind of string, of lengths in sixteen equal steps up to the
+// longest that is accepted; each length has as many strings as make some 262,140 octets, so that a processor learns the branches of short
+// strings no better than those of long ones.
 #include <stdbool.h>
 #include <stdint.h>
 #include <stdio.h>
@@ -257,6 +257,38 @@ static void names(struct string *s, size_t length)
     while (s->length < length) put(s, 0x0A);
 }
 
+// ---- strings for resource files: of octets that stay as they are, of octets that are escaped, and of both
+
+static void plain(struct string *s, size_t length)
+{
+    while (s->length < length) {
+        int octet = below(6) ? between(0x21, 0x7E) : ' ';
+        put(s, octet == '\\' ? '/' : octet);
+    }
+}
+
+static void backslashes(struct string *s, size_t length)
+{
+    while (s->length < length) put(s, '\\');
+}
+
+static void zeros(struct string *s, size_t length)
+{
+    while (s->length < length) put(s, 0);
+}
+
+static int escaped(void) { return "\\\n"[below(3)]; } // its last is the 00
+
+static void escapes(struct string *s, size_t length)
+{
+    while (s->length < length) put(s, escaped());
+}
+
+static void half(struct string *s, size_t length)
+{
+    while (s->length < length) put(s, below(2) ? between(0x61, 0x7A) : escaped());
+}
+
 // ---- files
 
 static struct string text;
@@ -319,15 +351,30 @@ static void ladder(const char *kind, fill *with)
     close_file(f);
 }
 
-static void all_notes(void)
+static void all_notes(const char *name, bool with_backslashes)
 {
-    FILE *f = create("notes");
+    FILE *f = create(name);
     for (int i = 0; i < NOTES; i++) {
         begin(&text);
         note(&text, (size_t)between(44, 212));
+        for (size_t k = 0; !with_backslashes && k < text.length; k++)
+            if (text.octets[k] == '\\') text.octets[k] = '/';
         store(f);
     }
     close_file(f);
+}
+
+static void resource_files(void)
+{
+    all_notes("plain-notes", false);
+    strings("plain", 1, LONGEST, plain);
+    strings("backslashes", 1, LONGEST, backslashes);
+    strings("zeros", 1, LONGEST, zeros);
+    strings("escapes", 1, LONGEST, escapes);
+    strings("half", 1, LONGEST, half);
+    ladder("plain", plain);
+    ladder("escapes", escapes);
+    ladder("zeros", zeros);
 }
 
 int main(int count, char **words)
@@ -338,7 +385,7 @@ int main(int count, char **words)
     }
     seed = strtoull(words[1], NULL, 0);
     folder = words[2];
-    all_notes();
+    all_notes("notes", true);
     strings("ascii", 1, LONGEST, ascii);
     strings("kanji", 1, LONGEST, kanji);
     strings("kanji-1000", 32, 4 + 2 * 1000, kanji);
@@ -366,5 +413,6 @@ int main(int count, char **words)
     ladder("trailing", trailing);
     ladder("marks", marks);
     ladder("names", names);
+    resource_files();
     return 0;
 }

@@ -13,6 +13,8 @@
 #pragma weak ctext_open_runs
 #pragma weak ctext_next_run
 #pragma weak ctext_next_runs
+#pragma weak ctext_resource_write
+#pragma weak ctext_resource_read
 
 enum { WORK_ROOM = CTEXT_WORK_ROOM(CTEXT_MOST_UNITS) };
 

@@ -1,6 +1,6 @@
 """Prints the tables of a run of the benchmark, and writes them with a plot: report.py ROOM DOCS
 
-ROOM holds what bench/run measured: table.tsv, ladder.tsv, stack.tsv and code.txt.
+ROOM holds what bench/run measured: table.tsv, forms.tsv, ladder.tsv, stack.tsv and code.txt.
 """
 import datetime
 import os
@@ -23,7 +23,7 @@ def rows(name):
 
 
 class Measured:
-    """The figures of one corpus: of each function its time a string, and its ratios to the yardstick, to limit_table and to check."""
+    """The figures of one corpus: of each function its time a string, and its ratios to others. Of resource files, the units are octets of the forms."""
 
     def __init__(self, path, strings, octets, units):
         own = Path(path).parent == ROOM / "corpora"
@@ -36,11 +36,11 @@ class Measured:
         return self.functions.get(function, {}).get(to) or None
 
 
-def measured():
+def measured(name, bases):
     corpora = {}
-    for path, function, strings, octets, units, time, *ratios in rows("table.tsv"):
+    for path, function, strings, octets, units, time, *ratios in rows(name):
         corpus = corpora.setdefault(path, Measured(path, strings, octets, units))
-        corpus.functions[function] = dict(zip(["time", "yardstick", "limit_table", "check"], [float(time), *map(float, ratios)]))
+        corpus.functions[function] = dict(zip(["time", *bases], [float(time), *map(float, ratios)]))
     return list(corpora.values())
 
 
@@ -67,6 +67,18 @@ def ratios(corpora, base):
     return table(head, lines)
 
 
+def form_ratios(forms):
+    head = ["Corpus", "Strings", "Octets", "Octets of the forms", "plain write, ns an octet", "write", "plain read, ns an octet", "read"]
+    lines = []
+    for c in forms:
+        line = [c.name, f"{c.strings:,}", f"{c.octets:,}", f"{c.units:,}"]
+        for function in ["write", "read"]:
+            line.append(number(c.functions[f"plain_{function}"]["time"] * c.strings / c.octets))
+            line.append(number(c.ratio(f"resource_{function}", "the plain loop")))
+        lines.append(line)
+    return table(head, lines)
+
+
 # ---- the figures that are asked for
 
 TARGETS = [
@@ -77,6 +89,8 @@ TARGETS = [
     ("read", "check", 3.0, None),
     ("write", "base", 4.5, ["notes"]),
     ("next_runs", "check", 3.0, ["notes", "alternating", "kanji-ascii"]),
+    ("resource_write", "the plain loop", 2.0, None),
+    ("resource_read", "the plain loop", 2.0, None),
 ]
 
 
@@ -180,7 +194,7 @@ def machine():
     return f"{model[1] if model else platform.processor()}, {os.cpu_count()} processors, {platform.system()} {platform.machine()}"
 
 
-def page(corpora):
+def page(corpora, forms):
     base = "limit_table" if all("limit_table" in c.functions for c in corpora) else "yardstick"
     found, code = ladders(), functions_of_archive()
     load = " ".join(f"{x:.1f}" for x in os.getloadavg())
@@ -201,7 +215,16 @@ def page(corpora):
     ]
     if base == "limit_table":
         parts += ["The same by `limit_table`, another validator in C, that stood beside the repository in this run:", ratios(corpora, base)]
-    parts += ["## What is asked for", targets(corpora, base)]
+    if forms:
+        parts += [
+            "## Resource files",
+            "`ctext_resource_write` on the strings of a corpus and `ctext_resource_read` on their forms, each as a ratio to a plain loop in C with the "
+            "same answers (`bench/plain_form.c`), which goes through the octets twice: to check and count, and to store. An octet is one of the "
+            "strings, not of the forms. plain-notes, plain and latin hold nothing that is escaped; backslashes, newlines and zeros are of one octet, "
+            "escapes of these three in random order, half of these and as many letters.",
+            form_ratios(forms),
+        ]
+    parts += ["## What is asked for", targets(corpora + forms, base)]
     if found:
         parts += [
             "## Straight lines",
@@ -210,7 +233,7 @@ def page(corpora):
             "is computed for a unit (ascii, kanji) the writer's line has two slopes, one for each side.\n\n"
             "alternating (`41 E9`), kanji-ascii, trailing (designations alone), marks and names (segments that are all name) are hostile to one function or "
             "another. `next at the end` is one further call of a reader at its end; `write of one name` is a list whose units all name one part of 256 octets, "
-            "and its name is read for each.",
+            "and its name is read for each. `resource_read` reads the forms of strings of these sizes.",
             "![Time against size](benchmark.svg)",
             straightness(found),
         ]
@@ -229,7 +252,7 @@ def page(corpora):
 
 
 def main():
-    text = page(measured())
+    text = page(measured("table.tsv", ["yardstick", "limit_table", "check"]), measured("forms.tsv", ["the plain loop"]))
     (DOCS / "BENCHMARK.md").write_text(text)
     print(text)
 

@@ -17,8 +17,8 @@ static uint8_t stack[STACK] __attribute__((aligned(64)));
 static ucontext_t here, there;
 
 static ctext_unit units[CTEXT_MOST_UNITS];
-static uint8_t work[WORK_ROOM], out[CTEXT_MOST_OCTETS], text[CTEXT_MOST_OCTETS];
-static size_t length, count;
+static uint8_t work[WORK_ROOM], out[CTEXT_MOST_OCTETS], form[CTEXT_MOST_FORM], text[CTEXT_MOST_OCTETS];
+static size_t length, count, form_length;
 
 static void run_nothing(void) {}
 static void run_check(void) { ctext_check(text, length); }
@@ -50,13 +50,22 @@ static void run_next_runs(void)
     while (step.answer.count > 0);
 }
 
+static void run_resource_write(void) { form_length = ctext_resource_write(text, length, form, sizeof form).count; }
+
+// The string's form, and the string itself as one.
+static void run_resource_read(void)
+{
+    ctext_resource_read(form, form_length, out, sizeof out);
+    ctext_resource_read(text, length, out, sizeof out);
+}
+
 struct function {
     const char *name;
     void (*run)(void);
     size_t most;
 };
 
-enum { NOTHING, CHECK, READ, WRITE, RUN, NEXT, NEXT_RUN, NEXT_RUNS, FUNCTIONS };
+enum { NOTHING, CHECK, READ, WRITE, RUN, NEXT, NEXT_RUN, NEXT_RUNS, RESOURCE_WRITE, RESOURCE_READ, FUNCTIONS };
 
 static struct function functions[FUNCTIONS] = {
     [NOTHING] = {"nothing", run_nothing, 0},
@@ -67,6 +76,8 @@ static struct function functions[FUNCTIONS] = {
     [NEXT] = {"ctext_next", run_next, 0},
     [NEXT_RUN] = {"ctext_next_run", run_next_run, 0},
     [NEXT_RUNS] = {"ctext_next_runs", run_next_runs, 0},
+    [RESOURCE_WRITE] = {"ctext_resource_write", run_resource_write, 0},
+    [RESOURCE_READ] = {"ctext_resource_read", run_resource_read, 0},
 };
 
 // The octets of the stack that a function changes.
@@ -113,7 +124,7 @@ static void measure_bad_list(void)
 
 static void measure_changed(struct note n)
 {
-    static const uint8_t special[] = {0x1B, 0x9B, 0x5D, 0x31, 0x24, 0x28, 0x2D, 0x25, 0x2F, 0x30, 0x80, 0x02, 0x42, 0x20, 0x7F, 0xA0};
+    static const uint8_t special[] = {0x1B, 0x9B, 0x5D, 0x31, 0x24, 0x28, 0x2D, 0x25, 0x2F, 0x30, 0x80, 0x02, 0x42, 0x20, 0x7F, 0xA0, 0x5C, 0x00};
     size_t most = n.length < SHORT ? n.length : SHORT;
     if (!most) return;
     for (int i = 0; i < CHANGES; i++) {
@@ -135,6 +146,8 @@ int main(int n, char **words)
     if (!ctext_next) functions[NEXT].run = NULL;
     if (!ctext_open_runs || !ctext_next_run) functions[NEXT_RUN].run = NULL;
     if (!ctext_open_runs || !ctext_next_runs) functions[NEXT_RUNS].run = NULL;
+    if (!ctext_resource_write) functions[RESOURCE_WRITE].run = NULL;
+    if (!ctext_resource_read) functions[RESOURCE_READ].run = NULL;
     for (int i = 1; i < n; i++) {
         struct corpus c = corpus_load(words[i]);
         for (size_t k = 0; k < c.count && k < 40; k++) {

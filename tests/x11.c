@@ -1,5 +1,7 @@
 /* x11.c: notes as COMPOUND_TEXT properties of a real X server.
 
+     x11 NOTES
+
    One connection writes a note as a property, by Xlib's own converter. Another
    reads the property, reads its octets with ctext_check and ctext_read, rewrites
    them with ctext_write and sets the property again. The first then has Xlib
@@ -9,7 +11,10 @@
    iconv from each unit's set and code. So a difference can be laid at the right
    door: where that text is right and Xlib's is not, libX11 has misread an
    accepted string. That is said and counted apart, and so is a string that
-   libX11 writes and the rules refuse. Anything else is a failure. */
+   libX11 writes and the rules refuse. Anything else is a failure.
+
+   The octets of the notes, as sent and as rewritten, are left in NOTES, a corpus
+   (bench/corpus.h). */
 
 #include <X11/Xatom.h>
 #include <X11/Xlib.h>
@@ -30,6 +35,7 @@
 /* The test gives up after so many seconds. */
 #define PATIENCE 120
 
+static FILE *corpus;
 static Display *writer, *console;
 static Window window;
 static Atom compound_text, property;
@@ -342,10 +348,20 @@ static int rewrite(const string *s, const char *const *texts, int count, string 
     return 0;
 }
 
+/* A string of the corpus: its length in four octets, lowest first, and its octets. */
+static void keep(const string *s)
+{
+    int shift;
+    for (shift = 0; shift < 32; shift += 8)
+        putc((int)(s->length >> shift & 0xFF), corpus);
+    fwrite(s->octets, 1, s->length, corpus);
+}
+
 /* The property is set again, and Xlib must read the same texts. */
 static void read_back(const char *const *texts, int count, const string *out, reading *r,
                       const reading *before, outcome *o)
 {
+    keep(out);
     set_property(console, out);
     xlib_reads(texts, count, r);
     if (!r->same) {
@@ -375,6 +391,7 @@ static void round_trip(const char *locale, const char *name, const char *const *
     memset(&o, 0, sizeof o);
     notes++;
     o.octets = sent->length;
+    keep(sent);
     set_property(writer, sent);
     xlib_reads(texts, count, &before);
     if (!get_property(console, &got) || got.length != sent->length
@@ -587,12 +604,13 @@ static int connect_both(void)
     return 1;
 }
 
-int main(void)
+int main(int count, char **words)
 {
     size_t i;
     alarm(PATIENCE);
-    if (!connect_both()) {
-        printf("tests/x11: no X server\n");
+    corpus = count == 2 ? fopen(words[1], "wb") : NULL;
+    if (corpus == NULL || !connect_both()) {
+        printf("tests/x11: no X server, or no file for the notes\n");
         return 2;
     }
     printf("X server: %s, release %d\n", ServerVendor(writer), VendorRelease(writer));
@@ -609,6 +627,8 @@ int main(void)
     XDestroyWindow(writer, window);
     XCloseDisplay(console);
     XCloseDisplay(writer);
+    if (ferror(corpus) || fclose(corpus) != 0)
+        failures++;
     printf("tests/x11: %u notes, %u round trips, %u refused as libX11 wrote them, "
            "%u misread by libX11, %u failures\n",
            notes, round_trips, refused, misread, failures);

@@ -1,0 +1,26 @@
+// How the benchmark takes times, which are of the thread's processor clock.
+#ifndef TIMES_H
+#define TIMES_H
+
+#include "corpus.h"
+
+// A function that is measured, on string number i of a corpus.
+struct function {
+    const char *name;
+    size_t (*run)(size_t i);
+    size_t turns; // how often the strings are gone through in a slice
+};
+
+// The time that the strings from `first` to before `last` take, on average over the turns.
+double slice(const struct function *f, size_t first, size_t last);
+
+// So many turns that a slice is not too short to be measured.
+void choose_turns(struct function *f, size_t first, size_t last);
+
+// Sorts the values.
+double median(double *values, size_t count);
+
+// Prints for each length of the strings of the corpus, which stand together: the path, the function, the length, the units and the time of a string.
+void climb(struct function f, const struct corpus *c, double (*units_of)(size_t i), const char *path);
+
+#endif
