@@ -13,10 +13,10 @@ const FEW_OCTETS: usize = 40;
 /// Of an output that differs so many octets are shown.
 const SHOWN: usize = 48;
 
-/// What stands around the input and in the output before a call. The octet
-/// behind the input completes escapes that its end cuts. In two patterns no
-/// place has the same octet, so that a stored octet is seen in one of them.
-const SURROUNDINGS: [(u8, u8); 2] = [(b'0', 0x00), (b'n', 0xFF)];
+/// What stands behind the input, and what the pattern in the output is changed
+/// by. Each octet behind the input completes an escape that its end cuts. No
+/// place has the same octet in two patterns, so that every store is seen.
+const SURROUNDINGS: [(u8, u8); 3] = [(b'0', 0x00), (b'n', 0xFF), (b'\\', 0x5A)];
 
 /// One call: the answer, and the output with the guard behind it.
 type Called = (Answer, Vec<u8>);
@@ -30,10 +30,10 @@ impl<L: Library> Comparer<L> {
 
     fn way(&self, way: Way, s: &[u8]) -> Compared {
         let made = way.make(s);
-        for (behind, flipped) in SURROUNDINGS {
+        for (behind, change) in SURROUNDINGS {
             let mut memory = Memory::around(s, behind);
             for room in rooms_of_an_output(s.len(), &made) {
-                let before = output(room, flipped);
+                let before = output(room, change);
                 let expected = called(s.len(), &made, &before);
                 let theirs = self.call(way, &mut memory, before);
                 let call = || format!("{} into {room} octets", name(way));
@@ -86,9 +86,9 @@ fn rooms_of_an_output(input: usize, made: &Made) -> Vec<usize> {
 }
 
 /// An output before a call, with its guard.
-fn output(room: usize, flipped: u8) -> Vec<u8> {
+fn output(room: usize, change: u8) -> Vec<u8> {
     let places = 0..room + GUARD_OCTETS;
-    places.map(|place| pattern_octet(place) ^ flipped).collect()
+    places.map(|place| pattern_octet(place) ^ change).collect()
 }
 
 /// Compares two outputs, and shows them from where they begin to differ.

@@ -70,7 +70,7 @@ pub enum Fault {
     /// A resource output that is too short holds what fits.
     StoredTooEarly,
     /// Too many plain octets are refused before a fault in the form.
-    PlainBeforeFault,
+    PlainFirst,
     /// A resource input is changed.
     WritesInput,
 }
@@ -140,7 +140,7 @@ impl Faulty {
             (Fault::BehindBackslash, Err(refusal)) if s[refusal.place] == b'\\' => {
                 Err(Answer::refusal(refusal.number, refusal.place + 1))
             }
-            (Fault::PlainBeforeFault, Err(refusal)) if refusal.number == 13 => {
+            (Fault::PlainFirst, Err(refusal)) if refusal.number == 13 => {
                 way.make(&s[..refusal.place]).and(Err(refusal))
             }
             (_, made) => made,

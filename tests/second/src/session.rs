@@ -21,6 +21,9 @@ const ENOUGH: u64 = 20;
 
 const BETWEEN_REPORTS: Duration = Duration::from_secs(5);
 
+/// Up to so many items that come many times are shown once.
+const FEW_ITEMS: usize = 12;
+
 /// What to compare.
 pub struct Plan {
     pub functions: Functions,
@@ -92,7 +95,7 @@ impl<L: Library> Session<L> {
         self.random_lists(100_000);
         self.limits();
         self.all_short_resources();
-        self.random_resources(40_000);
+        self.random_resources(30_000);
         self.resource_limits();
     }
 
@@ -213,7 +216,7 @@ impl<L: Library> Session<L> {
             self.random_strings(20_000);
             self.random_readers(20_000);
             self.random_lists(20_000);
-            self.random_resources(2_000);
+            self.random_resources(5_000);
             self.one_at_the_limit();
         }
     }
@@ -408,16 +411,29 @@ fn elements(s: &[u8]) -> Vec<Vec<u8>> {
     elements
 }
 
-/// The items one by one, with a number for one that comes many times.
-fn show_briefly<T: PartialEq>(items: &[T], show: impl Fn(&[T]) -> String) -> String {
-    let stretches = items.chunk_by(|a, b| a == b);
-    let shown: Vec<String> = stretches
-        .map(|stretch| match stretch.len() {
-            0..=20 => show(stretch),
-            times => format!("{} ({times} times)", show(&stretch[..1])),
-        })
-        .collect();
+/// The items one by one, with a number for one, or a few, that come many times.
+fn show_briefly<T: PartialEq>(mut items: &[T], show: impl Fn(&[T]) -> String) -> String {
+    let mut shown = Vec::new();
+    while !items.is_empty() {
+        let mut lengths = (1..=FEW_ITEMS).map(|length| (length, times(items, length)));
+        let often = lengths.find(|(_, times)| *times > 20);
+        let (length, times) = often.unwrap_or((1, 1));
+        let first = show(&items[..length]);
+        shown.push(match (length, times) {
+            (_, 1) => first,
+            (1, _) => format!("{first} ({times} times)"),
+            _ => format!("({first}) ({times} times)"),
+        });
+        items = &items[length * times..];
+    }
     shown.join(" ")
+}
+
+/// How many times the first items, so many, come one after another.
+fn times<T: PartialEq>(items: &[T], length: usize) -> usize {
+    let later = items.iter().skip(length);
+    let equal = items.iter().zip(later).take_while(|(a, b)| a == b);
+    1 + equal.count() / length
 }
 
 /// The comparison itself is tested on libraries with a known fault.
@@ -604,7 +620,7 @@ mod tests {
     /// A fault that only a long form shows.
     #[test]
     fn faults_at_the_resource_limits_are_found() {
-        let mut session = session(Fault::PlainBeforeFault);
+        let mut session = session(Fault::PlainFirst);
         session.all_short_resources();
         assert_eq!(session.differences, 0);
         let mut long = forms::limit_strings(&mut session.random).into_iter();
@@ -654,6 +670,9 @@ mod tests {
     fn octets_are_shown_briefly() {
         let octets = [&[0x41, 0x41][..], &[0x20; 30], &[0x42]].concat();
         assert_eq!(show_briefly(&octets, show_octets), "41 41 20 (30 times) 42");
+        let octets = [&[0x41][..], &[0x5C, 0x6E].repeat(30), &[0x5C]].concat();
+        let shown = show_briefly(&octets, show_octets);
+        assert_eq!(shown, "41 (5C 6E) (30 times) 5C");
     }
 
     #[test]
