@@ -3,7 +3,9 @@
 use std::env;
 use std::path::Path;
 
-const FEATURES: [&str; 7] = ["CHECK", "READ", "RUN", "NEXT", "RUNS", "LISTED", "WRITE"];
+const FEATURES: [&str; 8] = [
+    "CHECK", "READ", "RUN", "NEXT", "RUNS", "LISTED", "WRITE", "RESOURCE",
+];
 
 fn main() {
     println!("cargo:rerun-if-changed=build.rs");

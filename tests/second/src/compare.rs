@@ -19,7 +19,7 @@ pub type Compared = Result<(), Difference>;
 
 /// Records and octets behind what is lent, which no call may change.
 const GUARD_RECORDS: usize = 2;
-const GUARD_OCTETS: usize = 8;
+pub const GUARD_OCTETS: usize = 8;
 
 /// Up to so many units the string is also looked up among all lazy strings.
 const FEW_UNITS: usize = 8;

@@ -5,6 +5,7 @@ use std::ops::Range;
 
 use crate::ffi::{Lent, Library};
 use crate::reader::{self, State};
+use crate::resource::{self, Made, Way};
 use crate::run_steps::{self, RunList, RunReader, RunStep};
 use crate::runs::{self, Shown};
 use crate::steps::{self, Handed, Position};
@@ -62,6 +63,16 @@ pub enum Fault {
     RunPassedOver,
     /// An offence behind the runs of a list is answered in place of their number.
     RefusalTooEarly,
+    /// A bad escape is refused at the octet behind its backslash.
+    BehindBackslash,
+    /// An escape that the form's end cuts is looked for behind it.
+    CutEscape,
+    /// A resource output that is too short holds what fits.
+    StoredTooEarly,
+    /// Too many plain octets are refused before a fault in the form.
+    PlainFirst,
+    /// A resource input is changed.
+    WritesInput,
 }
 
 pub struct Faulty {
@@ -121,6 +132,19 @@ impl Faulty {
             _ => {}
         }
         handed
+    }
+
+    /// What a faulty way makes of its input.
+    fn made(&self, way: Way, s: &[u8]) -> Made {
+        match (self.fault, way.make(s)) {
+            (Fault::BehindBackslash, Err(refusal)) if s[refusal.place] == b'\\' => {
+                Err(Answer::refusal(refusal.number, refusal.place + 1))
+            }
+            (Fault::PlainFirst, Err(refusal)) if refusal.number == 13 => {
+                way.make(&s[..refusal.place]).and(Err(refusal))
+            }
+            (_, made) => made,
+        }
     }
 }
 
@@ -256,6 +280,29 @@ impl Library for Faulty {
             if self.fault == Fault::OctetTooMany {
                 out.octets[string.len()] = 0;
             }
+        }
+        answer
+    }
+
+    fn resource(&self, way: Way, memory: &mut [u8], mut string: Range<usize>, out: Lent) -> Answer {
+        let length = string.len();
+        let refused = way.make(&memory[string.clone()]).is_err();
+        if self.fault == Fault::CutEscape && refused {
+            string.end += 1;
+        }
+        let made = self.made(way, &memory[string.clone()]);
+        let lent = &mut out.octets[..out.lent];
+        let (answer, after) = resource::answer(length, &made, lent);
+        lent.copy_from_slice(&after);
+        match (self.fault, &made) {
+            (Fault::StoredTooEarly, Ok(octets)) if answer.number == 10 => {
+                lent.copy_from_slice(&octets[..out.lent]);
+            }
+            (Fault::OctetTooMany, Ok(octets)) if answer.is_accepted() => {
+                out.octets[octets.len()] = 0;
+            }
+            (Fault::WritesInput, _) if length > 1 => memory[string.start] = 0,
+            _ => {}
         }
         answer
     }

@@ -13,7 +13,8 @@
         feature = "next",
         feature = "runs",
         feature = "listed",
-        feature = "write"
+        feature = "write",
+        feature = "resource"
     )),
     allow(dead_code)
 )]
@@ -21,6 +22,7 @@
 use std::mem::size_of;
 use std::ops::Range;
 
+use crate::resource::Way;
 use crate::run_steps::{RunReader, RunStep};
 use crate::runs::Shown;
 use crate::steps::{Handed, Position};
@@ -60,6 +62,9 @@ pub trait Library {
     /// Lends the first octets of the work room and of the output; the rest are
     /// guards.
     fn write(&self, units: &[Unit], segments: &[u8], work: Lent, out: Lent) -> Answer;
+
+    /// As for a step, and lends the first octets of the output.
+    fn resource(&self, way: Way, memory: &mut [u8], string: Range<usize>, out: Lent) -> Answer;
 }
 
 /// Octets of which the first are lent, and the rest are guards.
@@ -78,6 +83,7 @@ pub struct Functions {
     pub runs: bool,
     pub listed: bool,
     pub write: bool,
+    pub resource: bool,
 }
 
 impl Functions {
@@ -89,6 +95,7 @@ impl Functions {
         runs: false,
         listed: false,
         write: false,
+        resource: false,
     };
 }
 
@@ -101,6 +108,7 @@ pub const LINKED: Functions = Functions {
     runs: cfg!(feature = "runs"),
     listed: cfg!(feature = "listed"),
     write: cfg!(feature = "write"),
+    resource: cfg!(feature = "resource"),
 };
 
 #[repr(C)]
@@ -239,6 +247,8 @@ extern "C" {
         out: *mut u8,
         o: usize,
     ) -> CAnswer;
+    fn ctext_resource_write(s: *const u8, n: usize, out: *mut u8, o: usize) -> CAnswer;
+    fn ctext_resource_read(s: *const u8, n: usize, out: *mut u8, o: usize) -> CAnswer;
 }
 
 /// The proved library, libctext.a.
@@ -366,6 +376,24 @@ impl Library for Proved {
         let answer = not_linked((records, segments));
         answer
     }
+
+    fn resource(&self, way: Way, memory: &mut [u8], string: Range<usize>, out: Lent) -> Answer {
+        assert!(string.start <= string.end && string.end <= memory.len());
+        assert!(out.lent <= out.octets.len());
+        let (s, n) = (memory.as_mut_ptr().wrapping_add(string.start), string.len());
+        let (out, o) = (out.octets.as_mut_ptr(), out.lent);
+        #[cfg(feature = "resource")]
+        // Safety: so many octets stand at each pointer.
+        let answer = from_c(unsafe {
+            match way {
+                Way::Write => ctext_resource_write(s, n, out, o),
+                Way::Read => ctext_resource_read(s, n, out, o),
+            }
+        });
+        #[cfg(not(feature = "resource"))]
+        let answer = not_linked((way, s, n, out, o));
+        answer
+    }
 }
 
 #[cfg(not(all(
@@ -375,7 +403,8 @@ impl Library for Proved {
     feature = "next",
     feature = "runs",
     feature = "listed",
-    feature = "write"
+    feature = "write",
+    feature = "resource"
 )))]
 fn not_linked<A, B>(_: A) -> B {
     panic!("this function of the library is not linked")

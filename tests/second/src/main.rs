@@ -1,19 +1,22 @@
 //! A second implementation of the reader, whole and in steps, the runs and the
-//! writer of Compound Text, made from the paper alone, and its comparison with
-//! the proved library.
+//! writer of Compound Text, and of the form in resource files, made from the
+//! papers alone, and its comparison with the proved library.
 
 #![deny(unsafe_code)]
 
 mod compare;
+mod escaping;
 #[cfg(test)]
 mod faults;
 mod ffi;
+mod forms;
 mod listing;
 mod lists;
 mod oracle;
 mod positions;
 mod random;
 mod reader;
+mod resource;
 mod run_steps;
 mod running;
 mod runs;
@@ -37,7 +40,8 @@ use ffi::Functions;
 use session::Plan;
 
 const USAGE: &str = "\
-second compare [--long] [--minutes N] [--seed N] [--only check,read,run,next,runs,listed,write]
+second compare [--long] [--minutes N] [--seed N]
+               [--only check,read,run,next,runs,listed,write,resource]
 second answer|units|runs|write   lines of hexadecimal octets on standard input
 second step                      lines `place gl gr directions marked texted handed octets`";
 
@@ -110,7 +114,9 @@ fn number(word: &str) -> Result<u64, String> {
 /// The functions named, as far as they are linked.
 fn only(names: &str) -> Result<Functions, String> {
     let names: Vec<&str> = names.split(',').collect();
-    let known = ["check", "read", "run", "next", "runs", "listed", "write"];
+    let known = [
+        "check", "read", "run", "next", "runs", "listed", "write", "resource",
+    ];
     if let Some(name) = names.iter().find(|name| !known.contains(name)) {
         return Err(format!("unknown function {name}"));
     }
@@ -122,5 +128,6 @@ fn only(names: &str) -> Result<Functions, String> {
         runs: ffi::LINKED.runs && names.contains(&"runs"),
         listed: ffi::LINKED.listed && names.contains(&"listed"),
         write: ffi::LINKED.write && names.contains(&"write"),
+        resource: ffi::LINKED.resource && names.contains(&"resource"),
     })
 }

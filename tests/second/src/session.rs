@@ -4,6 +4,7 @@ use std::time::{Duration, Instant};
 
 use crate::compare::{Compared, Comparer, Difference};
 use crate::ffi::{Functions, Library};
+use crate::forms;
 use crate::lists::{self, List};
 use crate::oracle::{show_octets, show_units};
 use crate::positions;
@@ -19,6 +20,9 @@ use crate::unit::{Unit, LIMIT};
 const ENOUGH: u64 = 20;
 
 const BETWEEN_REPORTS: Duration = Duration::from_secs(5);
+
+/// Up to so many items that come many times are shown once.
+const FEW_ITEMS: usize = 12;
 
 /// What to compare.
 pub struct Plan {
@@ -54,6 +58,8 @@ struct Session<L: Library> {
     /// The readers made by hand, each with a string.
     readers: u64,
     lists: u64,
+    /// The strings for both ways of the resource form.
+    resources: u64,
     differences: u64,
     /// What has been printed, so that it is printed once.
     printed: Vec<String>,
@@ -73,6 +79,7 @@ impl<L: Library> Session<L> {
             stepped: 0,
             readers: 0,
             lists: 0,
+            resources: 0,
             differences: 0,
             printed: Vec::new(),
             started: Instant::now(),
@@ -87,6 +94,9 @@ impl<L: Library> Session<L> {
         self.random_readers(200_000);
         self.random_lists(100_000);
         self.limits();
+        self.all_short_resources();
+        self.random_resources(30_000);
+        self.resource_limits();
     }
 
     /// All strings of up to two octets, and longer ones of telling octets, alone
@@ -161,14 +171,52 @@ impl<L: Library> Session<L> {
         }
     }
 
-    /// All strings of three octets, then random strings, readers and lists
-    /// until the time is over.
+    /// All resource strings of up to two octets, and longer ones of telling
+    /// octets.
+    fn all_short_resources(&mut self) {
+        let every = strings::every_octet();
+        for length in 0..=2 {
+            self.all_resources(&every, length);
+        }
+        for length in 3..=5 {
+            self.all_resources(&forms::TELLING, length);
+        }
+    }
+
+    fn all_resources(&mut self, alphabet: &[u8], length: usize) {
+        strings::all_strings(&[], alphabet, length, |s| {
+            self.resource(s);
+            self.goes_on()
+        });
+    }
+
+    /// So many times a few random resource strings.
+    fn random_resources(&mut self, times: usize) {
+        for _ in 0..times {
+            if !self.goes_on() {
+                return;
+            }
+            for s in forms::random_strings(&mut self.random) {
+                self.resource(&s);
+            }
+        }
+    }
+
+    fn resource_limits(&mut self) {
+        for s in forms::limit_strings(&mut self.random) {
+            self.resource(&s);
+        }
+    }
+
+    /// All strings of three octets, then random strings, readers, lists and
+    /// resource strings until the time is over.
     fn long_part(&mut self, time: Duration) {
         self.all_strings(&[], &strings::every_octet(), 3);
         while self.goes_on() && self.started.elapsed() < time {
             self.random_strings(20_000);
             self.random_readers(20_000);
             self.random_lists(20_000);
+            self.random_resources(5_000);
             self.one_at_the_limit();
         }
     }
@@ -179,6 +227,8 @@ impl<L: Library> Session<L> {
         self.string(&s);
         let list = lists::list_with_writing(&mut self.random, length);
         self.list(list);
+        let s = forms::random_limit_string(&mut self.random);
+        self.resource(&s);
     }
 
     fn goes_on(&self) -> bool {
@@ -259,6 +309,15 @@ impl<L: Library> Session<L> {
         self.report();
     }
 
+    fn resource(&mut self, s: &[u8]) {
+        if !self.goes_on() || !self.comparer.functions.resource {
+            return;
+        }
+        self.resources += 1;
+        self.compare_string(s, Comparer::resource);
+        self.report();
+    }
+
     /// The difference found first is shown only if it does not come again.
     fn smallest_string(
         &self,
@@ -312,7 +371,7 @@ impl<L: Library> Session<L> {
     /// Progress on standard error, every few seconds.
     fn report(&mut self) {
         // The clock is asked rarely, since it takes as long as a short string.
-        let compared = self.strings + self.readers + self.lists;
+        let compared = self.strings + self.readers + self.lists + self.resources;
         let asked = compared.is_multiple_of(64);
         if asked && self.reported.elapsed() >= BETWEEN_REPORTS {
             self.reported = Instant::now();
@@ -323,9 +382,9 @@ impl<L: Library> Session<L> {
 
     fn summary(&self) -> String {
         format!(
-            "second: {} strings ({} stepped), {} readers made by hand, {} lists compared, \
-             {} differences",
-            self.strings, self.stepped, self.readers, self.lists, self.differences
+            "second: {} strings ({} stepped), {} readers made by hand, {} lists, \
+             {} resource strings compared, {} differences",
+            self.strings, self.stepped, self.readers, self.lists, self.resources, self.differences
         )
     }
 }
@@ -352,16 +411,29 @@ fn elements(s: &[u8]) -> Vec<Vec<u8>> {
     elements
 }
 
-/// The items one by one, with a number for one that comes many times.
-fn show_briefly<T: PartialEq>(items: &[T], show: impl Fn(&[T]) -> String) -> String {
-    let stretches = items.chunk_by(|a, b| a == b);
-    let shown: Vec<String> = stretches
-        .map(|stretch| match stretch.len() {
-            0..=20 => show(stretch),
-            times => format!("{} ({times} times)", show(&stretch[..1])),
-        })
-        .collect();
+/// The items one by one, with a number for one, or a few, that come many times.
+fn show_briefly<T: PartialEq>(mut items: &[T], show: impl Fn(&[T]) -> String) -> String {
+    let mut shown = Vec::new();
+    while !items.is_empty() {
+        let mut lengths = (1..=FEW_ITEMS).map(|length| (length, times(items, length)));
+        let often = lengths.find(|(_, times)| *times > 20);
+        let (length, times) = often.unwrap_or((1, 1));
+        let first = show(&items[..length]);
+        shown.push(match (length, times) {
+            (_, 1) => first,
+            (1, _) => format!("{first} ({times} times)"),
+            _ => format!("({first}) ({times} times)"),
+        });
+        items = &items[length * times..];
+    }
     shown.join(" ")
+}
+
+/// How many times the first items, so many, come one after another.
+fn times<T: PartialEq>(items: &[T], length: usize) -> usize {
+    let later = items.iter().skip(length);
+    let equal = items.iter().zip(later).take_while(|(a, b)| a == b);
+    1 + equal.count() / length
 }
 
 /// The comparison itself is tested on libraries with a known fault.
@@ -380,6 +452,7 @@ mod tests {
             runs: true,
             listed: true,
             write: true,
+            resource: true,
         };
         let plan = Plan {
             functions: all,
@@ -418,6 +491,10 @@ mod tests {
         session.random_strings(2_000);
         session.random_readers(2_000);
         session.random_lists(2_000);
+        session.all_resources(&forms::TELLING, 3);
+        assert_eq!(session.resources, 7 * 7 * 7);
+        session.random_resources(200);
+        session.resource_limits();
         assert_eq!(session.differences, 0);
         assert_eq!(session.strings, 12 * 12 * 12 + 2_000);
         assert_eq!(session.stepped, session.strings);
@@ -514,6 +591,43 @@ mod tests {
     }
 
     #[test]
+    fn faults_of_resource_forms_are_found_and_shrunk() {
+        let s = b"A\\n\\\\0\\000\\0001\\\\\\00";
+        let found = |fault, s: &[u8]| smallest_by(Comparer::resource, fault, s);
+        let (smallest, call) = found(Fault::BehindBackslash, s);
+        assert_eq!(smallest, b"\\");
+        assert_eq!(call, "ctext_resource_read into 0 octets");
+        let (smallest, call) = found(Fault::CutEscape, s);
+        assert_eq!(smallest, b"\\");
+        assert_eq!(call, "ctext_resource_read into 0 octets");
+        let (smallest, call) = found(Fault::StoredTooEarly, s);
+        assert_eq!(smallest, b"00");
+        assert_eq!(
+            call,
+            "ctext_resource_write into 1 octets, the output after it from 0 on"
+        );
+        let (smallest, call) = found(Fault::OctetTooMany, s);
+        assert_eq!(smallest, []);
+        assert_eq!(
+            call,
+            "ctext_resource_write into 0 octets, the output after it from 0 on"
+        );
+        let (smallest, call) = found(Fault::WritesInput, s);
+        assert_eq!(smallest.len(), 2);
+        assert_eq!(call, "the string among its guards after all calls");
+    }
+
+    /// A fault that only a long form shows.
+    #[test]
+    fn faults_at_the_resource_limits_are_found() {
+        let mut session = session(Fault::PlainFirst);
+        session.all_short_resources();
+        assert_eq!(session.differences, 0);
+        let mut long = forms::limit_strings(&mut session.random).into_iter();
+        assert!(long.any(|s| session.comparer.resource(&s).is_err()));
+    }
+
+    #[test]
     fn readers_are_shrunk() {
         let s = [0x41, 0x1B, 0x2D, 0x42, 0xB0, 0x20, 0x9B, 0x5D];
         let position = Position {
@@ -556,6 +670,9 @@ mod tests {
     fn octets_are_shown_briefly() {
         let octets = [&[0x41, 0x41][..], &[0x20; 30], &[0x42]].concat();
         assert_eq!(show_briefly(&octets, show_octets), "41 41 20 (30 times) 42");
+        let octets = [&[0x41][..], &[0x5C, 0x6E].repeat(30), &[0x5C]].concat();
+        let shown = show_briefly(&octets, show_octets);
+        assert_eq!(shown, "41 (5C 6E) (30 times) 5C");
     }
 
     #[test]

@@ -80,16 +80,16 @@ pub fn random_string(random: &mut Random) -> Vec<u8> {
     let mut s = Builder::new(random).build(random, pieces);
     let changes = random.pick(&[0, 0, 0, 1, 1, 1, 2, 3]);
     for _ in 0..changes {
-        damage(random, &mut s);
+        damage(random, &mut s, &TELLING);
     }
     s
 }
 
 /// One octet changed, inserted or dropped, or the end cut off.
-fn damage(random: &mut Random, s: &mut Vec<u8>) {
+pub fn damage(random: &mut Random, s: &mut Vec<u8>, telling: &[u8]) {
     let place = random.below(s.len() + 1);
     let octet = if random.percent(50) {
-        random.pick(&TELLING)
+        random.pick(telling)
     } else {
         random.octet()
     };
@@ -309,7 +309,7 @@ pub fn limit_strings(random: &mut Random) -> Vec<Vec<u8>> {
 }
 
 /// The octets again and again, cut at the length.
-fn repeated(prefix: &[u8], octets: &[u8], length: usize) -> Vec<u8> {
+pub fn repeated(prefix: &[u8], octets: &[u8], length: usize) -> Vec<u8> {
     let endless = prefix.iter().chain(octets.iter().cycle());
     endless.take(length).copied().collect()
 }
