@@ -122,11 +122,7 @@ pub fn write_rows(work: &mut [u8], n: usize, segments: &[u8], out: &mut [u8]) ->
         return Answer::refused(refusal::TOO_LONG, 0);
     }
     if out.len() < count {
-        return Answer {
-            place: 0,
-            count,
-            number: refusal::NO_ROOM,
-        };
+        return Answer::no_room(count);
     }
     emit(work, n, segments, out);
     Answer::accepted(n, count)

@@ -24,11 +24,7 @@ pub fn answer(s: &[u8], room: usize) -> Answer
     let a = check_string::answer(s);
     if a.number == refusal::ACCEPTED {
         if room < a.count {
-            return Answer {
-                place: 0,
-                count: a.count,
-                number: refusal::NO_ROOM,
-            };
+            return Answer::no_room(a.count);
         }
         return a;
     }

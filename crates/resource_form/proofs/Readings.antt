@@ -13,13 +13,13 @@ use lib.Seq.{drop-append-seam}
 use borrow.Author.Tests.{eqb-true, eqb-false, eq-eqb, ne-eqb}
 use Rattle.base.specs.Choice.{pick}
 use Rattle.base.proofs.Bools.{test, clash}
-use Rattle.resource_form.specs.Form.{backslash, newline, nul, letter-n, digit-0, octetForm, resourceForm, zerosOf, escapeOf, firstOf}
+use Rattle.resource_form.specs.Form.{backslash, newline, nul, letter-n, digit-0, octetForm, resourceForm, zeroFirst, zerosOf, escapeOf, firstOf}
 use Rattle.resource_form.specs.Form.{Reading, octets, fault-at, before, onFirst, readFrom, formReading}
 use Rattle.resource_form.specs.declared.First.{First, the-variants.Stands, the-variants.Bad}
 
 -- an octet's form is read as that octet, whatever follows it
 pub first-of-form : (b : ℕ) (t : List ℕ) → firstOf (octetForm b ++ t) ≡ Stands b (length (octetForm b))
-unfolding octetForm firstOf escapeOf zerosOf pick
+unfolding octetForm firstOf escapeOf zeroFirst zerosOf pick
 first-of-form b t =
     test (eqb b backslash) (λ e. rw (e, eqb-true b backslash e))
     (λ e. rw e
@@ -36,9 +36,9 @@ module _ {b k : ℕ} where
   standing c j e h = let p : c ≡ b = cc e in let q : j ≡ k = cc e in rw (← p, ← q) h
 
   zeros-first : (t : List ℕ) → zerosOf t ≡ Stands b k → Starts b k (backslash ∷ digit-0 ∷ t)
-  unfolding octetForm zerosOf pick
+  unfolding octetForm zeroFirst zerosOf pick
   zeros-first [] e = clash (cc e)
-  zeros-first (x ∷ []) e = clash (cc e)
+  zeros-first (x ∷ []) e = test (eqb x digit-0) (λ f. clash (cc (rw f at e))) (λ f. clash (cc (rw f at e)))
   zeros-first (x ∷ y ∷ t) e =
       test (eqb x digit-0)
       (λ f. test (eqb y digit-0)

@@ -1,14 +1,16 @@
 -- The ladder's rules for the functions of this crate: the length of an octet's form test by test, and what the octets of a form start.
-use Prim.Native.Nat.{ℕ, _+_, _-_, _≤_, _<_}
+use Prim.Native.Nat.{ℕ, _+_, _≤_, _<_}
 use native.Mathlib.Omega.{arith}
 use mathlib.Core.Path.{_≡_, refl, ap, sym, _∙_}
+use mathlib.Core.Bool.{Bool, true, false}
 use mathlib.Core.List.{List, [], _∷_}
-use lib.Dec.{eqb}
+use lib.Dec.{eqb, ltb}
 use lib.ListN.{length, getD}
 use Rattle.base.specs.Choice.{pick, from}
-use Rattle.base.proofs.Bools.{test, pick-by}
-use Rattle.base.proofs.Ladder.{from-octet, from-end, octet, ended, ladder}
-use Rattle.resource_form.specs.Form.{backslash, newline, nul, digit-0, octetForm, zerosOf, escapeOf, firstOf}
+use borrow.Author.Tests.{ltb-true, ltb-false}
+use Rattle.base.proofs.Bools.{test, off}
+use Rattle.base.proofs.Ladder.{from-end, from-from, octet, ended, ladder}
+use Rattle.resource_form.specs.Form.{backslash, newline, nul, digit-0, octetForm, zeroFirst, zerosOf, escapeOf, firstOf}
 use Rattle.resource_form.specs.declared.First.{First, the-variants.Stands, the-variants.Bad}
 
 -- the length of a form, test by test
@@ -44,18 +46,24 @@ module _ (s : List ℕ) (at : ℕ) (r : First) where
   unfolding escapeOf
   no-escape h e = ended escapeOf s at r h e
 
-  pub on-zeros : 2 ≤ length s - at
-      → r ≡ pick (eqb (getD s at 0) digit-0) (pick (eqb (getD s (at + 1) 0) digit-0) (Stands nul 4) Bad) Bad → r ≡ zerosOf (from at s)
+  pub on-zeros : r ≡ pick (zeroFirst (from at s)) (pick (zeroFirst (from (at + 1) s)) (Stands nul 4) Bad) Bad → r ≡ zerosOf (from at s)
   unfolding zerosOf
-  on-zeros h e =
-      e ∙ ap zerosOf (ap (λ (t : List ℕ). getD s at 0 ∷ t) (sym (from-octet s (at + 1) (omega arith))) ∙ sym (from-octet s at (omega arith)))
+  on-zeros e = e ∙ ap (λ (t : List ℕ). pick (zeroFirst (from at s)) (pick (zeroFirst t) (Stands nul 4) Bad) Bad) (sym (from-from s at 1))
 
-  pub no-zeros : length s ≤ at → r ≡ Bad → r ≡ zerosOf (from at s)
-  unfolding zerosOf
-  no-zeros h e = ended zerosOf s at r h e
+module _ (s : List ℕ) (at : ℕ) (r : Bool) where
+  pub on-zero : at < length s → r ≡ eqb (getD s at 0) digit-0 → r ≡ zeroFirst (from at s)
+  unfolding zeroFirst
+  on-zero h e = octet zeroFirst s at r h e
 
-  pub one-zero : length s ≤ at + 1 → at < length s → r ≡ Bad → r ≡ zerosOf (from at s)
-  unfolding zerosOf
-  one-zero h l e = octet zerosOf s at r l (e ∙ ap (λ (t : List ℕ). zerosOf (getD s at 0 ∷ t)) (sym (from-end s (at + 1) h)))
+  pub no-zero : length s ≤ at → r ≡ false → r ≡ zeroFirst (from at s)
+  unfolding zeroFirst
+  no-zero h e = ended zeroFirst s at r h e
 
-pub ruleset form-steps = (sized, on-first, no-first, on-escape, no-escape, on-zeros, no-zeros, ladder)
+-- where a digit 0 stands there is an octet
+pub zero-within : (s : List ℕ) (at : ℕ) (r : Bool) → r ≡ zeroFirst (from at s) → r ≡ true → at < length s
+unfolding zeroFirst
+zero-within s at r e f =
+    test (ltb at (length s)) (λ q. ltb-true at (length s) q)
+    (λ q. off (sym (ap zeroFirst (from-end s at (ltb-false at (length s) q))) ∙ sym e ∙ f))
+
+pub ruleset form-steps = (sized, on-first, no-first, on-escape, no-escape, on-zeros, on-zero, no-zero, ladder)

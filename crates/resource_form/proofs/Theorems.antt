@@ -1,7 +1,8 @@
 -- The theorems of resource files, for all octets. A string's form is read as the string (`read-of-form`), a form that is accepted is the form of
 -- what it reads as (`form-of-read`), so the only one; a form has one to four octets for each octet (`form-length`); a fault is the first, and stands
--- where a form of octets ends (`fault-first`, `fault-there`). Of what is answered: writing and reading undo each other (`written-read`, `read-written`),
--- what is accepted has the input's length as its place (`accepted-place`), and a refusal leaves the output (`refused-stays`).
+-- where a form of octets ends (`fault-first`, `fault-there`). Of what is answered: writing and reading undo each other (`written-read`,
+-- `read-written`), a fault is told before the limit of the octets (`fault-wins`), what is accepted has the input's length as its place
+-- (`accepted-place`), and a refusal leaves the output (`refused-stays`).
 use Prim.Native.Nat.{ℕ, zero, suc, _+_, _*_, _≤_, _<_}
 use native.Mathlib.Omega.{arith}
 use mathlib.Core.Path.{_≡_, refl, ap, sym, _∙_, subst}
@@ -50,7 +51,7 @@ form-length (b ∷ s) =
     (omega (arith, one .0, rest .0, long), omega (arith, one .1, rest .1, long))
 
 -- the fault of a reading: the octets before it are a form, and with the octet there nothing begins (promise Q1c)
-pub record FaultAt (t : List ℕ) (p : ℕ) : Type 0 where
+pub record FirstFault (t : List ℕ) (p : ℕ) : Type 0 where
   pub before : List ℕ
   pub octet : ℕ
   pub after : List ℕ
@@ -58,16 +59,16 @@ pub record FaultAt (t : List ℕ) (p : ℕ) : Type 0 where
   pub place : p ≡ length (resourceForm before)
   pub bad : firstOf (octet ∷ after) ≡ Bad
 
-pub fault-first : (t : List ℕ) (p : ℕ) → formReading t ≡ fault-at p → FaultAt t p
+pub fault-first : (t : List ℕ) (p : ℕ) → formReading t ≡ fault-at p → FirstFault t p
 fault-first t p e = go (subst (Reads t 0) e (reads t 0 0 (omega arith))) refl
   where
-    go : {r : Reading} → Reads t 0 r → r ≡ fault-at p → FaultAt t p
+    go : {r : Reading} → Reads t 0 r → r ≡ fault-at p → FirstFault t p
     go (whole cs f) g = clash (cc g)
     go (faulty q cs x u f h k) g =
         let same : q ≡ p = cc g in
         record { before = cs; octet = x; after = u; is = f; place = omega (arith, k); bad = h }
 
-pub fault-there : (t : List ℕ) (p : ℕ) → FaultAt t p → formReading t ≡ fault-at p
+pub fault-there : (t : List ℕ) (p : ℕ) → FirstFault t p → formReading t ≡ fault-at p
 fault-there t p f =
     let at = 0 + length (resourceForm (f .before)) in
     let there : at ≡ p = omega (arith, f .place) in
@@ -114,6 +115,11 @@ unfolding toForm pick
 read-written t s e =
     let given = given-octets t s e in
     rw (le-ltb limit.octets (length s) (given .2)) (ap gives (sym (form-of-read t s (given .1))))
+
+-- a fault comes before what is said of the octets, however many they are (promise Q1e)
+pub fault-wins : (t : List ℕ) (p : ℕ) → length t ≤ limit.form → FirstFault t p → fromForm t ≡ refuses refusal.bad-form p
+unfolding fromForm ofReading pick
+fault-wins t p h f = rw (le-ltb limit.form (length t) h, fault-there t p f)
 
 -- two forms that are read as the same octets are one
 pub only-form : (t u s : List ℕ) → fromForm t ≡ gives s → fromForm u ≡ gives s → t ≡ u

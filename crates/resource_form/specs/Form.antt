@@ -1,6 +1,8 @@
 -- The form of octets as the value of an X resource (rule F1), and, stated apart from it, what a form reads as (rules F2, F3).
 use Prim.Native.Nat.{ℕ, zero, suc, _+_, _-_}
+use mathlib.Core.Bool.{Bool, false}
 use mathlib.Core.List.{List, [], _∷_, _++_}
+use lib.ListN.{drop}
 use lib.Dec.{eqb}
 use Rattle.base.specs.Choice.{pick}
 use Rattle.resource_form.specs.declared.First.{First, the-variants.Stands, the-variants.Bad}
@@ -33,11 +35,14 @@ unfoldable pub resourceForm : List ℕ → List ℕ
 resourceForm [] = []
 resourceForm (b ∷ bs) = octetForm b ++ resourceForm bs
 
+-- whether a digit 0 stands first
+unfoldable pub zeroFirst : List ℕ → Bool
+zeroFirst [] = false
+zeroFirst (b ∷ t) = eqb b digit-0
+
 -- after a backslash and a digit 0: two digits 0 more end the escape of an octet 00 (rule F2)
 unfoldable pub zerosOf : List ℕ → First
-zerosOf [] = Bad
-zerosOf (b ∷ []) = Bad
-zerosOf (b ∷ c ∷ t) = pick (eqb b digit-0) (pick (eqb c digit-0) (Stands nul 4) Bad) Bad
+zerosOf t = pick (zeroFirst t) (pick (zeroFirst (drop 1 t)) (Stands nul 4) Bad) Bad
 
 -- after a backslash: the octet that the escape stands for, and the octets of the escape (rule F2)
 unfoldable pub escapeOf : List ℕ → First

@@ -2,7 +2,7 @@
 ghost use mathlib.Core.Path.{_≡_};
 ghost use lib.ListN.{length};
 ghost use Rattle.base.specs.Choice.{from};
-ghost use Rattle.resource_form.specs.Form.{octetForm, zerosOf, escapeOf, firstOf};
+ghost use Rattle.resource_form.specs.Form.{octetForm, zeroFirst, zerosOf, escapeOf, firstOf};
 
 pub const BACKSLASH: u8 = 0x5C;
 
@@ -37,20 +37,24 @@ pub fn size(octet: u8) -> usize
     1
 }
 
+// Whether a digit 0 stands at a place.
+pub fn zero_at(form: &[u8], at: usize) -> bool
+    ensures { λ r. ⌜ r ≡ zeroFirst (from at (now (form .entry))) ⌝ }
+{
+    if form.len() <= at {
+        return false;
+    }
+    form[at] == DIGIT_0
+}
+
 // The two digits that end the escape of an octet 00, from a place on.
 pub fn zeros_at(form: &[u8], at: usize) -> First
     ensures { λ r. ⌜ r ≡ zerosOf (from at (now (form .entry))) ⌝ }
 {
-    if form.len() <= at {
+    if !zero_at(form, at) {
         return First::Bad;
     }
-    if form.len() - at < 2 {
-        return First::Bad;
-    }
-    if form[at] != DIGIT_0 {
-        return First::Bad;
-    }
-    if form[at + 1] != DIGIT_0 {
+    if !zero_at(form, at + 1) {
         return First::Bad;
     }
     First::Stands(NUL, 4)

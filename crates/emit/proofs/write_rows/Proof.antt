@@ -12,9 +12,10 @@ returns-3 c =
 
 returns-4 : tie.Need-returns-4
 returns-4 c =
-    let plan = c .before .before .before .before in
+    let plan = c .before .before .before .before .before in
     let lie = plan .before .before in
-    wrote-room _ _ _ _ (lie .before .if1 .left) (lie .if2 .left) _ _ (plan .plan .ensures) (c .before .if3 .left) (c .if4 .taken)
+    rw (c .no-room .ensures)
+    (wrote-room _ _ _ _ (lie .before .if1 .left) (lie .if2 .left) _ _ (plan .plan .ensures) (c .before .before .if3 .left) (c .before .if4 .taken))
 
 emit-requires : tie.Need-emit-requires
 emit-requires c κs =
@@ -46,6 +47,7 @@ write-rows-spec =
     (search arith)
     (search arith)
     returns-3
+    (search arith)
     (search arith)
     returns-4
     emit-requires

@@ -6,7 +6,7 @@ use Rattle.read.proofs.answer.Tie as tie
 
 returns : tie.Need-returns
 unfolding readAnswer
-returns c = rw (← (c .before .before .before .before .answer .ensures)) (search ladder)
+returns c = rw (← (c .before .before .before .before .before .answer .ensures)) (search ladder)
 
 returns-2 : tie.Need-returns-2
 unfolding readAnswer
@@ -17,4 +17,4 @@ unfolding readAnswer
 returns-3 c = rw (← (c .before .before .answer .ensures)) (search ladder)
 
 pub answer-spec : {M : Type 1} → statement M
-answer-spec = tie.close (tie.spec (search arith) returns returns-2 returns-3)
+answer-spec = tie.close (tie.spec (search arith) (search arith) returns returns-2 returns-3)
