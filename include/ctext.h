@@ -28,7 +28,7 @@
 #include <stddef.h>
 #include <stdint.h>
 
-#define CTEXT_VERSION "1.1"
+#define CTEXT_VERSION "1.2"
 
 /* The most octets of a string, units of a list, octets of an extended
    segment, and directions open at once. */

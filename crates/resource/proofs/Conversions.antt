@@ -1,9 +1,8 @@
 -- The answer and the output of a conversion, by what it is: a refusal, octets that have no room, and octets that have it. And what a string is converted
 -- to, and a reading, by the tests that the functions make.
 use Prim.Native.Nat.{ℕ, _≤_, _<_}
-use mathlib.Core.Path.{_≡_, refl, ap, ap₂, sym, _∙_}
+use mathlib.Core.Path.{_≡_, refl, ap}
 use mathlib.Core.List.{List}
-use lib.Dec.{ltb}
 use lib.ListN.{length}
 use Rattle.base.specs.Answers.{answer, refusedAt}
 use Rattle.base.specs.Limit as limit
@@ -39,7 +38,8 @@ module _ (n : ℕ) (out : List ℕ) (r : Answer) where
           stored-not bs out out (rw is at h) refl,
         )
 
-    pub converted-fits : (after : List ℕ) → k ≤ length out → r ≡ answer refusal.accepted n k → after ≡ storedIn bs out → Converted x n out r after
+    pub converted-fits : (after : List ℕ) → k ≤ length out → r ≡ answer refusal.accepted n k → after ≡ storedIn bs out
+        → Converted x n out r after
     unfolding conversionAnswer conversionOutput givenAnswer
     converted-fits after h e f =
         rw (← q)

@@ -1,23 +1,23 @@
 -- Looking a form over: what was counted and what the rest reads as is what the whole form reads as (`Looked`). Storing its octets: a form without fault is
--- the form of its octets, so that what stands at a place is the form of the next octet (`Filling`), which its first two octets tell (`Lead`).
-use Prim.Native.Nat.{ℕ, suc, _+_, _-_, _≤_, _<_}
+-- the form of its octets, so that what stands at a place is the form of the next octet (`Filling`), which a reading finds there (`here`).
+use Prim.Native.Nat.{ℕ, suc, _+_, _≤_, _<_}
 use native.Mathlib.Omega.{arith}
-use mathlib.Core.Path.{_≡_, refl, ap, ap₂, sym, _∙_, subst}
+use mathlib.Core.Path.{_≡_, refl, ap, ap₂, sym, _∙_}
 use mathlib.Core.List.{List, [], _∷_, _++_}
-use lib.Dec.{eqb}
+use lib.Dec.{ltb}
 use lib.ListN.{length, getD, set, drop, length-append, length-set}
-use lib.Seq.{sets, length-sets, drop-append-seam, getD-drop}
-use borrow.Author.Tests.{eqb-true, eqb-false, eq-eqb, ne-eqb}
-use Rattle.base.specs.Choice.{pick, from}
+use lib.Seq.{sets, drop-append-seam}
+use borrow.Author.Tests.{ltb-true, ltb-false}
+use Rattle.base.specs.Choice.{from}
 use Rattle.base.specs.Stored.{storedIn}
 use Rattle.base.proofs.Bools.{test, clash}
 use Rattle.base.proofs.Ladder.{from-octet, from-end, from-from, from-length}
 use Rattle.base.proofs.Stores.{stored-sets}
-use Rattle.resource_form.specs.Form.{backslash, newline, nul, octetForm, resourceForm, firstOf, Reading, octets, fault-at, before, readFrom, formReading}
+use Rattle.resource_form.specs.Form.{backslash, octetForm, resourceForm, escapeOf, firstOf, Reading, octets, fault-at, before, readFrom, formReading}
 use Rattle.resource_form.specs.declared.First.{First, the-variants.Stands, the-variants.Bad}
-use Rattle.resource_form.proofs.Readings.{octet-form-few, form-of-first, bad-first, good-first}
+use Rattle.resource_form.proofs.Readings.{octet-form-few, first-of-form, form-of-first, escape-first-of, raw-first, bad-first, good-first}
 use Rattle.resource_form.proofs.Theorems.{form-of-read}
-use Rattle.resource.specs.Scan.{scanOf, octetsOf, escapedOf}
+use Rattle.resource.specs.Scan.{scanOf, octetsOf}
 use Rattle.resource.specs.declared.read.Scan.{Scan, the-variants.Octets, the-variants.FaultAt}
 
 -- ---- looking over
@@ -87,25 +87,6 @@ module _ (s : List ℕ) where
 
 -- ---- storing
 
--- what the first two octets tell of the form of an octet, with which octets start
-record Lead (c : ℕ) (t : List ℕ) : Type 0 where
-  some : 1 ≤ length t
-  escape : getD t 0 0 ≡ backslash → (2 ≤ length t) × (escapedOf (getD t 1 0) ≡ c)
-  raw : (getD t 0 0 ≡ backslash → ⊥) → (getD t 0 0 ≡ c) × (length (octetForm c) ≡ 1)
-
-lead : (c : ℕ) (u : List ℕ) → Lead c (octetForm c ++ u)
-unfolding octetForm escapedOf pick
-lead c u =
-    test (eqb c backslash)
-    (λ e. rw e (record { some = omega arith; escape = λ _. (omega arith, sym (eqb-true c backslash e)); raw = λ n. absurd (n refl) }))
-    (λ e. rw e
-    (test (eqb c newline)
-    (λ f. rw f (record { some = omega arith; escape = λ _. (omega arith, sym (eqb-true c newline f)); raw = λ n. absurd (n refl) }))
-    (λ f. rw f
-    (test (eqb c nul)
-    (λ g. rw g (record { some = omega arith; escape = λ _. (omega arith, sym (eqb-true c nul g)); raw = λ n. absurd (n refl) }))
-    (λ g. rw g (record { some = omega arith; escape = λ y. absurd (eqb-false c backslash e y); raw = λ _. (refl, rw (e, f, g)) }))))))
-
 module _ (form bs old : List ℕ) (n : ℕ) where
   pub record Filling (i at : ℕ) (out : List ℕ) : Type 0 where
     pub all : n ≡ length bs
@@ -126,31 +107,29 @@ module _ (form bs old : List ℕ) (n : ℕ) where
     unfolding resourceForm
     split = h .stands ∙ ap resourceForm (from-octet bs i within)
 
-    here : Lead (getD bs i 0) (from at form)
-    here = subst (Lead (getD bs i 0)) (sym split) (lead (getD bs i 0) (resourceForm (from (i + 1) bs)))
-
-    octet-here : (k : ℕ) → getD (from at form) k 0 ≡ getD form (at + k) 0
-    unfolding from
-    octet-here k = getD-drop at form k 0
-
-    first-here : getD (from at form) 0 0 ≡ getD form at 0
-    first-here = octet-here 0 ∙ ap (λ (k : ℕ). getD form k 0) (let e : at + 0 ≡ at = omega arith in e)
+    -- what stands there is the next octet
+    here : firstOf (from at form) ≡ Stands (getD bs i 0) (length (octetForm (getD bs i 0)))
+    here = ap firstOf split ∙ first-of-form (getD bs i 0) (resourceForm (from (i + 1) bs))
 
     pub some-here : at < length form
-    some-here = omega (arith, here .some, from-length form at)
+    unfolding firstOf
+    some-here =
+        test (ltb at (length form)) (λ q. ltb-true at (length form) q)
+        (λ q. clash (cc (sym here ∙ ap firstOf (from-end form at (ltb-false at (length form) q)))))
 
     pub room-here : n ≤ length old → i < length out
     room-here room = omega (arith, h .same)
 
-    pub escape-here : getD form at 0 ≡ backslash → (at + 1 < length form) × (escapedOf (getD form (at + 1) 0) ≡ getD bs i 0)
-    escape-here e =
-        let found = here .escape (first-here ∙ e) in
-        (omega (arith, found .0, from-length form at), ap escapedOf (sym (octet-here 1)) ∙ found .1)
+    first-here : firstOf (getD form at 0 ∷ from (at + 1) form) ≡ Stands (getD bs i 0) (length (octetForm (getD bs i 0)))
+    first-here = ap firstOf (sym (from-octet form at some-here)) ∙ here
 
-    raw-here : (getD form at 0 ≡ backslash → ⊥) → (getD form at 0 ≡ getD bs i 0) × (length (octetForm (getD bs i 0)) ≡ 1)
-    raw-here n =
-        let found = here .raw (λ e. n (sym first-here ∙ e)) in
-        (sym first-here ∙ found .0, found .1)
+    escape-here : (x : First) → getD form at 0 ≡ backslash → x ≡ escapeOf (from (at + 1) form)
+        → x ≡ Stands (getD bs i 0) (length (octetForm (getD bs i 0)))
+    escape-here x b e = e ∙ sym (escape-first-of (getD form at 0) (from (at + 1) form) b) ∙ first-here
+
+    -- it is never bad
+    pub escape-stands : (x : First) → getD form at 0 ≡ backslash → x ≡ escapeOf (from (at + 1) form) → x ≡ Bad → ⊥
+    escape-stands x b e f = clash (cc (sym f ∙ escape-here x b e))
 
     next : (p : ℕ) (after : List ℕ) → p ≡ at + length (octetForm (getD bs i 0)) → after ≡ set out i (getD bs i 0) → Filling (i + 1) p after
     next p after e f =
@@ -168,17 +147,18 @@ module _ (form bs old : List ℕ) (n : ℕ) where
           same = ap length f ∙ length-set out i (getD bs i 0) ∙ h .same;
         }
 
-    pub escape-next : (c k p : ℕ) (after : List ℕ) → getD form at 0 ≡ backslash → c ≡ escapedOf (getD form (at + 1) 0) → k ≡ length (octetForm c)
-        → p ≡ at + k → after ≡ set out i c → Filling (i + 1) p after
-    escape-next c k p after b e f g m =
-        let octet : c ≡ getD bs i 0 = e ∙ escape-here b .1 in
-        next p after (g ∙ ap (λ (n : ℕ). at + n) (f ∙ ap (λ (x : ℕ). length (octetForm x)) octet)) (m ∙ ap (set out i) octet)
+    pub escape-next : (c k m p : ℕ) (x : First) (after : List ℕ) → getD form at 0 ≡ backslash → x ≡ escapeOf (from (at + 1) form)
+        → x ≡ Stands c k → m ≡ length (octetForm c) → p ≡ at + m → after ≡ set out i c → Filling (i + 1) p after
+    escape-next c k m p x after b e f g h l =
+        let same : Stands c k ≡ Stands (getD bs i 0) (length (octetForm (getD bs i 0))) = sym f ∙ escape-here x b e in
+        let octet : c ≡ getD bs i 0 = cc same in
+        next p after (h ∙ ap (λ (q : ℕ). at + q) (g ∙ ap (λ (y : ℕ). length (octetForm y)) octet)) (l ∙ ap (set out i) octet)
 
     pub raw-next : (p : ℕ) (after : List ℕ) → (getD form at 0 ≡ backslash → ⊥) → p ≡ at + 1 → after ≡ set out i (getD form at 0)
         → Filling (i + 1) p after
     raw-next p after b e f =
-        let octet = raw-here b in
-        next p after (e ∙ ap (λ (n : ℕ). at + n) (sym (octet .1))) (f ∙ ap (set out i) (octet .0))
+        let octet = raw-first (getD form at 0) (from (at + 1) form) (getD bs i 0) (length (octetForm (getD bs i 0))) b first-here in
+        next p after (e ∙ ap (λ (q : ℕ). at + q) (sym (octet .1))) (f ∙ ap (set out i) (octet .0))
 
   pub filling-last : (i at : ℕ) (out : List ℕ) → n ≤ length old → n ≤ i → Filling i at out → out ≡ storedIn bs old
   filling-last i at out room done h =

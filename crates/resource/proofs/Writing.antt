@@ -1,6 +1,6 @@
 -- The form of a string from a place on is that of its next octet and that of the rest: so the octets counted and those to come are always those of
 -- the whole form (`count-next`), and the output with the rest stored is always the output with the whole form stored (`Along`).
-use Prim.Native.Nat.{ℕ, _+_, _*_, _≤_, _<_}
+use Prim.Native.Nat.{ℕ, _+_, _≤_, _<_}
 use native.Mathlib.Omega.{arith}
 use mathlib.Core.Path.{_≡_, refl, ap, ap₂, sym, _∙_}
 use mathlib.Core.List.{List, [], _∷_, _++_}
@@ -48,8 +48,8 @@ module _ (s : List ℕ) where
   count-last i n h c = omega (arith, c .all, ap length (none-left i h))
 
   -- they are few
-  pub count-few : (i n k : ℕ) → length s ≤ limit.octets → i < length s → Counted i n → k ≡ length (octetForm (getD s i 0)) → n + k ≤ limit.form
-  count-few i n k short h c e = omega (arith, c .all, split-length i h, form-length s .1)
+  pub count-few : (i n : ℕ) → length s ≤ limit.octets → Counted i n → n ≤ limit.form
+  count-few i n short c = omega (arith, c .all, form-length s .1)
 
   -- the output as it is at a place of the string and of the output
   pub record Along (old : List ℕ) (i at : ℕ) (out : List ℕ) : Type 0 where

@@ -1,10 +1,8 @@
 -- A form looked over, in the terms of its reading: for the functions of this crate among themselves.
 use Prim.Native.Nat.{ℕ}
 use mathlib.Core.List.{List, []}
-use lib.Dec.{eqb}
 use lib.ListN.{length}
-use Rattle.base.specs.Choice.{pick}
-use Rattle.resource_form.specs.Form.{backslash, newline, nul, letter-n, Reading, octets, fault-at}
+use Rattle.resource_form.specs.Form.{Reading, octets, fault-at}
 use Rattle.resource.specs.declared.read.Scan.{Scan, the-variants.Octets, the-variants.FaultAt}
 
 -- how many octets a form stands for, or the place of its first fault
@@ -16,7 +14,3 @@ scanOf (fault-at p) = FaultAt p
 unfoldable pub octetsOf : Reading → List ℕ
 octetsOf (octets bs) = bs
 octetsOf (fault-at p) = []
-
--- the octet that an escape of an accepted form stands for, by the octet after its backslash
-unfoldable pub escapedOf : ℕ → ℕ
-escapedOf b = pick (eqb b backslash) backslash (pick (eqb b letter-n) newline nul)

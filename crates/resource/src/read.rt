@@ -6,15 +6,12 @@ ghost use Rattle.base.specs.Stored.{storedIn};
 ghost use Rattle.resource_form.specs.Form.{formReading};
 ghost use Rattle.resource_form.specs.Conversion.{ofReading, fromForm, conversionAnswer, conversionOutput};
 ghost use Rattle.resource.specs.declared.read.Scan.the-variants.{Octets};
-ghost use Rattle.resource.specs.Scan.{scanOf, octetsOf, escapedOf};
+ghost use Rattle.resource.specs.Scan.{scanOf, octetsOf};
 use base::Answer;
 use base::limit;
 use base::refusal;
 use resource_form::BACKSLASH;
 use resource_form::First;
-use resource_form::LETTER_N;
-use resource_form::NEWLINE;
-use resource_form::NUL;
 
 // A form looked over: how many octets it stands for, or the place of its first fault.
 pub enum Scan {
@@ -41,20 +38,8 @@ fn look_over(form: &[u8]) -> Scan
     Scan::Octets(count)
 }
 
-// The octet that an escape stands for, by the octet after its backslash.
-fn escaped(after: u8) -> u8
-    ensures { λ r. ⌜ r ≡ escapedOf after ⌝ }
-{
-    if after == BACKSLASH {
-        return BACKSLASH;
-    }
-    if after == LETTER_N {
-        return NEWLINE;
-    }
-    NUL
-}
-
-// Stores the octets that a form stands for, for which there is room.
+// Stores the octets that a form stands for, for which there is room. An escape is read again as a whole: the place after it then follows from
+// branches, which the processor foresees, and not from the octet read. It is never bad, since the form has no fault.
 fn store(form: &[u8], octets: usize, out: &mut [u8])
     requires { ⌜ (Octets octets ≡ scanOf (formReading (now form))) × (octets ≤ length (now out)) ⌝ }
     ensures { λ r. ⌜ now (out .exit) ≡ storedIn (octetsOf (formReading (now (form .entry)))) (now (out .entry)) ⌝ }
@@ -64,9 +49,15 @@ fn store(form: &[u8], octets: usize, out: &mut [u8])
     while i < octets {
         let b = form[at];
         if b == BACKSLASH {
-            let c = escaped(form[at + 1]);
-            out[i] = c;
-            at += resource_form::size(c);
+            match resource_form::escape_at(form, at + 1) {
+                First::Stands(c, _) => {
+                    out[i] = c;
+                    at += resource_form::size(c) as usize;
+                }
+                First::Bad => {
+                    return;
+                }
+            }
         } else {
             out[i] = b;
             at += 1;

@@ -4,6 +4,7 @@ ghost use mathlib.Core.Path.{_≡_};
 ghost use mathlib.Core.List.{[], _∷_};
 ghost use lib.ListN.{length};
 ghost use lib.Seq.{sets};
+ghost use Rattle.base.specs.Limit.{octets};
 ghost use Rattle.base.specs.Stored.{storedIn};
 ghost use Rattle.resource_form.specs.Form.{backslash, digit-0, octetForm, resourceForm};
 ghost use Rattle.resource_form.specs.Conversion.{toForm, conversionAnswer, conversionOutput};
@@ -16,18 +17,18 @@ use resource_form::LETTER_N;
 use resource_form::NEWLINE;
 use resource_form::NUL;
 
-// The octets of a string's form.
+// The octets of a string's form. They are counted in 32 bits, which suffice and are done four at a time.
 fn needed(s: &[u8]) -> usize
-    requires { ⌜ length (now s) ≤ 65535 ⌝ }
+    requires { ⌜ length (now s) ≤ octets ⌝ }
     ensures { λ r. ⌜ r ≡ length (resourceForm (now (s .entry))) ⌝ }
 {
-    let mut n = 0;
+    let mut n: u32 = 0;
     let mut i = 0;
     while i < s.len() {
-        n += resource_form::size(s[i]);
+        n += resource_form::size(s[i]) as u32;
         i += 1;
     }
-    n
+    n as usize
 }
 
 // Stores an escape of two octets at a place, and answers the place after it.

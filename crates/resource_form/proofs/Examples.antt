@@ -1,14 +1,15 @@
 -- The forms and readings of the request's own cases, computed.
 use Prim.Native.Nat.{ℕ}
 use mathlib.Core.Path.{_≡_, refl}
-use mathlib.Core.List.{List, [], _∷_}
+use mathlib.Core.List.{[], _∷_}
 use Rattle.base.specs.Choice.{pick}
 use Rattle.base.specs.Refusal as refusal
 use Rattle.resource_form.specs.Form.{octetForm, resourceForm, zeroFirst, zerosOf, escapeOf, firstOf, onFirst, readFrom}
 use Rattle.resource_form.specs.Conversion.{Conversion, refuses, gives, toForm, ofReading, fromForm}
 
 -- a backslash, a newline, an octet 00 and a letter
-pub each-escape : toForm (0x5C ∷ 0x0A ∷ 0x00 ∷ 0x41 ∷ []) ≡ gives (0x5C ∷ 0x5C ∷ 0x5C ∷ 0x6E ∷ 0x5C ∷ 0x30 ∷ 0x30 ∷ 0x30 ∷ 0x41 ∷ [])
+pub each-escape : toForm (0x5C ∷ 0x0A ∷ 0x00 ∷ 0x41 ∷ [])
+    ≡ gives (0x5C ∷ 0x5C ∷ 0x5C ∷ 0x6E ∷ 0x5C ∷ 0x30 ∷ 0x30 ∷ 0x30 ∷ 0x41 ∷ [])
 unfolding octetForm resourceForm toForm pick
 each-escape = refl
 

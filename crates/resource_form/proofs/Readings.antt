@@ -1,20 +1,19 @@
 -- The form of octets and the reading of a form, which are stated apart, belong together: what stands first in a form is the form of one octet
 -- (`first-of-form`, `form-of-first`), so that by induction every reading splits its octets into forms of octets and, where it has a fault, what
 -- stands from there on and begins with none (`reads`); and a form of octets before anything is read as these octets (`form-before`).
-use Prim.Native.Nat.{ℕ, zero, suc, _+_, _-_, _≤_, _<_}
+use Prim.Native.Nat.{ℕ, zero, suc, _+_, _-_, _≤_}
 use native.Mathlib.Omega.{arith}
 use native.Mathlib.Nat.{not-suc-le-zero}
 use mathlib.Core.Path.{_≡_, refl, ap, ap₂, sym, _∙_, subst}
-use mathlib.Core.Bool.{Bool, true, false}
-use mathlib.Core.List.{List, [], _∷_, _++_, append-assoc, append-nil}
+use mathlib.Core.List.{List, [], _∷_, _++_, append-assoc}
 use lib.Dec.{eqb}
 use lib.ListN.{length, drop, length-append}
 use lib.Seq.{drop-append-seam}
-use borrow.Author.Tests.{eqb-true, eqb-false, eq-eqb, ne-eqb}
+use borrow.Author.Tests.{eqb-true, eq-eqb, ne-eqb}
 use Rattle.base.specs.Choice.{pick}
 use Rattle.base.proofs.Bools.{test, clash}
 use Rattle.resource_form.specs.Form.{backslash, newline, nul, letter-n, digit-0, octetForm, resourceForm, zeroFirst, zerosOf, escapeOf, firstOf}
-use Rattle.resource_form.specs.Form.{Reading, octets, fault-at, before, onFirst, readFrom, formReading}
+use Rattle.resource_form.specs.Form.{Reading, octets, fault-at, before, onFirst, readFrom}
 use Rattle.resource_form.specs.declared.First.{First, the-variants.Stands, the-variants.Bad}
 
 -- an octet's form is read as that octet, whatever follows it
@@ -62,6 +61,19 @@ module _ {b k : ℕ} where
       (λ f. test (eqb x newline) (λ g. clash (cc (rw (f, g) at e)))
       (λ g. test (eqb x nul) (λ h. clash (cc (rw (f, g, h) at e)))
       (λ h. standing x 1 (rw (f, g, h) at e) (record { is = rw (f, g, h); size = rw (f, g, h) }))))
+
+-- after a backslash stands an escape, and any other octet is raw
+pub escape-first-of : (x : ℕ) (t : List ℕ) → x ≡ backslash → firstOf (x ∷ t) ≡ escapeOf t
+unfolding firstOf pick
+escape-first-of x t e = rw (eq-eqb x backslash e)
+
+pub raw-first : (x : ℕ) (t : List ℕ) (b k : ℕ) → (x ≡ backslash → ⊥) → firstOf (x ∷ t) ≡ Stands b k → (x ≡ b) × (k ≡ 1)
+unfolding firstOf pick
+raw-first x t b k n e =
+    let f = ne-eqb x backslash n in
+    test (eqb x newline) (λ g. clash (cc (rw (f, g) at e)))
+    (λ g. test (eqb x nul) (λ h. clash (cc (rw (f, g, h) at e)))
+    (λ h. let z : Stands x 1 ≡ Stands b k = rw (f, g, h) at e in (cc z, sym (cc z))))
 
 -- a form has one to four octets for each octet
 pub octet-form-few : (b : ℕ) → (1 ≤ length (octetForm b)) × (length (octetForm b) ≤ 4)
@@ -140,7 +152,9 @@ good-first (x ∷ t) at b k e =
     let cut : suc (k - 1) ≡ k = omega arith in
     let place : at + 1 + (k - 1) ≡ at + k = omega arith in
     ap (λ (f : First). onFirst at f (λ j. readFrom t j (at + 1))) e
-    ∙ ap (before b) (passed t (k - 1) (at + 1) (omega arith) ∙ ap₂ (λ (y : List ℕ) (p : ℕ). readFrom y 0 p) (ap (λ (j : ℕ). drop j (x ∷ t)) cut) place)
+    ∙ ap (before b)
+    (passed t (k - 1) (at + 1) (omega arith)
+    ∙ ap₂ (λ (y : List ℕ) (p : ℕ). readFrom y 0 p) (ap (λ (j : ℕ). drop j (x ∷ t)) cut) place)
 
 -- octets before what is read
 abbrev pub befores : List ℕ → Reading → Reading

@@ -1,27 +1,35 @@
--- The ladder's rules for the functions of this crate: the length of an octet's form test by test, and what the octets of a form start.
-use Prim.Native.Nat.{ℕ, _+_, _≤_, _<_}
+-- The ladder's rules for what the octets of a form start, and the length of an octet's form.
+use Prim.Native.Nat.{ℕ, _+_, _*_, _≤_, _<_}
 use native.Mathlib.Omega.{arith}
-use mathlib.Core.Path.{_≡_, refl, ap, sym, _∙_}
+use mathlib.Core.Path.{_≡_, ap, sym, _∙_}
 use mathlib.Core.Bool.{Bool, true, false}
-use mathlib.Core.List.{List, [], _∷_}
+use mathlib.Core.List.{List}
 use lib.Dec.{eqb, ltb}
 use lib.ListN.{length, getD}
 use Rattle.base.specs.Choice.{pick, from}
-use borrow.Author.Tests.{ltb-true, ltb-false}
+use borrow.Author.Tests.{ltb-true, ltb-false, eqb-true}
+use mir.Val.{boolByte}
 use Rattle.base.proofs.Bools.{test, off}
 use Rattle.base.proofs.Ladder.{from-end, from-from, octet, ended, ladder}
 use Rattle.resource_form.specs.Form.{backslash, newline, nul, digit-0, octetForm, zeroFirst, zerosOf, escapeOf, firstOf}
 use Rattle.resource_form.specs.declared.First.{First, the-variants.Stands, the-variants.Bad}
 
--- the length of a form, test by test
-pub form-length : (b : ℕ) → pick (eqb b backslash) 2 (pick (eqb b newline) 2 (pick (eqb b nul) 4 1)) ≡ length (octetForm b)
-unfolding octetForm pick
-form-length b =
-    test (eqb b backslash) (λ e. rw e)
-    (λ e. rw e (test (eqb b newline) (λ f. rw f) (λ f. rw f (test (eqb b nul) (λ g. rw g) (λ g. rw g)))))
+-- a test as a number
+byte-few : (t : Bool) → boolByte t ≤ 1
+byte-few true = omega arith
+byte-few false = omega arith
 
-pub sized : (b r : ℕ) → r ≡ pick (eqb b backslash) 2 (pick (eqb b newline) 2 (pick (eqb b nul) 4 1)) → r ≡ length (octetForm b)
-sized b r e = e ∙ form-length b
+pub tests-few : (b : ℕ) → (boolByte (eqb b backslash) ≤ 1) × (boolByte (eqb b newline) ≤ 1) × (boolByte (eqb b nul) ≤ 1)
+tests-few b = (byte-few (eqb b backslash), byte-few (eqb b newline), byte-few (eqb b nul))
+
+-- the length of a form, by the three tests, of which at most one holds
+pub form-size : (b : ℕ) → 1 + boolByte (eqb b backslash) + boolByte (eqb b newline) + boolByte (eqb b nul) * 3 ≡ length (octetForm b)
+unfolding octetForm pick
+form-size b =
+    test (eqb b backslash) (λ e. rw (eqb-true b backslash e))
+    (λ e. rw e
+    (test (eqb b newline) (λ f. rw (eqb-true b newline f))
+    (λ f. rw f (test (eqb b nul) (λ g. rw (eqb-true b nul g)) (λ g. rw g)))))
 
 module _ (s : List ℕ) (at : ℕ) (r : First) where
   pub on-first : at < length s
@@ -66,4 +74,4 @@ zero-within s at r e f =
     test (ltb at (length s)) (λ q. ltb-true at (length s) q)
     (λ q. off (sym (ap zeroFirst (from-end s at (ltb-false at (length s) q))) ∙ sym e ∙ f))
 
-pub ruleset form-steps = (sized, on-first, no-first, on-escape, no-escape, on-zeros, on-zero, no-zero, ladder)
+pub ruleset form-steps = (on-first, no-first, on-escape, no-escape, on-zeros, on-zero, no-zero, ladder)

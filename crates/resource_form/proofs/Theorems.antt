@@ -3,23 +3,21 @@
 -- where a form of octets ends (`fault-first`, `fault-there`). Of what is answered: writing and reading undo each other (`written-read`,
 -- `read-written`), a fault is told before the limit of the octets (`fault-wins`), what is accepted has the input's length as its place
 -- (`accepted-place`), and a refusal leaves the output (`refused-stays`).
-use Prim.Native.Nat.{ℕ, zero, suc, _+_, _*_, _≤_, _<_}
+use Prim.Native.Nat.{ℕ, _+_, _*_, _≤_}
 use native.Mathlib.Omega.{arith}
 use mathlib.Core.Path.{_≡_, refl, ap, sym, _∙_, subst}
-use mathlib.Core.Bool.{Bool, true, false}
 use mathlib.Core.List.{List, [], _∷_, _++_, append-nil}
-use lib.Dec.{eqb, leb, ltb}
+use lib.Dec.{leb, ltb}
 use lib.ListN.{length, length-append}
 use borrow.Author.Tests.{ltb-false, le-ltb, le-leb}
 use Rattle.base.specs.Choice.{pick}
 use Rattle.base.specs.Limit as limit
 use Rattle.base.specs.Refusal as refusal
 use Rattle.base.specs.Stored.{storedIn}
-use Rattle.base.specs.declared.Answer.{Answer}
 use Rattle.base.proofs.Bools.{test, clash, pick-by}
 use Rattle.resource_form.specs.Form.{octetForm, resourceForm, firstOf, Reading, octets, fault-at, readFrom, formReading}
 use Rattle.resource_form.specs.Conversion.{Conversion, refuses, gives, toForm, ofReading, fromForm, givenAnswer, conversionAnswer, conversionOutput}
-use Rattle.resource_form.specs.declared.First.{First, the-variants.Bad}
+use Rattle.resource_form.specs.declared.First.{the-variants.Bad}
 use Rattle.resource_form.proofs.Readings.{octet-form-few, Reads, whole, faulty, reads, bad-first, befores, befores-octets, befores-fault, form-before}
 
 -- ---- of all octets
@@ -147,7 +145,8 @@ unfolding fromForm
 read t = pick-by Answered (ltb limit.form (length t)) (λ _. too-long) (λ _. of-reading (formReading t))
 
 -- of either way: what is accepted has the input's length as its place, and octets that were given
-pub accepted-place : {x : Conversion} → Answered x → (n m : ℕ) → conversionAnswer x n m .number ≡ refusal.accepted → conversionAnswer x n m .place ≡ n
+pub accepted-place : {x : Conversion} → Answered x → (n m : ℕ) → conversionAnswer x n m .number ≡ refusal.accepted
+    → conversionAnswer x n m .place ≡ n
 unfolding givenAnswer conversionAnswer pick
 accepted-place too-long n m e = absurd (omega (arith, e))
 accepted-place (bad-form p) n m e = absurd (omega (arith, e))

@@ -1,5 +1,6 @@
--- `resource_form::size` meets its contract, test by test.
-use Rattle.resource_form.proofs.Steps.{form-steps}
+-- `resource_form::size` meets its contract: each test counts 1 or nothing.
+use native.Mathlib.Omega.{arith}
+use Rattle.resource_form.proofs.Steps.{tests-few, form-size}
 use Rattle.resource_form.proofs.size.Statement.{statement}
 use Rattle.resource_form.proofs.size.Tie as tie
 
@@ -7,7 +8,11 @@ pub size-spec : {M : Type 1} → statement M
 size-spec =
     tie.close
     (tie.spec
-    (λ c. search form-steps depth 9)
-    (λ c. search form-steps depth 9)
-    (λ c. search form-steps depth 9)
-    (λ c. search form-steps depth 9))
+    (λ c. tt)
+    (λ c. omega (arith, tests-few (c .args .octet)))
+    (λ c. tt)
+    (λ c. omega (arith, tests-few (c .args .octet)))
+    (λ c. tt)
+    (λ c. omega (arith, tests-few (c .args .octet)))
+    (λ c. omega (arith, tests-few (c .args .octet)))
+    (λ c. form-size _))

@@ -19,4 +19,5 @@ read-spec =
     (λ c. let found = sym (c .before .before .place .given .1) ∙ c .before .before .before .before .look-over .ensures in
     converted-refused _ _ _ _ _ _ (reading-faulty _ _ found ∙ form-within _ (c .before .before .before .before .before .if1 .left)) (c .refused2 .ensures))
     (search arith)
-    (λ c. converted-as _ _ _ _ _ _ (form-within _ (c .before .before .before .before .before .before .before .before .if1 .left)) (c .before .before .give .ensures)))
+    (λ c. converted-as _ _ _ _ _ _ (form-within _ (c .before .before .before .before .before .before .before .before .if1 .left))
+    (c .before .before .give .ensures)))

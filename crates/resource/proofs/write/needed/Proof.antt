@@ -21,12 +21,11 @@ needed-spec =
     (λ c. count-first _)
     (search arith)
     (search arith)
-    (λ c. omega (
-      arith,
-      count-few _ _ _ _ (c .before .before .before .before .before .pre) (c .before .before .loop-test .taken)
-          (c .before .before .before .loop .inv) (c .size .ensures),
-    ))
+    (search arith)
+    (λ c. let next = count-next _ _ _ _ (c .before .before .loop-test .taken) (c .before .before .before .loop .inv) (c .size .ensures) in
+    omega (arith, count-few _ _ _ (c .before .before .before .before .before .pre) next))
     (search arith)
     (search arith)
     (λ c. search count-next)
+    (λ c. omega (arith, count-few _ _ _ (c .before .before .before .pre) (c .before .loop .inv)))
     (λ c. search count-last))

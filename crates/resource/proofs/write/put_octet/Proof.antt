@@ -4,7 +4,7 @@ use mathlib.Core.Path.{refl}
 use mathlib.Core.List.{[], _∷_}
 use lib.ListN.{length-set}
 use Rattle.base.proofs.Ladder.{ladder}
-use Rattle.resource_form.specs.Form.{backslash, nul, letter-n, digit-0}
+use Rattle.resource_form.specs.Form.{backslash, letter-n, digit-0}
 use Rattle.resource.proofs.Writing.{form-as, put-as, room-as}
 use Rattle.resource.proofs.write.put_octet.Statement.{statement}
 use Rattle.resource.proofs.write.put_octet.Tie as tie
@@ -19,7 +19,8 @@ put-octet-spec =
     (λ c κs. room-as _ _ _ (backslash ∷ letter-n ∷ []) (search (form-as, ladder) depth 9) (c .before .before .before .before .pre))
     (search arith)
     (λ c. put-as _ _ _ _ _ (backslash ∷ letter-n ∷ []) (search (form-as, ladder) depth 9) (c .before .before .put-pair2 .ensures))
-    (λ c κs. room-as _ _ _ (backslash ∷ digit-0 ∷ digit-0 ∷ digit-0 ∷ []) (search (form-as, ladder) depth 9) (c .before .before .before .before .before .pre))
+    (λ c κs. room-as _ _ _ (backslash ∷ digit-0 ∷ digit-0 ∷ digit-0 ∷ []) (search (form-as, ladder) depth 9)
+    (c .before .before .before .before .before .pre))
     (search arith)
     (λ c. put-as _ _ _ _ _ (backslash ∷ digit-0 ∷ digit-0 ∷ digit-0 ∷ []) (search (form-as, ladder) depth 9) (c .before .before .put-nul .ensures))
     (λ c. let args = c .before .before .before .before .args in
