@@ -12,8 +12,8 @@ use Rattle.base.specs.declared.Answer.{Answer}
 use Rattle.base.proofs.Bools.{clash}
 use Rattle.base.proofs.Ladder.{on-le, on-gt, on-lt, on-ge}
 use Rattle.base.proofs.Stores.{stored-not}
-use Rattle.resource_form.specs.Form.{resourceForm, Reading, octets, fault-at, formReading}
-use Rattle.resource_form.specs.Conversion.{Conversion, refuses, gives, toForm, ofReading, fromForm, givenAnswer, conversionAnswer, conversionOutput}
+use Rattle.resource_form.specs.Form.{resourceForm, Reading, stands-for, fault-at, formReading}
+use Rattle.resource_form.specs.Conversion.{Conversion, refuses, gives, toForm, readConversion, fromForm, givenAnswer, conversionAnswer, conversionOutput}
 use Rattle.resource.specs.Scan.{scanOf, octetsOf}
 use Rattle.resource.specs.declared.read.Scan.the-variants.{Octets, FaultAt}
 
@@ -59,28 +59,28 @@ pub form-over : (t : List ℕ) → limit.form < length t → refuses refusal.too
 unfolding fromForm
 form-over t h = on-lt limit.form (length t) (refuses refusal.too-long 0) _ _ h refl
 
-pub form-within : (t : List ℕ) → length t ≤ limit.form → ofReading (formReading t) ≡ fromForm t
+pub form-within : (t : List ℕ) → length t ≤ limit.form → readConversion (formReading t) ≡ fromForm t
 unfolding fromForm
-form-within t h = on-ge limit.form (length t) (ofReading (formReading t)) _ _ h refl
+form-within t h = on-ge limit.form (length t) (readConversion (formReading t)) _ _ h refl
 
 -- a reading, by what was found when the form was looked over
-pub reading-faulty : (r : Reading) (p : ℕ) → FaultAt p ≡ scanOf r → refuses refusal.bad-form p ≡ ofReading r
-unfolding scanOf ofReading
-reading-faulty (octets bs) p e = clash (cc e)
+pub reading-faulty : (r : Reading) (p : ℕ) → FaultAt p ≡ scanOf r → refuses refusal.bad-form p ≡ readConversion r
+unfolding scanOf readConversion
+reading-faulty (stands-for bs) p e = clash (cc e)
 reading-faulty (fault-at q) p e = ap (refuses refusal.bad-form) (let f : p ≡ q = cc e in f)
 
 pub reading-length : (r : Reading) (k : ℕ) → Octets k ≡ scanOf r → k ≡ length (octetsOf r)
 unfolding scanOf octetsOf
-reading-length (octets bs) k e = let f : k ≡ length bs = cc e in f
+reading-length (stands-for bs) k e = let f : k ≡ length bs = cc e in f
 reading-length (fault-at q) k e = clash (cc e)
 
-pub reading-over : (r : Reading) (k : ℕ) → Octets k ≡ scanOf r → limit.octets < k → refuses refusal.too-long 0 ≡ ofReading r
-unfolding scanOf ofReading
-reading-over (octets bs) k e h =
+pub reading-over : (r : Reading) (k : ℕ) → Octets k ≡ scanOf r → limit.octets < k → refuses refusal.too-long 0 ≡ readConversion r
+unfolding scanOf readConversion
+reading-over (stands-for bs) k e h =
     on-lt limit.octets (length bs) (refuses refusal.too-long 0) _ _ (let f : k ≡ length bs = cc e in rw f at h) refl
 reading-over (fault-at q) k e h = clash (cc e)
 
-pub reading-within : (r : Reading) (k : ℕ) → Octets k ≡ scanOf r → k ≤ limit.octets → gives (octetsOf r) ≡ ofReading r
-unfolding scanOf octetsOf ofReading
-reading-within (octets bs) k e h = on-ge limit.octets (length bs) (gives bs) _ _ (let f : k ≡ length bs = cc e in rw f at h) refl
+pub reading-within : (r : Reading) (k : ℕ) → Octets k ≡ scanOf r → k ≤ limit.octets → gives (octetsOf r) ≡ readConversion r
+unfolding scanOf octetsOf readConversion
+reading-within (stands-for bs) k e h = on-ge limit.octets (length bs) (gives bs) _ _ (let f : k ≡ length bs = cc e in rw f at h) refl
 reading-within (fault-at q) k e h = clash (cc e)

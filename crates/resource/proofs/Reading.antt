@@ -13,7 +13,8 @@ use Rattle.base.specs.Stored.{storedIn}
 use Rattle.base.proofs.Bools.{test, clash}
 use Rattle.base.proofs.Ladder.{from-octet, from-end, from-from, from-length}
 use Rattle.base.proofs.Stores.{stored-sets}
-use Rattle.resource_form.specs.Form.{backslash, octetForm, resourceForm, escapeOf, firstOf, Reading, octets, fault-at, before, readFrom, formReading}
+use Rattle.resource_form.specs.Form.{backslash, octetForm, resourceForm, formEscape, formFirst}
+use Rattle.resource_form.specs.Form.{Reading, stands-for, fault-at, putBefore, readFrom, formReading}
 use Rattle.resource_form.specs.declared.First.{First, the-variants.Stands, the-variants.Bad}
 use Rattle.resource_form.proofs.Readings.{octet-form-few, first-of-form, form-of-first, escape-first-of, raw-first, bad-first, good-first}
 use Rattle.resource_form.proofs.Theorems.{form-of-read}
@@ -31,9 +32,9 @@ plus-none : (x : Scan) → plus 0 x ≡ x
 plus-none (Octets m) = ap Octets (let e : 0 + m ≡ m = omega arith in e)
 plus-none (FaultAt p) = refl
 
-plus-one : (n b : ℕ) (r : Reading) → plus n (scanOf (before b r)) ≡ plus (n + 1) (scanOf r)
+plus-one : (n b : ℕ) (r : Reading) → plus n (scanOf (putBefore b r)) ≡ plus (n + 1) (scanOf r)
 unfolding scanOf
-plus-one n b (octets bs) = ap Octets (let e : n + suc (length bs) ≡ n + 1 + length bs = omega arith in e)
+plus-one n b (stands-for bs) = ap Octets (let e : n + suc (length bs) ≡ n + 1 + length bs = omega arith in e)
 plus-one n b (fault-at p) = refl
 
 module _ (s : List ℕ) where
@@ -47,21 +48,21 @@ module _ (s : List ℕ) where
   looked-first = record { few = omega arith; less = omega arith; is = plus-none (scanOf (formReading s)) }
 
   -- what stands first has one octet at least, and lies within the form
-  pub first-within : (at b k : ℕ) (x : First) → at < length s → x ≡ firstOf (from at s) → x ≡ Stands b k → (1 ≤ k) × (at + k ≤ length s)
+  pub first-within : (at b k : ℕ) (x : First) → at < length s → x ≡ formFirst (from at s) → x ≡ Stands b k → (1 ≤ k) × (at + k ≤ length s)
   first-within at b k x h is e =
       let first = form-of-first (from at s) (sym is ∙ e) in
       let long = ap length (first .is) ∙ length-append (octetForm b) (drop k (from at s)) in
       let size = first .size in
       (omega (arith, octet-form-few b .0, size), omega (arith, long, size, from-length s at))
 
-  pub looked-next : (at count b k : ℕ) (x : First) → at < length s → x ≡ firstOf (from at s) → x ≡ Stands b k → Looked at count
+  pub looked-next : (at count b k : ℕ) (x : First) → at < length s → x ≡ formFirst (from at s) → x ≡ Stands b k → Looked at count
       → Looked (at + k) (count + 1)
   looked-next at count b k x h is e l =
       let within = first-within at b k x h is e in
       let few = l .few in
       let less = l .less in
-      let step : readFrom (from at s) 0 at ≡ before b (readFrom (from (at + k) s) 0 (at + k)) =
-      good-first (from at s) at b k (sym is ∙ e) ∙ ap (λ (t : List ℕ). before b (readFrom t 0 (at + k))) (from-from s at k) in
+      let step : readFrom (from at s) 0 at ≡ putBefore b (readFrom (from (at + k) s) 0 (at + k)) =
+      good-first (from at s) at b k (sym is ∙ e) ∙ ap (λ (t : List ℕ). putBefore b (readFrom t 0 (at + k))) (from-from s at k) in
       record {
         few = within .1;
         less = omega (arith, within .0);
@@ -70,19 +71,19 @@ module _ (s : List ℕ) where
             ∙ ap (λ (r : Reading). plus count (scanOf r)) (sym step) ∙ l .is;
       }
 
-  pub looked-bad : (at count : ℕ) (x : First) → at < length s → x ≡ firstOf (from at s) → x ≡ Bad → Looked at count
+  pub looked-bad : (at count : ℕ) (x : First) → at < length s → x ≡ formFirst (from at s) → x ≡ Bad → Looked at count
       → FaultAt at ≡ scanOf (formReading s)
   unfolding scanOf
   looked-bad at count x h is e l =
       let octet = from-octet s at h in
       let bad : readFrom (from at s) 0 at ≡ fault-at at =
-      ap (λ (t : List ℕ). readFrom t 0 at) octet ∙ bad-first (getD s at 0) (from (at + 1) s) at (ap firstOf (sym octet) ∙ sym is ∙ e) in
+      ap (λ (t : List ℕ). readFrom t 0 at) octet ∙ bad-first (getD s at 0) (from (at + 1) s) at (ap formFirst (sym octet) ∙ sym is ∙ e) in
       ap (λ (r : Reading). plus count (scanOf r)) (sym bad) ∙ l .is
 
   pub looked-last : (at count : ℕ) → length s ≤ at → Looked at count → Octets count ≡ scanOf (formReading s)
   unfolding scanOf readFrom
   looked-last at count h l =
-      let done : readFrom (from at s) 0 at ≡ octets [] = ap (λ (t : List ℕ). readFrom t 0 at) (from-end s at h) in
+      let done : readFrom (from at s) 0 at ≡ stands-for [] = ap (λ (t : List ℕ). readFrom t 0 at) (from-end s at h) in
       ap Octets (let e : count ≡ count + 0 = omega arith in e) ∙ ap (λ (r : Reading). plus count (scanOf r)) (sym done) ∙ l .is
 
 -- ---- storing
@@ -108,27 +109,27 @@ module _ (form bs old : List ℕ) (n : ℕ) where
     split = h .stands ∙ ap resourceForm (from-octet bs i within)
 
     -- what stands there is the next octet
-    here : firstOf (from at form) ≡ Stands (getD bs i 0) (length (octetForm (getD bs i 0)))
-    here = ap firstOf split ∙ first-of-form (getD bs i 0) (resourceForm (from (i + 1) bs))
+    here : formFirst (from at form) ≡ Stands (getD bs i 0) (length (octetForm (getD bs i 0)))
+    here = ap formFirst split ∙ first-of-form (getD bs i 0) (resourceForm (from (i + 1) bs))
 
     pub some-here : at < length form
-    unfolding firstOf
+    unfolding formFirst
     some-here =
         test (ltb at (length form)) (λ q. ltb-true at (length form) q)
-        (λ q. clash (cc (sym here ∙ ap firstOf (from-end form at (ltb-false at (length form) q)))))
+        (λ q. clash (cc (sym here ∙ ap formFirst (from-end form at (ltb-false at (length form) q)))))
 
     pub room-here : n ≤ length old → i < length out
     room-here room = omega (arith, h .same)
 
-    first-here : firstOf (getD form at 0 ∷ from (at + 1) form) ≡ Stands (getD bs i 0) (length (octetForm (getD bs i 0)))
-    first-here = ap firstOf (sym (from-octet form at some-here)) ∙ here
+    first-here : formFirst (getD form at 0 ∷ from (at + 1) form) ≡ Stands (getD bs i 0) (length (octetForm (getD bs i 0)))
+    first-here = ap formFirst (sym (from-octet form at some-here)) ∙ here
 
-    escape-here : (x : First) → getD form at 0 ≡ backslash → x ≡ escapeOf (from (at + 1) form)
+    escape-here : (x : First) → getD form at 0 ≡ backslash → x ≡ formEscape (from (at + 1) form)
         → x ≡ Stands (getD bs i 0) (length (octetForm (getD bs i 0)))
     escape-here x b e = e ∙ sym (escape-first-of (getD form at 0) (from (at + 1) form) b) ∙ first-here
 
     -- it is never bad
-    pub escape-stands : (x : First) → getD form at 0 ≡ backslash → x ≡ escapeOf (from (at + 1) form) → x ≡ Bad → ⊥
+    pub escape-stands : (x : First) → getD form at 0 ≡ backslash → x ≡ formEscape (from (at + 1) form) → x ≡ Bad → ⊥
     escape-stands x b e f = clash (cc (sym f ∙ escape-here x b e))
 
     next : (p : ℕ) (after : List ℕ) → p ≡ at + length (octetForm (getD bs i 0)) → after ≡ set out i (getD bs i 0) → Filling (i + 1) p after
@@ -147,7 +148,7 @@ module _ (form bs old : List ℕ) (n : ℕ) where
           same = ap length f ∙ length-set out i (getD bs i 0) ∙ h .same;
         }
 
-    pub escape-next : (c k m p : ℕ) (x : First) (after : List ℕ) → getD form at 0 ≡ backslash → x ≡ escapeOf (from (at + 1) form)
+    pub escape-next : (c k m p : ℕ) (x : First) (after : List ℕ) → getD form at 0 ≡ backslash → x ≡ formEscape (from (at + 1) form)
         → x ≡ Stands c k → m ≡ length (octetForm c) → p ≡ at + m → after ≡ set out i c → Filling (i + 1) p after
     escape-next c k m p x after b e f g h l =
         let same : Stands c k ≡ Stands (getD bs i 0) (length (octetForm (getD bs i 0))) = sym f ∙ escape-here x b e in
@@ -171,5 +172,5 @@ unfolding scanOf octetsOf
 form-of-octets t k e = go (formReading t) refl e
   where
     go : (r : Reading) → formReading t ≡ r → Octets k ≡ scanOf r → t ≡ resourceForm (octetsOf r)
-    go (octets bs) q f = form-of-read t bs q
+    go (stands-for bs) q f = form-of-read t bs q
     go (fault-at p) q f = clash (cc f)

@@ -4,7 +4,7 @@ ghost use mathlib.Core.Path.{_≡_};
 ghost use lib.ListN.{length};
 ghost use Rattle.base.specs.Stored.{storedIn};
 ghost use Rattle.resource_form.specs.Form.{formReading};
-ghost use Rattle.resource_form.specs.Conversion.{ofReading, fromForm, conversionAnswer, conversionOutput};
+ghost use Rattle.resource_form.specs.Conversion.{readConversion, fromForm, conversionAnswer, conversionOutput};
 ghost use Rattle.resource.specs.declared.read.Scan.the-variants.{Octets};
 ghost use Rattle.resource.specs.Scan.{scanOf, octetsOf};
 use base::Answer;
@@ -69,8 +69,8 @@ fn store(form: &[u8], octets: usize, out: &mut [u8])
 // The octets of a form that has no fault: so many are given, where they are within the limit and the output has room for them.
 fn give(form: &[u8], octets: usize, out: &mut [u8]) -> Answer
     requires { ⌜ Octets octets ≡ scanOf (formReading (now form)) ⌝ }
-    ensures { λ r. ⌜ (r ≡ conversionAnswer (ofReading (formReading (now (form .entry)))) (length (now (form .entry))) (length (now (out .entry))))
-        × (now (out .exit) ≡ conversionOutput (ofReading (formReading (now (form .entry)))) (now (out .entry))) ⌝ }
+    ensures { λ r. ⌜ (r ≡ conversionAnswer (readConversion (formReading (now (form .entry)))) (length (now (form .entry))) (length (now (out .entry))))
+        × (now (out .exit) ≡ conversionOutput (readConversion (formReading (now (form .entry)))) (now (out .entry))) ⌝ }
 {
     if limit::OCTETS < octets {
         return Answer::refused(refusal::TOO_LONG, 0);

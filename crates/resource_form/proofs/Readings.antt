@@ -12,13 +12,13 @@ use lib.Seq.{drop-append-seam}
 use borrow.Author.Tests.{eqb-true, eq-eqb, ne-eqb}
 use Rattle.base.specs.Choice.{pick}
 use Rattle.base.proofs.Bools.{test, clash}
-use Rattle.resource_form.specs.Form.{backslash, newline, nul, letter-n, digit-0, octetForm, resourceForm, zeroFirst, zerosOf, escapeOf, firstOf}
-use Rattle.resource_form.specs.Form.{Reading, octets, fault-at, before, onFirst, readFrom}
+use Rattle.resource_form.specs.Form.{backslash, newline, nul, letter-n, digit-0, octetForm, resourceForm, zeroFirst, formZeros, formEscape, formFirst}
+use Rattle.resource_form.specs.Form.{Reading, stands-for, fault-at, putBefore, onFirst, readFrom}
 use Rattle.resource_form.specs.declared.First.{First, the-variants.Stands, the-variants.Bad}
 
 -- an octet's form is read as that octet, whatever follows it
-pub first-of-form : (b : ℕ) (t : List ℕ) → firstOf (octetForm b ++ t) ≡ Stands b (length (octetForm b))
-unfolding octetForm firstOf escapeOf zeroFirst zerosOf pick
+pub first-of-form : (b : ℕ) (t : List ℕ) → formFirst (octetForm b ++ t) ≡ Stands b (length (octetForm b))
+unfolding octetForm formFirst formEscape zeroFirst formZeros pick
 first-of-form b t =
     test (eqb b backslash) (λ e. rw (e, eqb-true b backslash e))
     (λ e. rw e
@@ -34,8 +34,8 @@ module _ {b k : ℕ} where
   standing : {t : List ℕ} (c j : ℕ) → Stands c j ≡ Stands b k → Starts c j t → Starts b k t
   standing c j e h = let p : c ≡ b = cc e in let q : j ≡ k = cc e in rw (← p, ← q) h
 
-  zeros-first : (t : List ℕ) → zerosOf t ≡ Stands b k → Starts b k (backslash ∷ digit-0 ∷ t)
-  unfolding octetForm zeroFirst zerosOf pick
+  zeros-first : (t : List ℕ) → formZeros t ≡ Stands b k → Starts b k (backslash ∷ digit-0 ∷ t)
+  unfolding octetForm zeroFirst formZeros pick
   zeros-first [] e = clash (cc e)
   zeros-first (x ∷ []) e = test (eqb x digit-0) (λ f. clash (cc (rw f at e))) (λ f. clash (cc (rw f at e)))
   zeros-first (x ∷ y ∷ t) e =
@@ -45,16 +45,16 @@ module _ {b k : ℕ} where
       (λ g. clash (cc (rw (f, g) at e))))
       (λ f. clash (cc (rw f at e)))
 
-  escape-first : (t : List ℕ) → escapeOf t ≡ Stands b k → Starts b k (backslash ∷ t)
-  unfolding octetForm escapeOf pick
+  escape-first : (t : List ℕ) → formEscape t ≡ Stands b k → Starts b k (backslash ∷ t)
+  unfolding octetForm formEscape pick
   escape-first [] e = clash (cc e)
   escape-first (x ∷ t) e =
       test (eqb x backslash) (λ f. standing backslash 2 (rw f at e) (rw (eqb-true x backslash f) (record { is = refl; size = refl })))
       (λ f. test (eqb x letter-n) (λ g. standing newline 2 (rw (f, g) at e) (rw (eqb-true x letter-n g) (record { is = refl; size = refl })))
       (λ g. test (eqb x digit-0) (λ h. rw (eqb-true x digit-0 h) (zeros-first t (rw (f, g, h) at e))) (λ h. clash (cc (rw (f, g, h) at e)))))
 
-  pub form-of-first : (t : List ℕ) → firstOf t ≡ Stands b k → Starts b k t
-  unfolding octetForm firstOf pick
+  pub form-of-first : (t : List ℕ) → formFirst t ≡ Stands b k → Starts b k t
+  unfolding octetForm formFirst pick
   form-of-first [] e = clash (cc e)
   form-of-first (x ∷ t) e =
       test (eqb x backslash) (λ f. rw (eqb-true x backslash f) (escape-first t (rw f at e)))
@@ -63,12 +63,12 @@ module _ {b k : ℕ} where
       (λ h. standing x 1 (rw (f, g, h) at e) (record { is = rw (f, g, h); size = rw (f, g, h) }))))
 
 -- after a backslash stands an escape, and any other octet is raw
-pub escape-first-of : (x : ℕ) (t : List ℕ) → x ≡ backslash → firstOf (x ∷ t) ≡ escapeOf t
-unfolding firstOf pick
+pub escape-first-of : (x : ℕ) (t : List ℕ) → x ≡ backslash → formFirst (x ∷ t) ≡ formEscape t
+unfolding formFirst pick
 escape-first-of x t e = rw (eq-eqb x backslash e)
 
-pub raw-first : (x : ℕ) (t : List ℕ) (b k : ℕ) → (x ≡ backslash → ⊥) → firstOf (x ∷ t) ≡ Stands b k → (x ≡ b) × (k ≡ 1)
-unfolding firstOf pick
+pub raw-first : (x : ℕ) (t : List ℕ) (b k : ℕ) → (x ≡ backslash → ⊥) → formFirst (x ∷ t) ≡ Stands b k → (x ≡ b) × (k ≡ 1)
+unfolding formFirst pick
 raw-first x t b k n e =
     let f = ne-eqb x backslash n in
     test (eqb x newline) (λ g. clash (cc (rw (f, g) at e)))
@@ -86,12 +86,12 @@ octet-form-few b =
 
 -- what a reading from a place says of its octets: they are a form; or the form of octets, and then something that begins with none, where the fault is
 pub data Reads (t : List ℕ) (at : ℕ) : Reading → Type 0 where
-  whole : (bs : List ℕ) → t ≡ resourceForm bs → Reads t at (octets bs)
-  faulty : (p : ℕ) (bs : List ℕ) (x : ℕ) (u : List ℕ) → t ≡ resourceForm bs ++ (x ∷ u) → firstOf (x ∷ u) ≡ Bad
+  whole : (bs : List ℕ) → t ≡ resourceForm bs → Reads t at (stands-for bs)
+  faulty : (p : ℕ) (bs : List ℕ) (x : ℕ) (u : List ℕ) → t ≡ resourceForm bs ++ (x ∷ u) → formFirst (x ∷ u) ≡ Bad
       → p ≡ at + length (resourceForm bs) → Reads t at (fault-at p)
 
 -- the form of an octet before what is read
-reads-before : (b : ℕ) (t : List ℕ) (at : ℕ) (r : Reading) → Reads t (at + length (octetForm b)) r → Reads (octetForm b ++ t) at (before b r)
+reads-before : (b : ℕ) (t : List ℕ) (at : ℕ) (r : Reading) → Reads t (at + length (octetForm b)) r → Reads (octetForm b ++ t) at (putBefore b r)
 unfolding resourceForm
 reads-before b t at r (whole bs e) = whole (b ∷ bs) (ap (λ (x : List ℕ). octetForm b ++ x) e)
 reads-before b t at r (faulty p bs x u e f g) =
@@ -100,7 +100,7 @@ reads-before b t at r (faulty p bs x u e f g) =
 
 -- what stands first, and the reading after it
 reads-first : (x : ℕ) (t : List ℕ) (at : ℕ) → ((k : ℕ) → k ≤ length t → Reads (drop k t) (at + 1 + k) (readFrom t k (at + 1)))
-    → (f : First) → firstOf (x ∷ t) ≡ f → Reads (x ∷ t) at (onFirst at f (λ k. readFrom t k (at + 1)))
+    → (f : First) → formFirst (x ∷ t) ≡ f → Reads (x ∷ t) at (onFirst at f (λ k. readFrom t k (at + 1)))
 unfolding onFirst resourceForm
 reads-first x t at after Bad e = faulty at [] x t refl e (omega arith)
 reads-first x t at after (Stands b k) e =
@@ -112,7 +112,7 @@ reads-first x t at after (Stands b k) e =
     let rest : drop (k - 1) t ≡ drop k (x ∷ t) = ap (λ (j : ℕ). drop j (x ∷ t)) cut in
     let long : suc (length t) ≡ length (octetForm b) + length (drop k (x ∷ t)) = ap length split ∙ length-append (octetForm b) (drop k (x ∷ t)) in
     let place : at + 1 + (k - 1) ≡ at + length (octetForm b) = omega arith in
-    subst (λ (y : List ℕ). Reads y at (before b (readFrom t (k - 1) (at + 1)))) (sym split)
+    subst (λ (y : List ℕ). Reads y at (putBefore b (readFrom t (k - 1) (at + 1)))) (sym split)
     (reads-before b (drop k (x ∷ t)) at (readFrom t (k - 1) (at + 1)) (rw (rest, place) at (after (k - 1) (omega arith))))
 
 -- every reading, of whose octets the first k belong to the escape before
@@ -125,7 +125,7 @@ reads (x ∷ t) (suc k) at h =
     (reads t k (at + 1) (omega arith))
 reads (x ∷ t) zero at h =
     subst (λ (p : ℕ). Reads (x ∷ t) p (readFrom (x ∷ t) 0 at)) (let e : at ≡ at + 0 = omega arith in e)
-    (reads-first x t at (λ k. reads t k (at + 1)) (firstOf (x ∷ t)) refl)
+    (reads-first x t at (λ k. reads t k (at + 1)) (formFirst (x ∷ t)) refl)
 
 -- octets that belong to the escape before are passed
 passed : (t : List ℕ) (k at : ℕ) → k ≤ length t → readFrom t k at ≡ readFrom (drop k t) 0 (at + k)
@@ -136,12 +136,12 @@ passed (x ∷ t) (suc k) at h =
     passed t k (at + 1) (omega arith) ∙ ap (readFrom (drop k t) 0) (let e : at + 1 + k ≡ at + suc k = omega arith in e)
 
 -- a reading by what stands first: a fault, or its octet before the reading of the rest
-pub bad-first : (x : ℕ) (t : List ℕ) (at : ℕ) → firstOf (x ∷ t) ≡ Bad → readFrom (x ∷ t) 0 at ≡ fault-at at
+pub bad-first : (x : ℕ) (t : List ℕ) (at : ℕ) → formFirst (x ∷ t) ≡ Bad → readFrom (x ∷ t) 0 at ≡ fault-at at
 unfolding readFrom onFirst
 bad-first x t at e = ap (λ (f : First). onFirst at f (λ k. readFrom t k (at + 1))) e
 
-pub good-first : (t : List ℕ) (at b k : ℕ) → firstOf t ≡ Stands b k → readFrom t 0 at ≡ before b (readFrom (drop k t) 0 (at + k))
-unfolding readFrom onFirst firstOf
+pub good-first : (t : List ℕ) (at b k : ℕ) → formFirst t ≡ Stands b k → readFrom t 0 at ≡ putBefore b (readFrom (drop k t) 0 (at + k))
+unfolding readFrom onFirst formFirst
 good-first [] at b k e = clash (cc e)
 good-first (x ∷ t) at b k e =
     let first = form-of-first (x ∷ t) e in
@@ -152,22 +152,22 @@ good-first (x ∷ t) at b k e =
     let cut : suc (k - 1) ≡ k = omega arith in
     let place : at + 1 + (k - 1) ≡ at + k = omega arith in
     ap (λ (f : First). onFirst at f (λ j. readFrom t j (at + 1))) e
-    ∙ ap (before b)
+    ∙ ap (putBefore b)
     (passed t (k - 1) (at + 1) (omega arith)
     ∙ ap₂ (λ (y : List ℕ) (p : ℕ). readFrom y 0 p) (ap (λ (j : ℕ). drop j (x ∷ t)) cut) place)
 
 -- octets before what is read
 abbrev pub befores : List ℕ → Reading → Reading
 befores [] r = r
-befores (b ∷ bs) r = before b (befores bs r)
+befores (b ∷ bs) r = putBefore b (befores bs r)
 
-pub befores-octets : (bs cs : List ℕ) → befores bs (octets cs) ≡ octets (bs ++ cs)
+pub befores-octets : (bs cs : List ℕ) → befores bs (stands-for cs) ≡ stands-for (bs ++ cs)
 befores-octets [] cs = refl
-befores-octets (b ∷ bs) cs = ap (before b) (befores-octets bs cs)
+befores-octets (b ∷ bs) cs = ap (putBefore b) (befores-octets bs cs)
 
 pub befores-fault : (bs : List ℕ) (p : ℕ) → befores bs (fault-at p) ≡ fault-at p
 befores-fault [] p = refl
-befores-fault (b ∷ bs) p = ap (before b) (befores-fault bs p)
+befores-fault (b ∷ bs) p = ap (putBefore b) (befores-fault bs p)
 
 pub form-before : (bs t : List ℕ) (at : ℕ) → readFrom (resourceForm bs ++ t) 0 at ≡ befores bs (readFrom t 0 (at + length (resourceForm bs)))
 unfolding resourceForm
@@ -179,6 +179,6 @@ form-before (b ∷ bs) t at =
     omega (arith, length-append (octetForm b) (resourceForm bs)) in
     ap (λ (y : List ℕ). readFrom y 0 at) (append-assoc (octetForm b) (resourceForm bs) t)
     ∙ good-first (octetForm b ++ rest) at b n (first-of-form b rest)
-    ∙ ap (before b)
+    ∙ ap (putBefore b)
     (ap (λ (y : List ℕ). readFrom y 0 (at + n)) (drop-append-seam (octetForm b) rest)
     ∙ form-before bs t (at + n) ∙ ap (λ (p : ℕ). befores bs (readFrom t 0 p)) place)

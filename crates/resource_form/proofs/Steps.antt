@@ -11,7 +11,7 @@ use borrow.Author.Tests.{ltb-true, ltb-false, eqb-true}
 use mir.Val.{boolByte}
 use Rattle.base.proofs.Bools.{test, off}
 use Rattle.base.proofs.Ladder.{from-end, from-from, octet, ended, ladder}
-use Rattle.resource_form.specs.Form.{backslash, newline, nul, digit-0, octetForm, zeroFirst, zerosOf, escapeOf, firstOf}
+use Rattle.resource_form.specs.Form.{backslash, newline, nul, digit-0, octetForm, zeroFirst, formZeros, formEscape, formFirst}
 use Rattle.resource_form.specs.declared.First.{First, the-variants.Stands, the-variants.Bad}
 
 -- a test as a number
@@ -33,29 +33,29 @@ form-size b =
 
 module _ (s : List ℕ) (at : ℕ) (r : First) where
   pub on-first : at < length s
-      → r ≡ pick (eqb (getD s at 0) backslash) (escapeOf (from (at + 1) s))
+      → r ≡ pick (eqb (getD s at 0) backslash) (formEscape (from (at + 1) s))
       (pick (eqb (getD s at 0) newline) Bad (pick (eqb (getD s at 0) nul) Bad (Stands (getD s at 0) 1)))
-      → r ≡ firstOf (from at s)
-  unfolding firstOf
-  on-first h e = octet firstOf s at r h e
+      → r ≡ formFirst (from at s)
+  unfolding formFirst
+  on-first h e = octet formFirst s at r h e
 
-  pub no-first : length s ≤ at → r ≡ Bad → r ≡ firstOf (from at s)
-  unfolding firstOf
-  no-first h e = ended firstOf s at r h e
+  pub no-first : length s ≤ at → r ≡ Bad → r ≡ formFirst (from at s)
+  unfolding formFirst
+  no-first h e = ended formFirst s at r h e
 
   pub on-escape : at < length s
       → r ≡ pick (eqb (getD s at 0) backslash) (Stands backslash 2)
-      (pick (eqb (getD s at 0) 0x6E) (Stands newline 2) (pick (eqb (getD s at 0) digit-0) (zerosOf (from (at + 1) s)) Bad))
-      → r ≡ escapeOf (from at s)
-  unfolding escapeOf
-  on-escape h e = octet escapeOf s at r h e
+      (pick (eqb (getD s at 0) 0x6E) (Stands newline 2) (pick (eqb (getD s at 0) digit-0) (formZeros (from (at + 1) s)) Bad))
+      → r ≡ formEscape (from at s)
+  unfolding formEscape
+  on-escape h e = octet formEscape s at r h e
 
-  pub no-escape : length s ≤ at → r ≡ Bad → r ≡ escapeOf (from at s)
-  unfolding escapeOf
-  no-escape h e = ended escapeOf s at r h e
+  pub no-escape : length s ≤ at → r ≡ Bad → r ≡ formEscape (from at s)
+  unfolding formEscape
+  no-escape h e = ended formEscape s at r h e
 
-  pub on-zeros : r ≡ pick (zeroFirst (from at s)) (pick (zeroFirst (from (at + 1) s)) (Stands nul 4) Bad) Bad → r ≡ zerosOf (from at s)
-  unfolding zerosOf
+  pub on-zeros : r ≡ pick (zeroFirst (from at s)) (pick (zeroFirst (from (at + 1) s)) (Stands nul 4) Bad) Bad → r ≡ formZeros (from at s)
+  unfolding formZeros
   on-zeros e = e ∙ ap (λ (t : List ℕ). pick (zeroFirst (from at s)) (pick (zeroFirst t) (Stands nul 4) Bad) Bad) (sym (from-from s at 1))
 
 module _ (s : List ℕ) (at : ℕ) (r : Bool) where

@@ -15,26 +15,27 @@ use Rattle.base.specs.Limit as limit
 use Rattle.base.specs.Refusal as refusal
 use Rattle.base.specs.Stored.{storedIn}
 use Rattle.base.proofs.Bools.{test, clash, pick-by}
-use Rattle.resource_form.specs.Form.{octetForm, resourceForm, firstOf, Reading, octets, fault-at, readFrom, formReading}
-use Rattle.resource_form.specs.Conversion.{Conversion, refuses, gives, toForm, ofReading, fromForm, givenAnswer, conversionAnswer, conversionOutput}
+use Rattle.resource_form.specs.Form.{octetForm, resourceForm, formFirst, Reading, stands-for, fault-at, readFrom, formReading}
+use Rattle.resource_form.specs.Conversion.{Conversion, refuses, gives, toForm}
+use Rattle.resource_form.specs.Conversion.{readConversion, fromForm, givenAnswer, conversionAnswer, conversionOutput}
 use Rattle.resource_form.specs.declared.First.{the-variants.Bad}
 use Rattle.resource_form.proofs.Readings.{octet-form-few, Reads, whole, faulty, reads, bad-first, befores, befores-octets, befores-fault, form-before}
 
 -- ---- of all octets
 
 -- reading what was written gives the octets back (promise Q1a)
-pub read-of-form : (s : List ℕ) → formReading (resourceForm s) ≡ octets s
+pub read-of-form : (s : List ℕ) → formReading (resourceForm s) ≡ stands-for s
 unfolding readFrom
 read-of-form s =
     ap formReading (sym (append-nil (resourceForm s)))
     ∙ form-before s [] 0
-    ∙ befores-octets s [] ∙ ap octets (append-nil s)
+    ∙ befores-octets s [] ∙ ap stands-for (append-nil s)
 
 -- an accepted form is the only one for its octets (promise Q1b)
-pub form-of-read : (t bs : List ℕ) → formReading t ≡ octets bs → t ≡ resourceForm bs
+pub form-of-read : (t bs : List ℕ) → formReading t ≡ stands-for bs → t ≡ resourceForm bs
 form-of-read t bs e = go (subst (Reads t 0) e (reads t 0 0 (omega arith))) refl
   where
-    go : {r : Reading} → Reads t 0 r → r ≡ octets bs → t ≡ resourceForm bs
+    go : {r : Reading} → Reads t 0 r → r ≡ stands-for bs → t ≡ resourceForm bs
     go (whole cs f) g = f ∙ ap resourceForm (let q : cs ≡ bs = cc g in q)
     go (faulty p cs x u f h k) g = clash (cc g)
 
@@ -55,7 +56,7 @@ pub record FirstFault (t : List ℕ) (p : ℕ) : Type 0 where
   pub after : List ℕ
   pub is : t ≡ resourceForm before ++ (octet ∷ after)
   pub place : p ≡ length (resourceForm before)
-  pub bad : firstOf (octet ∷ after) ≡ Bad
+  pub bad : formFirst (octet ∷ after) ≡ Bad
 
 pub fault-first : (t : List ℕ) (p : ℕ) → formReading t ≡ fault-at p → FirstFault t p
 fault-first t p e = go (subst (Reads t 0) e (reads t 0 0 (omega arith))) refl
@@ -84,27 +85,27 @@ given-form s f e =
     test (ltb limit.octets (length s)) (λ q. clash (cc (rw q at e)))
     (λ q. (ltb-false limit.octets (length s) q, let g : gives (resourceForm s) ≡ gives f = rw q at e in cc g))
 
-given-octets : (t s : List ℕ) → fromForm t ≡ gives s → (length t ≤ limit.form) × (formReading t ≡ octets s) × (length s ≤ limit.octets)
-unfolding fromForm ofReading pick
+given-octets : (t s : List ℕ) → fromForm t ≡ gives s → (length t ≤ limit.form) × (formReading t ≡ stands-for s) × (length s ≤ limit.octets)
+unfolding fromForm readConversion pick
 given-octets t s e = test (ltb limit.form (length t)) (λ q. clash (cc (rw q at e))) (λ q. go (ltb-false _ _ q) (formReading t) refl (rw q at e))
   where
-    go : length t ≤ limit.form → (r : Reading) → formReading t ≡ r → ofReading r ≡ gives s
-        → (length t ≤ limit.form) × (formReading t ≡ octets s) × (length s ≤ limit.octets)
+    go : length t ≤ limit.form → (r : Reading) → formReading t ≡ r → readConversion r ≡ gives s
+        → (length t ≤ limit.form) × (formReading t ≡ stands-for s) × (length s ≤ limit.octets)
     go h (fault-at p) q g = clash (cc g)
-    go h (octets bs) q g =
+    go h (stands-for bs) q g =
         test (ltb limit.octets (length bs)) (λ k. clash (cc (rw k at g)))
         (λ k. let same : gives bs ≡ gives s = rw k at g in let is : bs ≡ s = cc same in
-        (h, q ∙ ap octets is, subst (λ (x : List ℕ). length x ≤ limit.octets) is (ltb-false limit.octets (length bs) k)))
+        (h, q ∙ ap stands-for is, subst (λ (x : List ℕ). length x ≤ limit.octets) is (ltb-false limit.octets (length bs) k)))
 
 -- the form that the writer gives is read as the octets that it was given, and has its place within the limit (promises Q1a, Q1d)
 pub written-read : (s t : List ℕ) → toForm s ≡ gives t → fromForm t ≡ gives s
-unfolding fromForm ofReading pick
+unfolding fromForm readConversion pick
 written-read s t e =
     let given = given-form s t e in
     let short = given .0 in
     let long = form-length s .1 in
     let is = given .1 in
-    let reading : formReading t ≡ octets s = ap formReading (sym is) ∙ read-of-form s in
+    let reading : formReading t ≡ stands-for s = ap formReading (sym is) ∙ read-of-form s in
     rw (le-ltb limit.form (length t) (omega (arith, ap length is)), reading, le-ltb limit.octets (length s) short)
 
 -- a form that the reader accepts is the one that the writer gives for its octets (promise Q1b)
@@ -116,7 +117,7 @@ read-written t s e =
 
 -- a fault comes before what is said of the octets, however many they are (promise Q1e)
 pub fault-wins : (t : List ℕ) (p : ℕ) → length t ≤ limit.form → FirstFault t p → fromForm t ≡ refuses refusal.bad-form p
-unfolding fromForm ofReading pick
+unfolding fromForm readConversion pick
 fault-wins t p h f = rw (le-ltb limit.form (length t) h, fault-there t p f)
 
 -- two forms that are read as the same octets are one
@@ -135,10 +136,10 @@ pub written : (s : List ℕ) → Answered (toForm s)
 unfolding toForm
 written s = pick-by Answered (ltb limit.octets (length s)) (λ _. too-long) (λ _. octets-given (resourceForm s))
 
-of-reading : (r : Reading) → Answered (ofReading r)
-unfolding ofReading
+of-reading : (r : Reading) → Answered (readConversion r)
+unfolding readConversion
 of-reading (fault-at p) = bad-form p
-of-reading (octets bs) = pick-by Answered (ltb limit.octets (length bs)) (λ _. too-long) (λ _. octets-given bs)
+of-reading (stands-for bs) = pick-by Answered (ltb limit.octets (length bs)) (λ _. too-long) (λ _. octets-given bs)
 
 pub read : (t : List ℕ) → Answered (fromForm t)
 unfolding fromForm

@@ -9,7 +9,7 @@ use Rattle.base.specs.Limit as limit
 use Rattle.base.specs.Refusal as refusal
 use Rattle.base.specs.Stored.{storedIn}
 use Rattle.base.specs.declared.Answer.{Answer}
-use Rattle.resource_form.specs.Form.{resourceForm, Reading, octets, fault-at, formReading}
+use Rattle.resource_form.specs.Form.{resourceForm, Reading, stands-for, fault-at, formReading}
 
 -- what an input is converted to: a refusal with its number and place, or octets
 pub data Conversion : Type 0 where
@@ -21,13 +21,13 @@ unfoldable pub toForm : List ℕ → Conversion
 toForm s = pick (ltb limit.octets (length s)) (refuses refusal.too-long 0) (gives (resourceForm s))
 
 -- of a form that was read: its fault first, and then whether the octets are at most 65,535 (rules J1, F4)
-unfoldable pub ofReading : Reading → Conversion
-ofReading (fault-at p) = refuses refusal.bad-form p
-ofReading (octets bs) = pick (ltb limit.octets (length bs)) (refuses refusal.too-long 0) (gives bs)
+unfoldable pub readConversion : Reading → Conversion
+readConversion (fault-at p) = refuses refusal.bad-form p
+readConversion (stands-for bs) = pick (ltb limit.octets (length bs)) (refuses refusal.too-long 0) (gives bs)
 
 -- a form to its string: at most 262,140 octets are read (rules J4, F4)
 unfoldable pub fromForm : List ℕ → Conversion
-fromForm t = pick (ltb limit.form (length t)) (refuses refusal.too-long 0) (ofReading (formReading t))
+fromForm t = pick (ltb limit.form (length t)) (refuses refusal.too-long 0) (readConversion (formReading t))
 
 -- the answer where k octets are given for an input of n, and the output has m: accepted at n with k, or 10 with k, which are needed (rules N1, F4)
 unfoldable pub givenAnswer : ℕ → ℕ → ℕ → Answer

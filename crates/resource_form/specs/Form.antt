@@ -41,43 +41,43 @@ zeroFirst [] = false
 zeroFirst (b ∷ t) = eqb b digit-0
 
 -- after a backslash and a digit 0: two digits 0 more end the escape of an octet 00 (rule F2)
-unfoldable pub zerosOf : List ℕ → First
-zerosOf t = pick (zeroFirst t) (pick (zeroFirst (drop 1 t)) (Stands nul 4) Bad) Bad
+unfoldable pub formZeros : List ℕ → First
+formZeros t = pick (zeroFirst t) (pick (zeroFirst (drop 1 t)) (Stands nul 4) Bad) Bad
 
 -- after a backslash: the octet that the escape stands for, and the octets of the escape (rule F2)
-unfoldable pub escapeOf : List ℕ → First
-escapeOf [] = Bad
-escapeOf (b ∷ t) =
+unfoldable pub formEscape : List ℕ → First
+formEscape [] = Bad
+formEscape (b ∷ t) =
     pick (eqb b backslash) (Stands backslash 2)
     (pick (eqb b letter-n) (Stands newline 2)
-    (pick (eqb b digit-0) (zerosOf t) Bad))
+    (pick (eqb b digit-0) (formZeros t) Bad))
 
 -- what stands first in a form: an escape, or an octet for itself; a raw newline and a raw 00 are bad (rules F2, F3)
-unfoldable pub firstOf : List ℕ → First
-firstOf [] = Bad
-firstOf (b ∷ t) =
-    pick (eqb b backslash) (escapeOf t) (pick (eqb b newline) Bad (pick (eqb b nul) Bad (Stands b 1)))
+unfoldable pub formFirst : List ℕ → First
+formFirst [] = Bad
+formFirst (b ∷ t) =
+    pick (eqb b backslash) (formEscape t) (pick (eqb b newline) Bad (pick (eqb b nul) Bad (Stands b 1)))
 
 -- what a form reads as: the octets that it stands for, or the place of its first fault
 pub data Reading : Type 0 where
-  octets : List ℕ → Reading
+  stands-for : List ℕ → Reading
   fault-at : ℕ → Reading
 
 -- an octet before what the rest reads as
-abbrev pub before : ℕ → Reading → Reading
-before b (octets bs) = octets (b ∷ bs)
-before b (fault-at p) = fault-at p
+abbrev pub putBefore : ℕ → Reading → Reading
+putBefore b (stands-for bs) = stands-for (b ∷ bs)
+putBefore b (fault-at p) = fault-at p
 
 -- what stands first at a place, and what follows: f reads on after so many further octets
 unfoldable pub onFirst : ℕ → First → (ℕ → Reading) → Reading
-onFirst at (Stands b k) f = before b (f (k - 1))
+onFirst at (Stands b k) f = putBefore b (f (k - 1))
 onFirst at Bad f = fault-at at
 
 -- the reading of octets that start at a place, of which k belong to the escape before and are passed
 unfoldable pub readFrom : List ℕ → ℕ → ℕ → Reading
 unfolding onFirst
-readFrom [] k at = octets []
-readFrom (b ∷ t) zero at = onFirst at (firstOf (b ∷ t)) (λ k. readFrom t k (at + 1))
+readFrom [] k at = stands-for []
+readFrom (b ∷ t) zero at = onFirst at (formFirst (b ∷ t)) (λ k. readFrom t k (at + 1))
 readFrom (b ∷ t) (suc k) at = readFrom t k (at + 1)
 
 -- the reading of a form (rules F2, F3)

@@ -2,7 +2,7 @@
 ghost use mathlib.Core.Path.{_≡_};
 ghost use lib.ListN.{length};
 ghost use Rattle.base.specs.Choice.{from};
-ghost use Rattle.resource_form.specs.Form.{octetForm, zeroFirst, zerosOf, escapeOf, firstOf};
+ghost use Rattle.resource_form.specs.Form.{octetForm, zeroFirst, formZeros, formEscape, formFirst};
 
 pub const BACKSLASH: u8 = 0x5C;
 
@@ -40,7 +40,7 @@ pub fn zero_at(form: &[u8], at: usize) -> bool
 
 // The two digits that end the escape of an octet 00, from a place on.
 pub fn zeros_at(form: &[u8], at: usize) -> First
-    ensures { λ r. ⌜ r ≡ zerosOf (from at (now (form .entry))) ⌝ }
+    ensures { λ r. ⌜ r ≡ formZeros (from at (now (form .entry))) ⌝ }
 {
     if !zero_at(form, at) {
         return First::Bad;
@@ -53,7 +53,7 @@ pub fn zeros_at(form: &[u8], at: usize) -> First
 
 // The escape whose octets after the backslash start at a place.
 pub fn escape_at(form: &[u8], at: usize) -> First
-    ensures { λ r. ⌜ r ≡ escapeOf (from at (now (form .entry))) ⌝ }
+    ensures { λ r. ⌜ r ≡ formEscape (from at (now (form .entry))) ⌝ }
 {
     if form.len() <= at {
         return First::Bad;
@@ -73,7 +73,7 @@ pub fn escape_at(form: &[u8], at: usize) -> First
 
 // What stands first in the octets from a place on.
 pub fn first_at(form: &[u8], at: usize) -> First
-    ensures { λ r. ⌜ r ≡ firstOf (from at (now (form .entry))) ⌝ }
+    ensures { λ r. ⌜ r ≡ formFirst (from at (now (form .entry))) ⌝ }
 {
     if form.len() <= at {
         return First::Bad;
