@@ -142,13 +142,6 @@ static struct function others[] = {{"next at the end", run_next_at_end, 0}, {"wr
 
 // ---- what has to hold before anything is measured
 
-static void require(bool holds, const char *what, const char *path, size_t i)
-{
-    if (holds) return;
-    fprintf(stderr, "bench: %s, string %zu: %s\n", path, i, what);
-    exit(1);
-}
-
 static bool same_unit(const ctext_unit *a, const ctext_unit *b) { return a->kind == b->kind && a->set == b->set && a->code == b->code; }
 
 static void prepare_read(const char *path, size_t i)

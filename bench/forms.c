@@ -52,13 +52,6 @@ static const struct function functions[FUNCTIONS] = {
 
 // ---- what has to hold before anything is measured
 
-static void require(bool holds, const char *what, const char *path, size_t i)
-{
-    if (holds) return;
-    fprintf(stderr, "forms: %s, string %zu: %s\n", path, i, what);
-    exit(1);
-}
-
 static bool same_answer(ctext_answer a, ctext_answer b) { return a.number == b.number && a.place == b.place && a.count == b.count; }
 
 // Both converters give the same answer and octets, also with one octet of room too few.

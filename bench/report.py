@@ -194,6 +194,17 @@ def machine():
     return f"{model[1] if model else platform.processor()}, {os.cpu_count()} processors, {platform.system()} {platform.machine()}"
 
 
+def resource_files(forms):
+    return [
+        "## Resource files",
+        "`ctext_resource_write` on the strings of a corpus and `ctext_resource_read` on their forms, each as a ratio to a plain loop in C with the "
+        "same answers (`bench/plain_form.c`), which goes through the octets twice: to check and count, and to store. An octet is one of the "
+        "strings, not of the forms. plain-notes, plain and latin hold nothing that is escaped; backslashes, newlines and zeros are of one octet, "
+        "escapes of these three in random order, half of these and as many letters.",
+        form_ratios(forms),
+    ]
+
+
 def page(corpora, forms):
     base = "limit_table" if all("limit_table" in c.functions for c in corpora) else "yardstick"
     found, code = ladders(), functions_of_archive()
@@ -216,14 +227,7 @@ def page(corpora, forms):
     if base == "limit_table":
         parts += ["The same by `limit_table`, another validator in C, that stood beside the repository in this run:", ratios(corpora, base)]
     if forms:
-        parts += [
-            "## Resource files",
-            "`ctext_resource_write` on the strings of a corpus and `ctext_resource_read` on their forms, each as a ratio to a plain loop in C with the "
-            "same answers (`bench/plain_form.c`), which goes through the octets twice: to check and count, and to store. An octet is one of the "
-            "strings, not of the forms. plain-notes, plain and latin hold nothing that is escaped; backslashes, newlines and zeros are of one octet, "
-            "escapes of these three in random order, half of these and as many letters.",
-            form_ratios(forms),
-        ]
+        parts += resource_files(forms)
     parts += ["## What is asked for", targets(corpora + forms, base)]
     if found:
         parts += [

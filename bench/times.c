@@ -8,6 +8,13 @@
 enum { LADDER_REPETITIONS = 31 };
 static const double SLICE = 2e6; // nanoseconds that a function runs for, at least, before another has its turn
 
+void require(bool holds, const char *what, const char *path, size_t i)
+{
+    if (holds) return;
+    fprintf(stderr, "bench: %s, string %zu: %s\n", path, i, what);
+    exit(1);
+}
+
 static double now(void)
 {
     struct timespec t;

@@ -1,8 +1,13 @@
-// How the benchmark takes times, which are of the thread's processor clock.
+// How the benchmark takes times, which are of the thread's processor clock, and what it asks before.
 #ifndef TIMES_H
 #define TIMES_H
 
+#include <stdbool.h>
+
 #include "corpus.h"
+
+// Ends the program where something does not hold of string number i of the corpus.
+void require(bool holds, const char *what, const char *path, size_t i);
 
 // A function that is measured, on string number i of a corpus.
 struct function {

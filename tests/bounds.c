@@ -396,15 +396,16 @@ static uint8_t *turned(resource_way *way, const uint8_t *s, size_t n, ctext_answ
 {
     size_t needed = way(s, n, NULL, 0).count;
     ctext_answer larger;
-    uint8_t *out;
+    uint8_t *wide, *out;
     if (needed > 0) {
         free(turned_into(way, s, n, needed - 1, a));
         expect(is_answer(*a, CTEXT_NO_ROOM, 0, needed), "a resource's output too short", s, n);
     }
-    out = turned_into(way, s, n, needed > 0 ? needed + 1 : n + 1, &larger);
-    free(out);
+    wide = turned_into(way, s, n, needed > 0 ? needed + 1 : n + 1, &larger);
     out = turned_into(way, s, n, needed, a);
     expect(same_answer(*a, larger), "a resource's exact output", s, n);
+    expect(a->number != CTEXT_ACCEPTED || same_octets(wide, needed, out, needed), "a resource's larger output", s, n);
+    free(wide);
     expect(a->number != CTEXT_ACCEPTED || (a->place == n && a->count == needed), "a resource's answer", s, n);
     return out;
 }

@@ -274,7 +274,7 @@ static void read_forms(const batch *b, enum kind kind, counts *c)
    UTF-8 these hold none of ASCII, and what is no character stays as it is. */
 static int in_locale(const char *locale)
 {
-    need(setlocale(LC_ALL, locale) != NULL && XSupportsLocale(), locale);
+    need(setlocale(LC_CTYPE, locale) != NULL && XSupportsLocale(), locale);
     return MB_CUR_MAX > 1 && strcmp(nl_langinfo(CODESET), "UTF-8") != 0;
 }
 

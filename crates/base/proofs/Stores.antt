@@ -5,7 +5,7 @@ use mathlib.Core.Path.{_≡_, ap, _∙_}
 use mathlib.Core.List.{List, [], _∷_, _++_}
 use lib.ListN.{length, set, drop}
 use lib.Seq.{sets, sets-eq}
-use Rattle.base.specs.Stored.{storedIn}
+use Rattle.base.specs.Output.{storedIn}
 use Rattle.base.proofs.Ladder.{on-le, on-gt}
 
 pub sets-append : (xs ys l : List ℕ) (i : ℕ) → sets (sets l i xs) (i + length xs) ys ≡ sets l i (xs ++ ys)

@@ -4,4 +4,4 @@ pub mod Limit
 pub mod Direction
 pub mod Choice
 pub mod Answers
-pub mod Stored
+pub mod Output

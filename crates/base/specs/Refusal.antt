@@ -5,7 +5,7 @@ use Prim.Native.Nat.{ℕ}
 abbrev pub accepted : ℕ
 accepted = 0
 
--- a string, a list or a shortest writing over its limit
+-- a string, a list, a shortest writing or a resource form over its limit
 abbrev pub too-long : ℕ
 too-long = 1
 

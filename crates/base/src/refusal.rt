@@ -2,7 +2,7 @@
 
 // no refusal
 pub const ACCEPTED: u8 = 0;
-// string or list over the limit, or shortest writing over it
+// string, list, shortest writing or resource form over its limit
 pub const TOO_LONG: u8 = 1;
 // end inside an element
 pub const CUT: u8 = 2;
@@ -20,7 +20,7 @@ pub const BAD_SEGMENT: u8 = 7;
 pub const DIRECTION: u8 = 8;
 // too many directions open
 pub const TOO_DEEP: u8 = 9;
-// output too short
+// list or output too short
 pub const NO_ROOM: u8 = 10;
 // bad unit, no such run, no such reader
 pub const BAD_UNIT: u8 = 11;

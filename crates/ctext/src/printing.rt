@@ -4,7 +4,7 @@ ghost use mathlib.Core.Path.{_≡_};
 ghost use lib.ListN.{length};
 ghost use Rattle.base.specs.Limit.{octets};
 ghost use Rattle.rewrite.specs.Shortest.{shortestAnswer};
-ghost use Rattle.base.specs.Stored.{storedIn};
+ghost use Rattle.base.specs.Output.{storedIn};
 ghost use Rattle.program.specs.Printed.{room, printedOf};
 use program::Printed;
 

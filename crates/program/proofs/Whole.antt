@@ -18,7 +18,7 @@ use Rattle.shortest.proofs.Outcome.{accepted-where, outcome, outcome-is}
 use Rattle.shortest.proofs.Output.{refused-output, accepted-output}
 use Rattle.units.specs.Records.{recordsOf}
 use Rattle.units.proofs.Records.{records-read}
-use Rattle.base.specs.Stored.{storedIn}
+use Rattle.base.specs.Output.{storedIn}
 use Rattle.refusal_line.specs.Line.{refusalLine}
 use Rattle.program.specs.Printed.{room, printedOf}
 use Rattle.base.proofs.Stores.{stored-fits, stored-not}

@@ -3,7 +3,7 @@ ghost use Prim.Native.Nat.{_+_, _≤_};
 ghost use mathlib.Core.Path.{_≡_};
 ghost use lib.ListN.{length, take};
 ghost use Rattle.base.specs.Limit.{octets};
-ghost use Rattle.base.specs.Stored.{storedIn};
+ghost use Rattle.base.specs.Output.{storedIn};
 ghost use Rattle.rewrite.specs.Shortest.{shortestAnswer, shortestOutput};
 ghost use Rattle.program.specs.Printed.{room, printedOf};
 use base::Answer;

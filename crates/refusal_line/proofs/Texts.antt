@@ -4,7 +4,7 @@ use Rattle.element.proofs.Names.{ℕ, zero, suc, _+_, _-_, _*_, _/_, _%_, _^_, 
 use Rattle.element.proofs.Names.{length, getD, set, take, drop, length-set, length-drop, le-ltb, lt-ltb, pick}
 use lib.Seq.{drop-cons, drop-length, take-all, drop-set-lt, getD-set-same, append-snoc}
 use Rattle.base.proofs.Stores.{stored-fits}
-use Rattle.base.specs.Stored.{storedIn}
+use Rattle.base.specs.Output.{storedIn}
 use Rattle.refusal_line.specs.Line.{digit, digits, decimal, refusalLine}
 
 before : (l : List ℕ) (i b : ℕ) → i < length l → drop i (set l i b) ≡ b ∷ drop (suc i) l

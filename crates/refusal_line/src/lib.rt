@@ -3,7 +3,7 @@ ghost use Prim.Native.Nat.{_+_, _-_, _≤_};
 ghost use mathlib.Core.Path.{_≡_};
 ghost use mathlib.Core.List.{_++_};
 ghost use lib.ListN.{length, drop};
-ghost use Rattle.base.specs.Stored.{storedIn};
+ghost use Rattle.base.specs.Output.{storedIn};
 ghost use Rattle.refusal_line.specs.Line.{decimal, refusalLine};
 
 // Puts the octets of a text before the place `end`, and answers where they start.

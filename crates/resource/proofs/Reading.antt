@@ -9,12 +9,12 @@ use lib.ListN.{length, getD, set, drop, length-append, length-set}
 use lib.Seq.{sets, drop-append-seam}
 use borrow.Author.Tests.{ltb-true, ltb-false}
 use Rattle.base.specs.Choice.{from}
-use Rattle.base.specs.Stored.{storedIn}
+use Rattle.base.specs.Output.{storedIn}
 use Rattle.base.proofs.Bools.{test, clash}
 use Rattle.base.proofs.Ladder.{from-octet, from-end, from-from, from-length}
 use Rattle.base.proofs.Stores.{stored-sets}
 use Rattle.resource_form.specs.Form.{backslash, octetForm, resourceForm, formEscape, formFirst}
-use Rattle.resource_form.specs.Form.{Reading, stands-for, fault-at, putBefore, readFrom, formReading}
+use Rattle.resource_form.specs.Form.{FormReading, stands-for, fault-at, putBefore, readFrom, formReading}
 use Rattle.resource_form.specs.declared.First.{First, the-variants.Stands, the-variants.Bad}
 use Rattle.resource_form.proofs.Readings.{octet-form-few, first-of-form, form-of-first, escape-first-of, raw-first, bad-first, good-first}
 use Rattle.resource_form.proofs.Theorems.{form-of-read}
@@ -32,7 +32,7 @@ plus-none : (x : Scan) → plus 0 x ≡ x
 plus-none (Octets m) = ap Octets (let e : 0 + m ≡ m = omega arith in e)
 plus-none (FaultAt p) = refl
 
-plus-one : (n b : ℕ) (r : Reading) → plus n (scanOf (putBefore b r)) ≡ plus (n + 1) (scanOf r)
+plus-one : (n b : ℕ) (r : FormReading) → plus n (scanOf (putBefore b r)) ≡ plus (n + 1) (scanOf r)
 unfolding scanOf
 plus-one n b (stands-for bs) = ap Octets (let e : n + suc (length bs) ≡ n + 1 + length bs = omega arith in e)
 plus-one n b (fault-at p) = refl
@@ -68,7 +68,7 @@ module _ (s : List ℕ) where
         less = omega (arith, within .0);
         is =
             sym (plus-one count b (readFrom (from (at + k) s) 0 (at + k)))
-            ∙ ap (λ (r : Reading). plus count (scanOf r)) (sym step) ∙ l .is;
+            ∙ ap (λ (r : FormReading). plus count (scanOf r)) (sym step) ∙ l .is;
       }
 
   pub looked-bad : (at count : ℕ) (x : First) → at < length s → x ≡ formFirst (from at s) → x ≡ Bad → Looked at count
@@ -78,13 +78,13 @@ module _ (s : List ℕ) where
       let octet = from-octet s at h in
       let bad : readFrom (from at s) 0 at ≡ fault-at at =
       ap (λ (t : List ℕ). readFrom t 0 at) octet ∙ bad-first (getD s at 0) (from (at + 1) s) at (ap formFirst (sym octet) ∙ sym is ∙ e) in
-      ap (λ (r : Reading). plus count (scanOf r)) (sym bad) ∙ l .is
+      ap (λ (r : FormReading). plus count (scanOf r)) (sym bad) ∙ l .is
 
   pub looked-last : (at count : ℕ) → length s ≤ at → Looked at count → Octets count ≡ scanOf (formReading s)
   unfolding scanOf readFrom
   looked-last at count h l =
       let done : readFrom (from at s) 0 at ≡ stands-for [] = ap (λ (t : List ℕ). readFrom t 0 at) (from-end s at h) in
-      ap Octets (let e : count ≡ count + 0 = omega arith in e) ∙ ap (λ (r : Reading). plus count (scanOf r)) (sym done) ∙ l .is
+      ap Octets (let e : count ≡ count + 0 = omega arith in e) ∙ ap (λ (r : FormReading). plus count (scanOf r)) (sym done) ∙ l .is
 
 -- ---- storing
 
@@ -171,6 +171,6 @@ pub form-of-octets : (t : List ℕ) (k : ℕ) → Octets k ≡ scanOf (formReadi
 unfolding scanOf octetsOf
 form-of-octets t k e = go (formReading t) refl e
   where
-    go : (r : Reading) → formReading t ≡ r → Octets k ≡ scanOf r → t ≡ resourceForm (octetsOf r)
+    go : (r : FormReading) → formReading t ≡ r → Octets k ≡ scanOf r → t ≡ resourceForm (octetsOf r)
     go (stands-for bs) q f = form-of-read t bs q
     go (fault-at p) q f = clash (cc f)

@@ -1,5 +1,5 @@
 -- The form of a string from a place on is that of its next octet and that of the rest: so the octets counted and those to come are always those of
--- the whole form (`count-next`), and the output with the rest stored is always the output with the whole form stored (`Along`).
+-- the whole form (`count-next`), and the output with the rest stored is always the output with the whole form stored (`StoredUpTo`).
 use Prim.Native.Nat.{ℕ, _+_, _≤_, _<_}
 use native.Mathlib.Omega.{arith}
 use mathlib.Core.Path.{_≡_, refl, ap, ap₂, sym, _∙_}
@@ -9,7 +9,7 @@ use lib.ListN.{length, getD, length-append}
 use lib.Seq.{sets, length-sets}
 use Rattle.base.specs.Choice.{pick, from}
 use Rattle.base.specs.Limit as limit
-use Rattle.base.specs.Stored.{storedIn}
+use Rattle.base.specs.Output.{storedIn}
 use Rattle.base.proofs.Ladder.{from-octet, from-end}
 use Rattle.base.proofs.Stores.{sets-append, stored-sets}
 use Rattle.resource_form.specs.Form.{backslash, newline, nul, letter-n, digit-0, octetForm, resourceForm}
@@ -52,22 +52,22 @@ module _ (s : List ℕ) where
   count-few i n short c = omega (arith, c .all, form-length s .1)
 
   -- the output as it is at a place of the string and of the output
-  pub record Along (old : List ℕ) (i at : ℕ) (out : List ℕ) : Type 0 where
+  pub record StoredUpTo (old : List ℕ) (i at : ℕ) (out : List ℕ) : Type 0 where
     pub left : at + length (resourceForm (from i s)) ≡ length (resourceForm s)
     pub stored : sets out at (resourceForm (from i s)) ≡ sets old 0 (resourceForm s)
     pub same : length out ≡ length old
 
-  pub along-first : (old : List ℕ) → Along old 0 0 old
-  along-first old = record { left = omega (arith, ap length from-first); stored = ap (sets old 0) from-first; same = refl }
+  pub stored-up-to-first : (old : List ℕ) → StoredUpTo old 0 0 old
+  stored-up-to-first old = record { left = omega (arith, ap length from-first); stored = ap (sets old 0) from-first; same = refl }
 
   -- the next octet's form has room
-  pub along-room : (old : List ℕ) (i at : ℕ) (out : List ℕ) → length (resourceForm s) ≤ length old → i < length s → Along old i at out
+  pub stored-up-to-room : (old : List ℕ) (i at : ℕ) (out : List ℕ) → length (resourceForm s) ≤ length old → i < length s → StoredUpTo old i at out
       → at + length (octetForm (getD s i 0)) ≤ length out
-  along-room old i at out room h a = omega (arith, a .left, a .same, split-length i h)
+  stored-up-to-room old i at out room h a = omega (arith, a .left, a .same, split-length i h)
 
-  pub along-next : (old : List ℕ) (i at : ℕ) (out : List ℕ) (r : ℕ) (next : List ℕ) → i < length s → Along old i at out
-      → r ≡ at + length (octetForm (getD s i 0)) → next ≡ sets out at (octetForm (getD s i 0)) → Along old (i + 1) r next
-  along-next old i at out r next h a e f =
+  pub stored-up-to-next : (old : List ℕ) (i at : ℕ) (out : List ℕ) (r : ℕ) (next : List ℕ) → i < length s → StoredUpTo old i at out
+      → r ≡ at + length (octetForm (getD s i 0)) → next ≡ sets out at (octetForm (getD s i 0)) → StoredUpTo old (i + 1) r next
+  stored-up-to-next old i at out r next h a e f =
       let w = octetForm (getD s i 0) in
       let rest = resourceForm (from (i + 1) s) in
       record {
@@ -78,9 +78,10 @@ module _ (s : List ℕ) where
         same = ap length f ∙ length-sets out at w ∙ a .same;
       }
 
-  pub along-last : (old : List ℕ) (i at : ℕ) (out : List ℕ) → length (resourceForm s) ≤ length old → length s ≤ i → Along old i at out
+  pub stored-up-to-last : (old : List ℕ) (i at : ℕ) (out : List ℕ) → length (resourceForm s) ≤ length old → length s ≤ i
+      → StoredUpTo old i at out
       → out ≡ storedIn (resourceForm s) old
-  along-last old i at out room h a =
+  stored-up-to-last old i at out room h a =
       stored-sets (resourceForm s) old out room (ap (sets out at) (sym (none-left i h)) ∙ a .stored)
 
 -- one octet's form, test by test

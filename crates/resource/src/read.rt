@@ -2,7 +2,7 @@
 ghost use Prim.Native.Nat.{_≤_};
 ghost use mathlib.Core.Path.{_≡_};
 ghost use lib.ListN.{length};
-ghost use Rattle.base.specs.Stored.{storedIn};
+ghost use Rattle.base.specs.Output.{storedIn};
 ghost use Rattle.resource_form.specs.Form.{formReading};
 ghost use Rattle.resource_form.specs.Conversion.{readConversion, fromForm, conversionAnswer, conversionOutput};
 ghost use Rattle.resource.specs.declared.read.Scan.the-variants.{Octets};

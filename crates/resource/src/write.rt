@@ -5,7 +5,7 @@ ghost use mathlib.Core.List.{[], _∷_};
 ghost use lib.ListN.{length};
 ghost use lib.Seq.{sets};
 ghost use Rattle.base.specs.Limit.{octets};
-ghost use Rattle.base.specs.Stored.{storedIn};
+ghost use Rattle.base.specs.Output.{storedIn};
 ghost use Rattle.resource_form.specs.Form.{backslash, digit-0, octetForm, resourceForm};
 ghost use Rattle.resource_form.specs.Conversion.{toForm, conversionAnswer, conversionOutput};
 use base::Answer;

@@ -23,11 +23,11 @@ unfolding zeroFirst formZeros formEscape formFirst onFirst readFrom readConversi
 accepted = (refl, refl)
 
 -- an escape that the end cuts
-pub cut : (fromForm (0x41 ∷ 0x5C ∷ []) ≡ bad 1)
+pub cut-escapes : (fromForm (0x41 ∷ 0x5C ∷ []) ≡ bad 1)
     × (fromForm (0x41 ∷ 0x5C ∷ 0x30 ∷ []) ≡ bad 1)
     × (fromForm (0x41 ∷ 0x5C ∷ 0x30 ∷ 0x30 ∷ []) ≡ bad 1)
 unfolding zeroFirst formZeros formEscape formFirst onFirst readFrom readConversion fromForm pick
-cut = (refl, refl, refl)
+cut-escapes = (refl, refl, refl)
 
 -- a large N, an x and another octal number; a raw newline and a raw 00
 pub refused : (fromForm (0x5C ∷ 0x4E ∷ []) ≡ bad 0)

@@ -1,4 +1,5 @@
 pub mod Steps
 pub mod Readings
 pub mod Theorems
+pub mod Answers
 pub mod Examples

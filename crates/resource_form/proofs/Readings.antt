@@ -13,7 +13,7 @@ use borrow.Author.Tests.{eqb-true, eq-eqb, ne-eqb}
 use Rattle.base.specs.Choice.{pick}
 use Rattle.base.proofs.Bools.{test, clash}
 use Rattle.resource_form.specs.Form.{backslash, newline, nul, letter-n, digit-0, octetForm, resourceForm, zeroFirst, formZeros, formEscape, formFirst}
-use Rattle.resource_form.specs.Form.{Reading, stands-for, fault-at, putBefore, onFirst, readFrom}
+use Rattle.resource_form.specs.Form.{FormReading, stands-for, fault-at, putBefore, onFirst, readFrom}
 use Rattle.resource_form.specs.declared.First.{First, the-variants.Stands, the-variants.Bad}
 
 -- an octet's form is read as that octet, whatever follows it
@@ -85,13 +85,13 @@ octet-form-few b =
     (λ f. rw f (test (eqb b nul) (λ g. rw g (omega arith, omega arith)) (λ g. rw g (omega arith, omega arith))))))
 
 -- what a reading from a place says of its octets: they are a form; or the form of octets, and then something that begins with none, where the fault is
-pub data Reads (t : List ℕ) (at : ℕ) : Reading → Type 0 where
+pub data Reads (t : List ℕ) (at : ℕ) : FormReading → Type 0 where
   whole : (bs : List ℕ) → t ≡ resourceForm bs → Reads t at (stands-for bs)
   faulty : (p : ℕ) (bs : List ℕ) (x : ℕ) (u : List ℕ) → t ≡ resourceForm bs ++ (x ∷ u) → formFirst (x ∷ u) ≡ Bad
       → p ≡ at + length (resourceForm bs) → Reads t at (fault-at p)
 
 -- the form of an octet before what is read
-reads-before : (b : ℕ) (t : List ℕ) (at : ℕ) (r : Reading) → Reads t (at + length (octetForm b)) r → Reads (octetForm b ++ t) at (putBefore b r)
+reads-before : (b : ℕ) (t : List ℕ) (at : ℕ) (r : FormReading) → Reads t (at + length (octetForm b)) r → Reads (octetForm b ++ t) at (putBefore b r)
 unfolding resourceForm
 reads-before b t at r (whole bs e) = whole (b ∷ bs) (ap (λ (x : List ℕ). octetForm b ++ x) e)
 reads-before b t at r (faulty p bs x u e f g) =
@@ -157,7 +157,7 @@ good-first (x ∷ t) at b k e =
     ∙ ap₂ (λ (y : List ℕ) (p : ℕ). readFrom y 0 p) (ap (λ (j : ℕ). drop j (x ∷ t)) cut) place)
 
 -- octets before what is read
-abbrev pub befores : List ℕ → Reading → Reading
+abbrev pub befores : List ℕ → FormReading → FormReading
 befores [] r = r
 befores (b ∷ bs) r = putBefore b (befores bs r)
 

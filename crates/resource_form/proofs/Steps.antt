@@ -11,7 +11,7 @@ use borrow.Author.Tests.{ltb-true, ltb-false, eqb-true}
 use mir.Val.{boolByte}
 use Rattle.base.proofs.Bools.{test, off}
 use Rattle.base.proofs.Ladder.{from-end, from-from, octet, ended, ladder}
-use Rattle.resource_form.specs.Form.{backslash, newline, nul, digit-0, octetForm, zeroFirst, formZeros, formEscape, formFirst}
+use Rattle.resource_form.specs.Form.{backslash, newline, nul, letter-n, digit-0, octetForm, zeroFirst, formZeros, formEscape, formFirst}
 use Rattle.resource_form.specs.declared.First.{First, the-variants.Stands, the-variants.Bad}
 
 -- a test as a number
@@ -45,7 +45,7 @@ module _ (s : List ℕ) (at : ℕ) (r : First) where
 
   pub on-escape : at < length s
       → r ≡ pick (eqb (getD s at 0) backslash) (Stands backslash 2)
-      (pick (eqb (getD s at 0) 0x6E) (Stands newline 2) (pick (eqb (getD s at 0) digit-0) (formZeros (from (at + 1) s)) Bad))
+      (pick (eqb (getD s at 0) letter-n) (Stands newline 2) (pick (eqb (getD s at 0) digit-0) (formZeros (from (at + 1) s)) Bad))
       → r ≡ formEscape (from at s)
   unfolding formEscape
   on-escape h e = octet formEscape s at r h e

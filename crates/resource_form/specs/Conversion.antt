@@ -7,11 +7,11 @@ use Rattle.base.specs.Answers.{answer, refusedAt}
 use Rattle.base.specs.Choice.{pick}
 use Rattle.base.specs.Limit as limit
 use Rattle.base.specs.Refusal as refusal
-use Rattle.base.specs.Stored.{storedIn}
+use Rattle.base.specs.Output.{storedIn}
 use Rattle.base.specs.declared.Answer.{Answer}
-use Rattle.resource_form.specs.Form.{resourceForm, Reading, stands-for, fault-at, formReading}
+use Rattle.resource_form.specs.Form.{resourceForm, FormReading, stands-for, fault-at, formReading}
 
--- what an input is converted to: a refusal with its number and place, or octets
+-- what an input is converted to: a refusal with its number and place, or octets (rule F4)
 pub data Conversion : Type 0 where
   refuses : ℕ → ℕ → Conversion
   gives : List ℕ → Conversion
@@ -21,7 +21,7 @@ unfoldable pub toForm : List ℕ → Conversion
 toForm s = pick (ltb limit.octets (length s)) (refuses refusal.too-long 0) (gives (resourceForm s))
 
 -- of a form that was read: its fault first, and then whether the octets are at most 65,535 (rules J1, F4)
-unfoldable pub readConversion : Reading → Conversion
+unfoldable pub readConversion : FormReading → Conversion
 readConversion (fault-at p) = refuses refusal.bad-form p
 readConversion (stands-for bs) = pick (ltb limit.octets (length bs)) (refuses refusal.too-long 0) (gives bs)
 
@@ -33,7 +33,7 @@ fromForm t = pick (ltb limit.form (length t)) (refuses refusal.too-long 0) (read
 unfoldable pub givenAnswer : ℕ → ℕ → ℕ → Answer
 givenAnswer n k m = pick (leb k m) (answer refusal.accepted n k) (answer refusal.no-room 0 k)
 
--- the answer for an input of n octets and an output of m
+-- the answer for an input of n octets and an output of m (rule F4)
 unfoldable pub conversionAnswer : Conversion → ℕ → ℕ → Answer
 conversionAnswer (refuses number place) n m = refusedAt number place
 conversionAnswer (gives bs) n m = givenAnswer n (length bs) m

@@ -7,7 +7,7 @@ use lib.Dec.{eqb}
 use Rattle.base.specs.Choice.{pick}
 use Rattle.resource_form.specs.declared.First.{First, the-variants.Stands, the-variants.Bad}
 
--- the octets that have a form of their own, and those that stand for them after a backslash
+-- the octets that are written as escapes, and those that stand in an escape after its backslash (rule F1)
 abbrev pub backslash : ℕ
 backslash = 0x5C
 
@@ -35,7 +35,7 @@ unfoldable pub resourceForm : List ℕ → List ℕ
 resourceForm [] = []
 resourceForm (b ∷ bs) = octetForm b ++ resourceForm bs
 
--- whether a digit 0 stands first
+-- whether a digit 0 stands first (rule F2)
 unfoldable pub zeroFirst : List ℕ → Bool
 zeroFirst [] = false
 zeroFirst (b ∷ t) = eqb b digit-0
@@ -58,28 +58,28 @@ formFirst [] = Bad
 formFirst (b ∷ t) =
     pick (eqb b backslash) (formEscape t) (pick (eqb b newline) Bad (pick (eqb b nul) Bad (Stands b 1)))
 
--- what a form reads as: the octets that it stands for, or the place of its first fault
-pub data Reading : Type 0 where
-  stands-for : List ℕ → Reading
-  fault-at : ℕ → Reading
+-- what a form reads as: the octets that it stands for, or the place of its first fault (rules F2, F3)
+pub data FormReading : Type 0 where
+  stands-for : List ℕ → FormReading
+  fault-at : ℕ → FormReading
 
--- an octet before what the rest reads as
-abbrev pub putBefore : ℕ → Reading → Reading
+-- an octet before what the rest reads as (rule F2)
+abbrev pub putBefore : ℕ → FormReading → FormReading
 putBefore b (stands-for bs) = stands-for (b ∷ bs)
 putBefore b (fault-at p) = fault-at p
 
--- what stands first at a place, and what follows: f reads on after so many further octets
-unfoldable pub onFirst : ℕ → First → (ℕ → Reading) → Reading
+-- the reading at a place by what stands there: its octet before what f reads after so many further octets, or a fault there (rules F2, F3)
+unfoldable pub onFirst : ℕ → First → (ℕ → FormReading) → FormReading
 onFirst at (Stands b k) f = putBefore b (f (k - 1))
 onFirst at Bad f = fault-at at
 
--- the reading of octets that start at a place, of which k belong to the escape before and are passed
-unfoldable pub readFrom : List ℕ → ℕ → ℕ → Reading
+-- the reading of octets that start at a place, of which k belong to the escape before and are passed (rule F2)
+unfoldable pub readFrom : List ℕ → ℕ → ℕ → FormReading
 unfolding onFirst
 readFrom [] k at = stands-for []
 readFrom (b ∷ t) zero at = onFirst at (formFirst (b ∷ t)) (λ k. readFrom t k (at + 1))
 readFrom (b ∷ t) (suc k) at = readFrom t k (at + 1)
 
 -- the reading of a form (rules F2, F3)
-abbrev pub formReading : List ℕ → Reading
+abbrev pub formReading : List ℕ → FormReading
 formReading t = readFrom t 0 0

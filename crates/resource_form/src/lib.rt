@@ -29,7 +29,7 @@ pub fn size(octet: u8) -> u8
 }
 
 // Whether a digit 0 stands at a place.
-pub fn zero_at(form: &[u8], at: usize) -> bool
+fn zero_at(form: &[u8], at: usize) -> bool
     ensures { λ r. ⌜ r ≡ zeroFirst (from at (now (form .entry))) ⌝ }
 {
     if form.len() <= at {
@@ -39,7 +39,7 @@ pub fn zero_at(form: &[u8], at: usize) -> bool
 }
 
 // The two digits that end the escape of an octet 00, from a place on.
-pub fn zeros_at(form: &[u8], at: usize) -> First
+fn zeros_at(form: &[u8], at: usize) -> First
     ensures { λ r. ⌜ r ≡ formZeros (from at (now (form .entry))) ⌝ }
 {
     if !zero_at(form, at) {

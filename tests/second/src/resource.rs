@@ -103,7 +103,7 @@ fn first(form: &[u8]) -> Option<(u8, &[u8])> {
     }
 }
 
-/// The request's words, and the open points' of B01.
+/// The request's words, and what docs/DECISIONS.md says of them.
 #[cfg(test)]
 mod tests {
     use super::*;

@@ -1,6 +1,6 @@
 -- `print` meets its contract, by the cases of the answer (proofs/Whole).
 use Rattle.element.proofs.Names.{arith, ap, ap₂, sym, _∙_, length, now}
-use Rattle.base.specs.Stored.{storedIn}
+use Rattle.base.specs.Output.{storedIn}
 use Rattle.program.proofs.Whole.{accepted-form, counted-form, refused-line}
 use Rattle.program.proofs.print.Statement.{statement}
 use Rattle.program.proofs.print.Tie as tie

@@ -2,7 +2,7 @@
 use Rattle.element.proofs.Names.{ℕ, arith, ap, sym, _∙_, List, length, length-take-le, now}
 use lib.Seq.{take-all}
 use Rattle.rewrite.specs.Shortest.{shortestAnswer}
-use Rattle.base.specs.Stored.{storedIn}
+use Rattle.base.specs.Output.{storedIn}
 use Rattle.program.specs.Printed.{room, printedOf}
 use Rattle.program.proofs.print_input.Statement.{statement}
 use Rattle.program.proofs.print_input.Tie as tie

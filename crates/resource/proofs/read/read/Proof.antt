@@ -1,7 +1,8 @@
 -- `resource::read::read` meets its contract, by what it calls and the laws of `Conversions`.
 use native.Mathlib.Omega.{arith}
 use mathlib.Core.Path.{_∙_, sym}
-use Rattle.resource.proofs.Conversions.{converted-refused, converted-as, form-over, form-within, reading-faulty}
+use Rattle.resource_form.proofs.Answers.{form-over, form-within}
+use Rattle.resource.proofs.Conversions.{converted-refused, converted-as, reading-faulty}
 use Rattle.resource.proofs.read.read.Statement.{statement}
 use Rattle.resource.proofs.read.read.Tie as tie
 

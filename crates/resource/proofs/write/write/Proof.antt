@@ -1,6 +1,7 @@
 -- `resource::write::write` meets its contract, by what it calls and the laws of `Conversions`.
 use native.Mathlib.Omega.{arith}
-use Rattle.resource.proofs.Conversions.{converted-refused, converted-short, converted-fits, string-over, string-within}
+use Rattle.resource_form.proofs.Answers.{string-over, string-within}
+use Rattle.resource.proofs.Conversions.{converted-refused, converted-short, converted-fits}
 use Rattle.resource.proofs.write.write.Statement.{statement}
 use Rattle.resource.proofs.write.write.Tie as tie
 

@@ -1,4 +1,4 @@
--- How octets are stored in an output that was lent (rule N7).
+-- How octets are stored in an output that was lent (rules F5, P4).
 use Prim.Native.Nat.{ℕ}
 use mathlib.Core.List.{List, _++_}
 use lib.ListN.{length, drop}
