@@ -14,10 +14,7 @@ sets-append (x ∷ xs) ys l i =
     ap (λ (k : ℕ). sets (sets (set l i x) (suc i) xs) k ys) (let e : i + suc (length xs) ≡ suc i + length xs = omega arith in e)
     ∙ sets-append xs ys (set l i x) (suc i)
 
--- two and four octets stored
-pub sets-2 : (l : List ℕ) (at a b : ℕ) → set (set l at a) (at + 1) b ≡ sets l at (a ∷ b ∷ [])
-sets-2 l at a b = let e : at + 1 ≡ suc at = omega arith in rw e
-
+-- four octets stored
 pub sets-4 : (l : List ℕ) (at a b c d : ℕ) → set (set (set (set l at a) (at + 1) b) (at + 2) c) (at + 3) d ≡ sets l at (a ∷ b ∷ c ∷ d ∷ [])
 sets-4 l at a b c d =
     let e : at + 1 ≡ suc at = omega arith in

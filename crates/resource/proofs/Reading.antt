@@ -5,7 +5,7 @@ use native.Mathlib.Omega.{arith}
 use mathlib.Core.Path.{_≡_, refl, ap, ap₂, sym, _∙_}
 use mathlib.Core.List.{List, [], _∷_, _++_}
 use lib.Dec.{ltb}
-use lib.ListN.{length, getD, set, drop, length-append, length-set}
+use lib.ListN.{length, getD, set, drop, length-set}
 use lib.Seq.{sets, drop-append-seam}
 use borrow.Author.Tests.{ltb-true, ltb-false}
 use Rattle.base.specs.Choice.{from}
@@ -16,7 +16,7 @@ use Rattle.base.proofs.Stores.{stored-sets}
 use Rattle.resource_form.specs.Form.{backslash, octetForm, resourceForm, formEscape, formFirst}
 use Rattle.resource_form.specs.Form.{FormReading, stands-for, fault-at, putBefore, readFrom, formReading}
 use Rattle.resource_form.specs.declared.First.{First, the-variants.Stands, the-variants.Bad}
-use Rattle.resource_form.proofs.Readings.{octet-form-few, first-of-form, form-of-first, escape-first-of, raw-first, bad-first, good-first}
+use Rattle.resource_form.proofs.Readings.{first-of-form, first-few, escape-first-of, raw-first, bad-first, good-first}
 use Rattle.resource_form.proofs.Theorems.{form-of-read}
 use Rattle.resource.specs.Scan.{scanOf, octetsOf}
 use Rattle.resource.specs.declared.read.Scan.{Scan, the-variants.Octets, the-variants.FaultAt}
@@ -50,10 +50,8 @@ module _ (s : List ℕ) where
   -- what stands first has one octet at least, and lies within the form
   pub first-within : (at b k : ℕ) (x : First) → at < length s → x ≡ formFirst (from at s) → x ≡ Stands b k → (1 ≤ k) × (at + k ≤ length s)
   first-within at b k x h is e =
-      let first = form-of-first (from at s) (sym is ∙ e) in
-      let long = ap length (first .is) ∙ length-append (octetForm b) (drop k (from at s)) in
-      let size = first .size in
-      (omega (arith, octet-form-few b .0, size), omega (arith, long, size, from-length s at))
+      let few = first-few b k (from at s) (sym is ∙ e) in
+      (few .0, omega (arith, few .1, from-length s at))
 
   pub looked-next : (at count b k : ℕ) (x : First) → at < length s → x ≡ formFirst (from at s) → x ≡ Stands b k → Looked at count
       → Looked (at + k) (count + 1)

@@ -14,7 +14,7 @@ use resource_form::BACKSLASH;
 use resource_form::First;
 
 // A form looked over: how many octets it stands for, or the place of its first fault.
-pub enum Scan {
+enum Scan {
     Octets(usize),
     FaultAt(usize),
 }

@@ -5,6 +5,7 @@ use Prim.Native.Nat.{ℕ, zero, suc, _+_, _-_, _≤_}
 use native.Mathlib.Omega.{arith}
 use native.Mathlib.Nat.{not-suc-le-zero}
 use mathlib.Core.Path.{_≡_, refl, ap, ap₂, sym, _∙_, subst}
+use mathlib.Core.Bool.{false}
 use mathlib.Core.List.{List, [], _∷_, _++_, append-assoc}
 use lib.Dec.{eqb}
 use lib.ListN.{length, drop, length-append}
@@ -16,14 +17,19 @@ use Rattle.resource_form.specs.Form.{backslash, newline, nul, letter-n, 
 use Rattle.resource_form.specs.Form.{FormReading, stands-for, fault-at, putBefore, onFirst, readFrom}
 use Rattle.resource_form.specs.declared.First.{First, the-variants.Stands, the-variants.Bad}
 
+-- what holds of the three octets that are escaped, and of any other, holds of every octet
+pub each-octet : (P : ℕ → Type 0) → P backslash → P newline → P nul
+    → ((b : ℕ) → eqb b backslash ≡ false → eqb b newline ≡ false → eqb b nul ≡ false → P b) → (b : ℕ) → P b
+each-octet P x y z other b =
+    test (eqb b backslash) (λ e. subst P (sym (eqb-true b backslash e)) x)
+    (λ e. test (eqb b newline) (λ f. subst P (sym (eqb-true b newline f)) y)
+    (λ f. test (eqb b nul) (λ g. subst P (sym (eqb-true b nul g)) z) (λ g. other b e f g)))
+
 -- an octet's form is read as that octet, whatever follows it
 pub first-of-form : (b : ℕ) (t : List ℕ) → formFirst (octetForm b ++ t) ≡ Stands b (length (octetForm b))
 unfolding octetForm formFirst formEscape zeroFirst formZeros pick
 first-of-form b t =
-    test (eqb b backslash) (λ e. rw (e, eqb-true b backslash e))
-    (λ e. rw e
-    (test (eqb b newline) (λ f. rw (f, eqb-true b newline f))
-    (λ f. rw f (test (eqb b nul) (λ g. rw (g, eqb-true b nul g)) (λ g. rw (g, e, f, g))))))
+    each-octet (λ c. formFirst (octetForm c ++ t) ≡ Stands c (length (octetForm c))) refl refl refl (λ c e f g. rw (e, f, g, e, f, g)) b
 
 -- what stands first is the form of its octet
 pub record Starts (b k : ℕ) (t : List ℕ) : Type 0 where
@@ -78,11 +84,17 @@ raw-first x t b k n e =
 -- a form has one to four octets for each octet
 pub octet-form-few : (b : ℕ) → (1 ≤ length (octetForm b)) × (length (octetForm b) ≤ 4)
 unfolding octetForm pick
-octet-form-few b =
-    test (eqb b backslash) (λ e. rw e (omega arith, omega arith))
-    (λ e. rw e
-    (test (eqb b newline) (λ f. rw f (omega arith, omega arith))
-    (λ f. rw f (test (eqb b nul) (λ g. rw g (omega arith, omega arith)) (λ g. rw g (omega arith, omega arith))))))
+octet-form-few =
+    each-octet (λ b. (1 ≤ length (octetForm b)) × (length (octetForm b) ≤ 4)) (omega arith, omega arith) (omega arith, omega arith)
+    (omega arith, omega arith) (λ b e f g. rw (e, f, g) (omega arith, omega arith))
+
+-- what stands first has one octet at least, and lies within its octets
+pub first-few : (b k : ℕ) (t : List ℕ) → formFirst t ≡ Stands b k → (1 ≤ k) × (k ≤ length t)
+first-few b k t e =
+    let first = form-of-first t e in
+    let long = ap length (first .is) ∙ length-append (octetForm b) (drop k t) in
+    let size = first .size in
+    (omega (arith, octet-form-few b .0, size), omega (arith, long, size))
 
 -- what a reading from a place says of its octets: they are a form; or the form of octets, and then something that begins with none, where the fault is
 pub data Reads (t : List ℕ) (at : ℕ) : FormReading → Type 0 where
@@ -105,15 +117,12 @@ unfolding onFirst resourceForm
 reads-first x t at after Bad e = faulty at [] x t refl e (omega arith)
 reads-first x t at after (Stands b k) e =
     let first = form-of-first (x ∷ t) e in
-    let one = octet-form-few b .0 in
-    let split : x ∷ t ≡ octetForm b ++ drop k (x ∷ t) = first .is in
-    let size : k ≡ length (octetForm b) = first .size in
-    let cut : suc (k - 1) ≡ k = omega arith in
+    let few : (1 ≤ k) × (k ≤ suc (length t)) = first-few b k (x ∷ t) e in
+    let cut : suc (k - 1) ≡ k = omega (arith, few) in
     let rest : drop (k - 1) t ≡ drop k (x ∷ t) = ap (λ (j : ℕ). drop j (x ∷ t)) cut in
-    let long : suc (length t) ≡ length (octetForm b) + length (drop k (x ∷ t)) = ap length split ∙ length-append (octetForm b) (drop k (x ∷ t)) in
-    let place : at + 1 + (k - 1) ≡ at + length (octetForm b) = omega arith in
-    subst (λ (y : List ℕ). Reads y at (putBefore b (readFrom t (k - 1) (at + 1)))) (sym split)
-    (reads-before b (drop k (x ∷ t)) at (readFrom t (k - 1) (at + 1)) (rw (rest, place) at (after (k - 1) (omega arith))))
+    let place : at + 1 + (k - 1) ≡ at + length (octetForm b) = omega (arith, few, first .size) in
+    subst (λ (y : List ℕ). Reads y at (putBefore b (readFrom t (k - 1) (at + 1)))) (sym (first .is))
+    (reads-before b (drop k (x ∷ t)) at (readFrom t (k - 1) (at + 1)) (rw (rest, place) at (after (k - 1) (omega (arith, few)))))
 
 -- every reading, of whose octets the first k belong to the escape before
 pub reads : (t : List ℕ) (k at : ℕ) → k ≤ length t → Reads (drop k t) (at + k) (readFrom t k at)
@@ -144,16 +153,12 @@ pub good-first : (t : List ℕ) (at b k : ℕ) → formFirst t ≡ Stands b k �
 unfolding readFrom onFirst formFirst
 good-first [] at b k e = clash (cc e)
 good-first (x ∷ t) at b k e =
-    let first = form-of-first (x ∷ t) e in
-    let split : x ∷ t ≡ octetForm b ++ drop k (x ∷ t) = first .is in
-    let size : k ≡ length (octetForm b) = first .size in
-    let one = octet-form-few b .0 in
-    let long : suc (length t) ≡ length (octetForm b) + length (drop k (x ∷ t)) = ap length split ∙ length-append (octetForm b) (drop k (x ∷ t)) in
-    let cut : suc (k - 1) ≡ k = omega arith in
-    let place : at + 1 + (k - 1) ≡ at + k = omega arith in
+    let few : (1 ≤ k) × (k ≤ suc (length t)) = first-few b k (x ∷ t) e in
+    let cut : suc (k - 1) ≡ k = omega (arith, few) in
+    let place : at + 1 + (k - 1) ≡ at + k = omega (arith, few) in
     ap (λ (f : First). onFirst at f (λ j. readFrom t j (at + 1))) e
     ∙ ap (putBefore b)
-    (passed t (k - 1) (at + 1) (omega arith)
+    (passed t (k - 1) (at + 1) (omega (arith, few))
     ∙ ap₂ (λ (y : List ℕ) (p : ℕ). readFrom y 0 p) (ap (λ (j : ℕ). drop j (x ∷ t)) cut) place)
 
 -- octets before what is read

@@ -1,18 +1,19 @@
 -- The ladder's rules for what the octets of a form start, and the length of an octet's form.
 use Prim.Native.Nat.{ℕ, _+_, _*_, _≤_, _<_}
 use native.Mathlib.Omega.{arith}
-use mathlib.Core.Path.{_≡_, ap, sym, _∙_}
+use mathlib.Core.Path.{_≡_, refl, ap, sym, _∙_}
 use mathlib.Core.Bool.{Bool, true, false}
 use mathlib.Core.List.{List}
 use lib.Dec.{eqb, ltb}
 use lib.ListN.{length, getD}
 use Rattle.base.specs.Choice.{pick, from}
-use borrow.Author.Tests.{ltb-true, ltb-false, eqb-true}
+use borrow.Author.Tests.{ltb-true, ltb-false}
 use mir.Val.{boolByte}
 use Rattle.base.proofs.Bools.{test, off}
 use Rattle.base.proofs.Ladder.{from-end, from-from, octet, ended, ladder}
 use Rattle.resource_form.specs.Form.{backslash, newline, nul, letter-n, digit-0, octetForm, zeroFirst, formZeros, formEscape, formFirst}
 use Rattle.resource_form.specs.declared.First.{First, the-variants.Stands, the-variants.Bad}
+use Rattle.resource_form.proofs.Readings.{each-octet}
 
 -- a test as a number
 byte-few : (t : Bool) → boolByte t ≤ 1
@@ -25,11 +26,9 @@ tests-few b = (byte-few (eqb b backslash), byte-few (eqb b newline), byte-few (e
 -- the length of a form, by the three tests, of which at most one holds
 pub form-size : (b : ℕ) → 1 + boolByte (eqb b backslash) + boolByte (eqb b newline) + boolByte (eqb b nul) * 3 ≡ length (octetForm b)
 unfolding octetForm pick
-form-size b =
-    test (eqb b backslash) (λ e. rw (eqb-true b backslash e))
-    (λ e. rw e
-    (test (eqb b newline) (λ f. rw (eqb-true b newline f))
-    (λ f. rw f (test (eqb b nul) (λ g. rw (eqb-true b nul g)) (λ g. rw g)))))
+form-size =
+    each-octet (λ b. 1 + boolByte (eqb b backslash) + boolByte (eqb b newline) + boolByte (eqb b nul) * 3 ≡ length (octetForm b)) refl refl refl
+    (λ b e f g. rw (e, f, g))
 
 module _ (s : List ℕ) (at : ℕ) (r : First) where
   pub on-first : at < length s

@@ -15,7 +15,7 @@ pub const LETTER_N: u8 = 0x6E;
 
 pub const DIGIT_0: u8 = 0x30;
 
-// What stands first in a form: an octet, with the octets of its form, or nothing that a form may begin with.
+// What stands first in a form: an octet and the number of octets that stand for it, or nothing that a form may begin with.
 pub enum First {
     Stands(u8, usize),
     Bad,

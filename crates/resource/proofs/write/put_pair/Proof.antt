@@ -2,8 +2,9 @@
 use native.Mathlib.Omega.{arith}
 use mathlib.Core.Path.{refl}
 use denote.Ref.{now}
+use mathlib.Core.List.{[], _∷_}
 use lib.ListN.{length-set}
-use Rattle.base.proofs.Stores.{sets-2}
+use Rattle.base.proofs.Stores.{sets-append}
 use Rattle.resource_form.specs.Form.{backslash}
 use Rattle.resource.proofs.write.put_pair.Statement.{statement}
 use Rattle.resource.proofs.write.put_pair.Tie as tie
@@ -17,4 +18,4 @@ put-pair-spec =
     (λ c. simp length-set (omega (arith, c .pre)))
     (λ c. omega (arith, c .pre))
     (search (length-set, arith))
-    (λ c. (refl, sets-2 (now (c .args .out)) (c .args .at) backslash (c .args .after))))
+    (λ c. (refl, sets-append (backslash ∷ []) (c .args .after ∷ []) (now (c .args .out)) (c .args .at))))
