@@ -1,10 +1,10 @@
 -- The direction rule by steps is that over counts of marks and text (`Lawful`): the directions after a list of units keep what the counts of marks and
 -- of text say (`Like`), and a unit may follow exactly where its step goes on (`After`).
 use Rattle.element.proofs.Names.{ℕ, _+_, _≤_, _<_, arith, _≡_, refl, Bool, true, false, true≢false, List, [], _∷_, _↔_, inl, inr, ⊎-elim, eqb}
-use Rattle.element.proofs.Names.{ltb, pick, directions, undirected, writtenOf, deeperOf, begunOf, revertedOf, stepOf, off, pick-by, tested, Directions, Step}
+use Rattle.element.proofs.Names.{ltb, pick, directions, undirected, writtenOf, deeperOf, begunOf, revertedOf, stepOf, off, pick-by, test, tested, Directions, Step}
 use Rattle.element.proofs.Names.{Goes, Stops}
 use Rattle.base.specs.Limit as limit
-use Rattle.grammar.specs.Units.{TextUnit, char, space, control, tab, newline, ltr, rtl, revert, ext, counts}
+use Rattle.grammar.specs.Units.{TextUnit, char, space, control, tab, newline, ltr, rtl, revert, ext, textOctets, counts}
 use Rattle.grammar.specs.Grammar.{TextMay, BeginMay, May, begins, reverts, addIf, Lawful}
 use Rattle.grammar.specs.Reading.{direct}
 
@@ -99,7 +99,10 @@ module _ (d : Directions) (b r t : ℕ) (l : Like d b r t) where
   step (control ltr) = likewise (λ o. search off) (λ m. m .begin refl) (begun d b r t l 0)
   step (control rtl) = likewise (λ o. search off) (λ m. m .begin refl) (begun d b r t l 1)
   step (control revert) = likewise (λ o. search off) (λ m. m .revert refl) (reverted d b r t l)
-  step (ext c xs) = goes (search off) l
+  step (ext c xs) =
+      test (ltb 0 (textOctets xs))
+      (λ e. rw e (likewise (λ o. record { text = λ _. o; begin = off; revert = off }) (λ m. m .text e) (written d b r t l)))
+      (λ e. rw e (goes (record { text = λ z. off (rw e at z); begin = off; revert = off }) l))
 
 same : (us : List TextUnit) (d : Directions) (b r t : ℕ) → Like d b r t → Same us d b r t
 unfolding directed Lawful

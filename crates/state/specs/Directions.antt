@@ -1,6 +1,6 @@
 -- The direction rule, unit by unit (rules E5 to E9, E12).
 use Prim.Native.Nat.{ℕ, _+_, _*_, _%_, _/_, _-_, _^_}
-use mathlib.Core.Bool.{Bool, true, false}
+use mathlib.Core.Bool.{Bool, true, false, _||_, _&&_}
 use lib.Dec.{eqb, ltb}
 use Rattle.base.specs.Choice.{pick}
 use Rattle.base.specs.Refusal as refusal
@@ -18,9 +18,10 @@ directions depth levels marked texted = record { depth = depth; levels = levels;
 abbrev pub undirected : Directions
 undirected = directions 0 0 false false
 
--- what counts as text, by a unit's kind and the octets of an extended segment's text: characters and spaces alone (rule E9)
+-- what counts as text, by a unit's kind and the octets of an extended segment's text: characters, spaces, and a segment whose text is not
+-- empty (rule E9, as request No. 2 has it; document 01 had no segment count)
 abbrev pub countsAsText : ℕ → ℕ → Bool
-countsAsText k text = ltb k 2
+countsAsText k text = ltb k kind.tab || (eqb k kind.segment && ltb 0 text)
 
 -- text: where a mark was read a direction has to be open (rule E7)
 unfoldable pub writtenOf : Directions → Step

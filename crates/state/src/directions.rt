@@ -25,7 +25,7 @@ pub enum Step {
 pub fn counts_as_text(kind: u8, text: usize) -> bool
     ensures { λ r. ⌜ r ≡ countsAsText kind text ⌝ }
 {
-    kind < 2
+    kind < kind::TAB || (kind == kind::SEGMENT && 0 < text)
 }
 
 impl Directions {
