@@ -6,3 +6,4 @@ pub mod Sound
 pub mod Good
 pub mod Complete
 pub mod Agrees
+pub mod Before
