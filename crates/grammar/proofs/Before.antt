@@ -1,12 +1,13 @@
--- What request No. 2 changed, and nothing else. The direction rule before it has names of its own here: no extended segment counts as text
+-- What request No. 2 asks: an extended segment with text steps as a space does (`text-counts`), and one without text changes no direction
+-- (`empty-free`). What it changed, and nothing else. The direction rule before it has names of its own here: no extended segment counts as text
 -- (`countedBefore`), and the reader by it is `checkBefore` and `readingBefore`. A string without an extended segment that has text is read as
 -- before (`as-before`); any string is read as before, or is refused 8 now (`changed`), so what is accepted was accepted before (`accepted-before`).
 -- Both by one walk over the elements (`walk`): the shapes are the same, and the steps by the two rules are compared unit by unit.
-use Rattle.element.proofs.Names.{ℕ, zero, suc, _+_, _-_, _*_, _/_, _%_, _^_, arith, _≡_, refl, sym, ap, _∙_, subst, Bool, true, false, true≢false, not}
-use Rattle.element.proofs.Names.{_&&_, List, [], _∷_, _⊎_, inl, inr, ⊎-elim, eqb, ltb, length, drop, eqb-true, clash, off, test, pick, and-left}
-use Rattle.element.proofs.Names.{and-right, put, on, fresh, directions, undirected, writtenOf, deeperOf, begunOf, revertedOf, stepOf, designatedOf}
-use Rattle.element.proofs.Names.{Sets, Directions, State, Step, Goes, Stops, Part, Shape, Refuses, Designates, Gives, Element, End, Refused, Silent}
-use Rattle.element.proofs.Names.{Answer, refusedAt}
+use Rattle.element.proofs.Names.{ℕ, zero, suc, _+_, _-_, _*_, _/_, _%_, _^_, _≤_, arith, _≡_, refl, sym, ap, _∙_, subst, Bool, true, false}
+use Rattle.element.proofs.Names.{true≢false, not, _&&_, List, [], _∷_, _⊎_, inl, inr, ⊎-elim, eqb, ltb, length, drop, eqb-true, lt-ltb}
+use Rattle.element.proofs.Names.{clash, off, test, pick, and-left, and-right, put, on, fresh, directions, undirected, writtenOf, deeperOf, begunOf}
+use Rattle.element.proofs.Names.{revertedOf, stepOf, designatedOf, Sets, Directions, State, Step, Goes, Stops, Part, Shape, Refuses, Designates}
+use Rattle.element.proofs.Names.{Gives, Element, End, Refused, Silent, Answer, refusedAt}
 use Rattle.base.specs.Kind as kind
 use Rattle.base.specs.Limit as limit
 use Rattle.base.specs.Refusal as refusal
@@ -15,9 +16,20 @@ use Rattle.state.specs.State.{state}
 use Rattle.state.specs.declared.elements.Shape.the-variants.{Ends}
 use Rattle.element.specs.Element.{shapeOf, steppedOf, directedOf}
 use Rattle.element.proofs.Sizes.{Counted, counted, shape-counted}
-use Rattle.grammar.specs.Units.{TextUnit}
-use Rattle.grammar.specs.Reading.{Elements, end-at, refused-at, silent-at, found-at, size, onward, elements, elementsOf, answerOf, checkOf}
+use Rattle.grammar.specs.Units.{TextUnit, space, ext, textOctets}
+use Rattle.grammar.specs.Reading.{Elements, end-at, silent-at, found-at, size, onward, elements, elementsOf, answerOf, checkOf, direct}
 use Rattle.grammar.specs.Reading.{unitAt, unitsOf, readingOf}
+
+-- ---- what the request asks
+
+module _ (d : Directions) (e : ℕ) (xs : List ℕ) where
+  pub text-counts : 1 ≤ textOctets xs → direct d (ext e xs) ≡ direct d space
+  unfolding stepOf pick
+  text-counts h = rw (lt-ltb 0 (textOctets xs) h)
+
+  pub empty-free : textOctets xs ≡ 0 → direct d (ext e xs) ≡ Goes d
+  unfolding stepOf pick
+  empty-free h = rw h
 
 -- ---- the rule before the request, and the reader by it
 

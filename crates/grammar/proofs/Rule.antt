@@ -4,7 +4,7 @@ use Rattle.element.proofs.Names.{ℕ, _+_, _≤_, _<_, arith, _≡_, refl, Bool
 use Rattle.element.proofs.Names.{ltb, pick, directions, undirected, writtenOf, deeperOf, begunOf, revertedOf, stepOf, off, pick-by, test, tested, Directions, Step}
 use Rattle.element.proofs.Names.{Goes, Stops}
 use Rattle.base.specs.Limit as limit
-use Rattle.grammar.specs.Units.{TextUnit, char, space, control, tab, newline, ltr, rtl, revert, ext, textOctets, counts}
+use Rattle.grammar.specs.Units.{TextUnit, char, space, control, tab, newline, ltr, rtl, revert, ext, counts}
 use Rattle.grammar.specs.Grammar.{TextMay, BeginMay, May, begins, reverts, addIf, Lawful}
 use Rattle.grammar.specs.Reading.{direct}
 
@@ -17,7 +17,7 @@ unfoldable pub directed : List TextUnit → Directions → Bool
 directed [] d = true
 directed (u ∷ us) d = passes (direct d u) (λ next. directed us next)
 
--- the directions after b marks that begin, r that revert, and t characters and spaces
+-- the directions after b marks that begin, r that revert, and t units of text
 record Like (d : Directions) (b r t : ℕ) : Type 0 where
   open-now : d .depth + r ≡ b
   marks : d .marked ≡ true → 1 ≤ b + r
@@ -100,7 +100,7 @@ module _ (d : Directions) (b r t : ℕ) (l : Like d b r t) where
   step (control rtl) = likewise (λ o. search off) (λ m. m .begin refl) (begun d b r t l 1)
   step (control revert) = likewise (λ o. search off) (λ m. m .revert refl) (reverted d b r t l)
   step (ext c xs) =
-      test (ltb 0 (textOctets xs))
+      test (counts (ext c xs))
       (λ e. rw e (likewise (λ o. record { text = λ _. o; begin = off; revert = off }) (λ m. m .text e) (written d b r t l)))
       (λ e. rw e (goes (record { text = λ z. off (rw e at z); begin = off; revert = off }) l))
 

@@ -61,7 +61,7 @@ textIn space = 0
 textIn (control x) = 0
 textIn (ext e xs) = textOctets xs
 
--- whether a unit counts as text for the direction rule
+-- whether a unit counts as text for the direction rule (rule E9)
 abbrev pub counts : TextUnit → Bool
 counts u = countsAsText (kindOf u) (textIn u)
 

@@ -13,3 +13,4 @@ pub mod Output
 pub mod Demand3
 pub mod Unused
 pub mod CheckedStrings
+pub mod Before

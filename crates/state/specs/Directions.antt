@@ -18,8 +18,8 @@ directions depth levels marked texted = record { depth = depth; levels = levels;
 abbrev pub undirected : Directions
 undirected = directions 0 0 false false
 
--- what counts as text, by a unit's kind and the octets of an extended segment's text: characters, spaces, and a segment whose text is not
--- empty (rule E9, as request No. 2 has it; document 01 had no segment count)
+-- what counts as text, by a unit's kind and the octets of an extended segment's text: a character, a space, and a segment whose text is not
+-- empty (rule E9). So request No. 2 has it, in the place of document 01's exception, by which no segment counted
 abbrev pub countsAsText : ℕ → ℕ → Bool
 countsAsText k text = ltb k kind.tab || (eqb k kind.segment && ltb 0 text)
 

@@ -21,7 +21,8 @@ pub enum Step {
     Stops(u8),
 }
 
-// Whether a unit counts as text for the direction rule, by its kind and the octets of an extended segment's text.
+// Whether a unit counts as text for the direction rule, by its kind and the octets of an extended segment's text: a character, a space, a segment
+// with text.
 pub fn counts_as_text(kind: u8, text: usize) -> bool
     ensures { λ r. ⌜ r ≡ countsAsText kind text ⌝ }
 {

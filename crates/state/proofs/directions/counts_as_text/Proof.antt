@@ -1,5 +1,4 @@
 -- `directions::counts_as_text` meets its contract: its tests are those of the definition, in the same order.
-use Prim.Native.Nat.{_<_}
 use native.Mathlib.Omega.{arith}
 use borrow.Author.Tests.{lt-ltb, le-ltb, eq-eqb, ne-eqb}
 use Rattle.base.specs.Kind as kind
