@@ -28,7 +28,7 @@
 #include <stddef.h>
 #include <stdint.h>
 
-#define CTEXT_VERSION "1.2"
+#define CTEXT_VERSION "2.0"
 
 /* The most octets of a string, units of a list, octets of an extended
    segment, and directions open at once. */
@@ -77,7 +77,7 @@ enum ctext_refusal {
     CTEXT_NOT_APPROVED = 5,         /* set not approved for that form */
     CTEXT_VERSION_SEQUENCE = 6,     /* version sequence, 1B 23 */
     CTEXT_BAD_SEGMENT = 7,          /* bad extended segment, or a unit's over 16,383 octets */
-    CTEXT_BAD_DIRECTION = 8,        /* direction rule */
+    CTEXT_BAD_DIRECTION = 8,        /* direction rule (below) */
     CTEXT_TOO_DEEP = 9,             /* a seventeenth open direction */
     CTEXT_NO_ROOM = 10,             /* list or output too short; count is what is needed */
     CTEXT_BAD_UNIT = 11,            /* bad unit; no such run; no such reader */
@@ -85,6 +85,17 @@ enum ctext_refusal {
     CTEXT_BAD_FORM = 13             /* backslash that begins no escape, raw newline or raw 00
                                        in a resource form */
 };
+
+/* The direction rule, of strings and of lists: where there is a direction mark,
+   all text stands within directions. Text is characters, spaces, and extended
+   segments whose text (what follows their first 02) is not empty; in 1.x such a
+   segment counted as nothing. Refused with CTEXT_BAD_DIRECTION are
+   - a mark that begins a direction, where text and no mark stands before it;
+   - text after a mark, while no direction is open;
+   - a revert, while no direction is open.
+   Tabs, newlines and extended segments without text stand anywhere, and a string
+   or list may end with directions open. What is bad in an element or a unit by
+   itself, as a bad extended segment, is refused before the rule is asked. */
 
 /* The text of a number of refusal: a constant string, never null. */
 static inline const char *ctext_refusal_text(unsigned number)
@@ -332,7 +343,8 @@ static inline uint8_t ctext_run_direction(uint64_t run)
    gl, gr  the sets in force
    depth   how many directions are open
    marked  whether a direction mark was read
-   texted  whether a character or space was read
+   texted  whether text was read: a character, a space, or an extended segment
+           whose text is not empty
    Of marked and texted 0 is no and anything else yes; a step gives 0 or 1. */
 typedef struct ctext_reader {
     uint64_t levels;
@@ -526,7 +538,8 @@ typedef struct ctext_segment {
 /* The parts of the unit in the n octets at s: the name ends at the first 02, the
    text follows it. All 0 where the unit is no extended segment, does not lie
    wholly in those octets, or holds no 02; the name of a unit of ctext_read or
-   ctext_next is never empty. Reads s, touches nothing. */
+   ctext_next is never empty. The segment counts as text for the direction rule
+   where text_length is not 0. Reads s, touches nothing. */
 static inline ctext_segment ctext_segment_parts(const uint8_t *s, size_t n, ctext_unit unit)
 {
     ctext_segment parts = { 0, 0, 0, 0 };
