@@ -58,26 +58,43 @@ static int explain_accepted(const note *n, ctext_answer a)
 
 /* ---- Refused ------------------------------------------------------------ */
 
-/* What other programs are known to write that the rules refuse. */
+#define LATE_MARK "text, or an extended segment with text, stands before the first direction mark"
+#define OUTSIDE "stands outside all directions, after a direction mark; 9B 31 5D or 9B 32 5D begins one"
+
+/* What is known about the octets at the place, by the refusal and how they begin:
+   what other programs write that the rules refuse, and how the direction rule is
+   broken. The first that fits is told; text has no beginning of its own. */
 static const struct {
+    unsigned number;
     const char *octets;
     size_t length;
     const char *hint;
 } HINTS[] = {
-    { "\x1B\x25\x47", 3, "1B 25 47 begins UTF-8, which libX11 writes for characters of no standard set" },
-    { "\x1B\x2D\x62", 3, "1B 2D 62 is ISO 8859-15, which libX11 writes for the euro sign" },
-    { "\x1B\x24\x40", 3, "1B 24 40 is a form of ISO-2022-JP; here it is 1B 24 28 42" },
-    { "\x1B\x24\x42", 3, "1B 24 42 is a form of ISO-2022-JP; here it is 1B 24 28 42" },
-    { "\x00", 1, "a property may hold several notes with 00 between them: each is one of its own" }
+    { CTEXT_UNKNOWN, "\x1B\x25\x47", 3,
+      "1B 25 47 begins UTF-8, which libX11 writes for characters of no standard set" },
+    { CTEXT_NOT_APPROVED, "\x1B\x2D\x62", 3,
+      "1B 2D 62 is ISO 8859-15, which libX11 writes for the euro sign" },
+    { CTEXT_UNKNOWN, "\x1B\x24\x40", 3, "1B 24 40 is a form of ISO-2022-JP; here it is 1B 24 28 42" },
+    { CTEXT_UNKNOWN, "\x1B\x24\x42", 3, "1B 24 42 is a form of ISO-2022-JP; here it is 1B 24 28 42" },
+    { CTEXT_UNUSED, "\x00", 1,
+      "a property may hold several notes with 00 between them: each is one of its own" },
+    { CTEXT_BAD_DIRECTION, "\x9B\x31", 2, LATE_MARK },
+    { CTEXT_BAD_DIRECTION, "\x9B\x32", 2, LATE_MARK },
+    { CTEXT_BAD_DIRECTION, "\x9B\x5D", 2, "no direction is open that 9B 5D could revert" },
+    { CTEXT_BAD_DIRECTION, "\x1B\x25\x2F", 3, "an extended segment with text " OUTSIDE },
+    { CTEXT_BAD_DIRECTION, "", 0, "text " OUTSIDE }
 };
 
-static void print_hint(const note *n, size_t place)
+static void print_hint(const note *n, ctext_answer a)
 {
     size_t i;
-    for (i = 0; i < sizeof HINTS / sizeof HINTS[0]; i++)
-        if (HINTS[i].length <= n->length - place
-            && memcmp(n->octets + place, HINTS[i].octets, HINTS[i].length) == 0)
-            out_format("%s\n", HINTS[i].hint);
+    for (i = 0; i < sizeof HINTS / sizeof HINTS[0]; i++) {
+        if (HINTS[i].number != a.number || HINTS[i].length > n->length - a.place
+            || memcmp(n->octets + a.place, HINTS[i].octets, HINTS[i].length) != 0)
+            continue;
+        out_format("%s\n", HINTS[i].hint);
+        return;
+    }
 }
 
 /* The cells of a line, the one at the place between brackets; a place at the end
@@ -138,7 +155,7 @@ static int explain_refused(const note *n, ctext_answer a)
         return STATUS_REFUSED;
     out_format("octets %zu, units before the place %zu\n", n->length, units_before(n));
     print_dump(n, a.place);
-    print_hint(n, a.place);
+    print_hint(n, a);
     return STATUS_REFUSED;
 }
 
