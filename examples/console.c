@@ -78,13 +78,23 @@ static int show_string(const uint8_t *s, size_t n)
 /* ---- A property ----------------------------------------------------------- */
 
 /* Where the first string of the n octets at s ends: at the first 00 that is not
-   in the text of an extended segment, or with the property. Of what stands
-   before the place of a refusal all is good, so no string ends there. */
+   in the text of an extended segment, or with the property. A reader goes on over
+   all elements of a good shape, among which no string ends. A direction is kept
+   open for it, so that it is not stopped by the direction rule, which may refuse
+   a segment with 00 in its text. */
 static size_t string_end(const uint8_t *s, size_t n)
 {
-    size_t most = n < CTEXT_MOST_OCTETS ? n : CTEXT_MOST_OCTETS;
-    ctext_answer a = ctext_check(s, most);
-    const uint8_t *zero = (const uint8_t *)memchr(s + a.place, 0, n - a.place);
+    size_t most = n < CTEXT_MOST_OCTETS ? n : CTEXT_MOST_OCTETS, place;
+    const uint8_t *zero;
+    ctext_step step;
+    step.reader = ctext_open();
+    do {
+        step.reader.marked = 1;
+        step.reader.depth = 1;
+        step = ctext_next(s, most, step.reader);
+    } while (step.given);
+    place = step.answer.place;
+    zero = (const uint8_t *)memchr(s + place, 0, n - place);
     return zero == NULL ? n : (size_t)(zero - s);
 }
 
