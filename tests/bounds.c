@@ -3,8 +3,10 @@
 
    All strings of up to three elements out of a table are read, shown, stepped
    over and written, and all of up to five octets out of another are put into
-   their resource form and read as one. What is lent is filled with a pattern or
-   left as malloc gives it, and what must stay is looked at afterwards. */
+   their resource form and read as one. What the direction rule says of extended
+   segments is tried on a table of strings, lists and readers. What is lent is
+   filled with a pattern or left as malloc gives it, and what must stay is looked
+   at afterwards. */
 
 #include <stdio.h>
 #include <stdlib.h>
@@ -19,6 +21,7 @@ static const char *const ELEMENTS[] = {
     "\x1B\x28\x42", "\x1B\x28\x4A", "\x1B\x29\x49", "\x1B\x2D\x48", "\x1B\x24\x28\x42",
     "\x1B\x24\x29\x43", "\x9B\x31\x5D", "\x9B\x32\x5D", "\x9B\x5D",
     "\x1B\x25\x2F\x31\x80\x84\x61\x62\x02\xFF", "\x1B\x25\x2F\x32\x80\x84\x61\x02\xFE\xFF",
+    "\x1B\x25\x2F\x34\x80\x82\x61\x02",
     /* refused, or cut at the end of the string */
     "\x1B", "\x1B\x24\x28", "\x1B\x25\x2F\x30\x81", "\x1B\x25\x2F\x30\x81\x80\x61", "\x9B",
     "\x1B\x23", "\x1B\x24\x42", "\x7F"
@@ -670,6 +673,244 @@ static void try_limits(void)
     free(s);
 }
 
+/* ---- Extended segments and the direction rule ---------------------------- */
+
+#define LETTERS_MOST 18
+#define PART_MOST 14
+
+/* Elements, a letter for each. */
+static const struct part { char letter; uint8_t kind; const char *octets; } PARTS[] = {
+    { '>', CTEXT_KIND_LEFT_TO_RIGHT, "\x9B\x31\x5D" },
+    { '<', CTEXT_KIND_RIGHT_TO_LEFT, "\x9B\x32\x5D" },
+    { '|', CTEXT_KIND_REVERT, "\x9B\x5D" },
+    { 'A', CTEXT_KIND_CHARACTER, "A" },
+    { '_', CTEXT_KIND_SPACE, " " },
+    { 't', CTEXT_KIND_TAB, "\t" },
+    { 'n', CTEXT_KIND_NEWLINE, "\n" },
+    /* segments with text: an octet, a lone 02, the octets of a mark */
+    { 's', CTEXT_KIND_SEGMENT, "\x1B\x25\x2F\x30\x80\x83" "a\x02" "b" },
+    { 'd', CTEXT_KIND_SEGMENT, "\x1B\x25\x2F\x31\x80\x83" "a\x02\x02" },
+    { 'm', CTEXT_KIND_SEGMENT, "\x1B\x25\x2F\x33\x80\x88" "abcd\x02\x9B\x31\x5D" },
+    /* without text */
+    { '0', CTEXT_KIND_SEGMENT, "\x1B\x25\x2F\x30\x80\x82" "a\x02" },
+    { '1', CTEXT_KIND_SEGMENT, "\x1B\x25\x2F\x31\x80\x82" "a\x02" },
+    { '2', CTEXT_KIND_SEGMENT, "\x1B\x25\x2F\x32\x80\x82" "a\x02" },
+    { '3', CTEXT_KIND_SEGMENT, "\x1B\x25\x2F\x33\x80\x82" "a\x02" },
+    { '4', CTEXT_KIND_SEGMENT, "\x1B\x25\x2F\x34\x80\x82" "a\x02" },
+    /* bad: a text of half a character, no name, no 02 */
+    { 'x', CTEXT_KIND_SEGMENT, "\x1B\x25\x2F\x32\x80\x83" "a\x02" "b" },
+    { 'y', CTEXT_KIND_SEGMENT, "\x1B\x25\x2F\x30\x80\x82\x02" "b" },
+    { 'z', CTEXT_KIND_SEGMENT, "\x1B\x25\x2F\x30\x80\x82" "ab" }
+};
+
+#define PARTS_MANY (sizeof PARTS / sizeof PARTS[0])
+
+/* Strings by these letters, with the number and the index of what is refused. */
+static const struct { const char *letters; uint8_t number; size_t index; } DIRECTED[] = {
+    /* before the first mark */
+    { "s>", 8, 1 }, { "s<", 8, 1 }, { "d>", 8, 1 }, { "m<A", 8, 1 }, { "sA>", 8, 2 }, { "As>", 8, 2 },
+    { "s_t>", 8, 3 }, { "stn<", 8, 3 }, { "s0>", 8, 2 }, { "0s>", 8, 2 }, { "s|", 8, 1 }, { "0|", 8, 1 },
+    { "A0>", 8, 2 }, { "0A>", 8, 2 }, { "s", 0, 0 }, { "sts", 0, 0 }, { "sA", 0, 0 }, { "s0tn4", 0, 0 },
+    { "0>", 0, 0 }, { "1<A", 0, 0 }, { "2>s", 0, 0 }, { "3>", 0, 0 }, { "4<", 0, 0 }, { "t0n>A", 0, 0 },
+    /* after the last revert */
+    { ">|s", 8, 2 }, { "<|s", 8, 2 }, { ">|d", 8, 2 }, { ">s|m", 8, 3 }, { ">|ts", 8, 3 }, { ">|0s", 8, 3 },
+    { "<>A|s|s", 8, 6 }, { "><||s", 8, 4 }, { ">|sA", 8, 2 }, { ">|As", 8, 2 }, { ">|0A", 8, 3 },
+    { ">|<s|s", 8, 5 }, { ">|<s", 0, 0 }, { ">|0", 0, 0 }, { ">|1", 0, 0 }, { "<|2", 0, 0 },
+    { "<|3", 0, 0 }, { ">|4t", 0, 0 }, { "><||0", 0, 0 },
+    /* within a direction */
+    { ">s", 0, 0 }, { "<s", 0, 0 }, { ">d|", 0, 0 }, { "<>m|s|", 0, 0 }, { ">sA|<sA", 0, 0 }, { ">0|", 0, 0 },
+    { "<2>3s", 0, 0 }, { ">s||", 8, 3 }, { ">>>>>>>>>>>>>>>>s", 0, 0 }, { ">>>>>>>>>>>>>>>>s<", 9, 17 },
+    { "s>>>>>>>>>>>>>>>>>", 8, 1 },
+    /* a segment's own shape comes first */
+    { ">|x", 7, 2 }, { ">|y", 7, 2 }, { ">|z", 7, 2 }, { "x>", 7, 0 }, { ">x", 7, 1 }, { "sx>", 7, 1 },
+    { ">|sx", 8, 2 }, { "s>x", 8, 1 }
+};
+
+/* A string by its letters, and the list of its units, whose segments stand in it. */
+typedef struct directed {
+    uint8_t octets[PART_MOST * LETTERS_MOST];
+    ctext_unit units[LETTERS_MOST];
+    size_t places[LETTERS_MOST + 1];
+    size_t count;
+} directed;
+
+static const struct part *part_of(char letter)
+{
+    size_t i = 0;
+    while (PARTS[i].letter != letter)
+        i++;
+    return &PARTS[i];
+}
+
+static ctext_unit unit_of(const struct part *p, size_t place)
+{
+    size_t head = p->kind == CTEXT_KIND_SEGMENT ? 6 : 0;
+    ctext_unit unit = { 0, 0, 0, 0, 0 };
+    unit.kind = p->kind;
+    if (p->kind == CTEXT_KIND_SEGMENT || p->kind == CTEXT_KIND_CHARACTER)
+        unit.code = (uint8_t)p->octets[head / 2]; /* d, or the character's octet */
+    unit.start = (uint32_t)(place + head);
+    unit.length = (uint32_t)(strlen(p->octets) - head);
+    return unit;
+}
+
+static directed directed_of(const char *letters)
+{
+    directed d;
+    size_t k;
+    d.count = strlen(letters);
+    d.places[0] = 0;
+    for (k = 0; k < d.count; k++) {
+        const struct part *p = part_of(letters[k]);
+        d.units[k] = unit_of(p, d.places[k]);
+        d.places[k + 1] = d.places[k] + strlen(p->octets);
+        memcpy(d.octets + d.places[k], p->octets, strlen(p->octets));
+    }
+    return d;
+}
+
+static int is_text(char letter)
+{
+    return strchr("A_sdm", letter) != NULL;
+}
+
+/* The units before what is refused, and what the reader knows after each. */
+static void directed_steps(const directed *d, const char *letters, size_t good, ctext_answer wanted)
+{
+    size_t n = d->places[d->count], k;
+    uint8_t *s = lend_copy(d->octets, n);
+    ctext_step step = ctext_next(s, n, ctext_open());
+    int texted = 0, marked = 0;
+    for (k = 0; k < good; k++) {
+        texted |= is_text(letters[k]);
+        marked |= strchr("<>|", letters[k]) != NULL;
+        expect(step.given && same_unit(&step.unit, &d->units[k]), "a unit before a refusal", s, n);
+        expect(step.reader.texted == texted && step.reader.marked == marked, "whether text was read", s, n);
+        step = ctext_next(s, n, step.reader);
+    }
+    expect(!step.given && same_answer(step.answer, wanted), "a step by the direction rule", s, n);
+    free(s);
+}
+
+/* The string needs no designation, and so is the shortest of its list. */
+static void directed_list(const directed *d, ctext_answer wanted)
+{
+    size_t n = d->places[d->count], room = CTEXT_WORK_ROOM(d->count);
+    ctext_unit *units = (ctext_unit *)lend(d->count * sizeof *units);
+    uint8_t *segments = lend_copy(d->octets, n);
+    uint8_t *work = (uint8_t *)lend(room);
+    uint8_t *out = lend_pattern(n);
+    ctext_answer a;
+    memcpy(units, d->units, d->count * sizeof *units);
+    a = ctext_write(units, d->count, segments, n, work, room, out, n);
+    expect(same_answer(a, wanted), "a list by the direction rule", d->octets, n);
+    expect(a.number == CTEXT_ACCEPTED ? same_octets(out, a.count, d->octets, n) : untouched(out, n),
+           "the writing of a list by the direction rule", d->octets, n);
+    a = ctext_write(units, d->count, segments, n, NULL, 0, NULL, 0);
+    expect(a.number == (wanted.number == CTEXT_ACCEPTED ? CTEXT_NO_WORK_ROOM : wanted.number),
+           "the direction rule before the work room", d->octets, n);
+    free(out);
+    free(work);
+    free(segments);
+    free(units);
+}
+
+static void try_directed(void)
+{
+    size_t i;
+    for (i = 0; i < sizeof DIRECTED / sizeof DIRECTED[0]; i++) {
+        directed d = directed_of(DIRECTED[i].letters);
+        int refused = DIRECTED[i].number != CTEXT_ACCEPTED;
+        size_t n = d.places[d.count], good = refused ? DIRECTED[i].index : d.count;
+        ctext_answer string = { d.places[good], refused ? 0 : d.count, DIRECTED[i].number };
+        ctext_answer list = { good, refused ? 0 : n, DIRECTED[i].number };
+        expect(same_answer(ctext_check(d.octets, n), string), "a string by the direction rule", d.octets, n);
+        try_string(d.octets, n);
+        directed_steps(&d, DIRECTED[i].letters, good, string);
+        directed_list(&d, list);
+    }
+}
+
+/* What the first element is refused with from a reader on, 0 if it is not. */
+static unsigned refused_from(const struct part *p, ctext_reader r)
+{
+    if (strchr("xyz", p->letter) != NULL)
+        return CTEXT_BAD_SEGMENT;
+    if (is_text(p->letter))
+        return r.marked != 0 && r.depth == 0 ? CTEXT_BAD_DIRECTION : 0;
+    if (p->kind == CTEXT_KIND_REVERT)
+        return r.depth == 0 ? CTEXT_BAD_DIRECTION : 0;
+    if (p->kind == CTEXT_KIND_LEFT_TO_RIGHT || p->kind == CTEXT_KIND_RIGHT_TO_LEFT)
+        return r.marked == 0 && r.texted != 0 ? CTEXT_BAD_DIRECTION : 0;
+    return 0;
+}
+
+/* A step over the element, by a reader made by hand. */
+static void step_from(const struct part *p, uint8_t marked, uint8_t depth, uint8_t texted)
+{
+    size_t n = strlen(p->octets);
+    uint8_t *s = lend_copy((const uint8_t *)p->octets, n);
+    ctext_reader r = ctext_open();
+    ctext_unit unit = unit_of(p, 0);
+    ctext_step step;
+    unsigned number;
+    r.marked = marked;
+    r.depth = depth;
+    r.texted = texted;
+    number = refused_from(p, r);
+    step = ctext_next(s, n, r);
+    expect(step.given == (number == 0) && is_answer(step.answer, number, 0, 0), "a step of a reader made by hand", s, n);
+    expect(number != 0 || same_unit(&step.unit, &unit), "a unit of a reader made by hand", s, n);
+    expect(step.reader.place == (number == 0 ? n : 0), "where a reader made by hand stands", s, n);
+    expect(step.reader.texted == (texted != 0 || (number == 0 && is_text(p->letter))), "text read by hand", s, n);
+    free(s);
+}
+
+/* The run of a character after the segment, by a reader of runs made by hand. */
+static void run_from(const struct part *p, uint8_t marked, uint8_t depth, uint8_t texted, uint8_t checked)
+{
+    const char letters[] = { p->letter, 'A', '\0' };
+    directed d = directed_of(letters);
+    size_t n = d.places[2], room;
+    uint8_t *s = lend_copy(d.octets, n);
+    int outside = marked != 0 && depth == 0;
+    ctext_answer wanted = { n, 1, 0 }, refused = { d.places[is_text(p->letter) ? 0 : 1], 0, CTEXT_BAD_DIRECTION };
+    ctext_run_reader r = ctext_open_runs();
+    ctext_run_step step;
+    r.marked = marked;
+    r.depth = depth;
+    r.texted = texted;
+    r.checked = checked;
+    step = ctext_next_run(s, n, r);
+    expect(same_answer(step.run.answer, outside ? refused : wanted), "a run of a reader made by hand", s, n);
+    expect(outside || (step.run.start == d.places[1] && step.run.end == n && step.run.direction == depth
+                       && step.reader.texted == 1),
+           "a run after a segment", s, n);
+    for (room = 0; room < 3; room++) {
+        ctext_answer a = listed(s, n, r, room).answer;
+        expect(room > 0 && outside ? same_answer(a, refused) : is_answer(a, 0, n, room > 0),
+               "a list of a reader made by hand, after a segment", s, n);
+    }
+    free(s);
+}
+
+/* Over each element, with and without marks, directions and text before it. */
+static void try_directed_readers(void)
+{
+    unsigned before;
+    size_t i;
+    for (i = 0; i < PARTS_MANY; i++)
+        for (before = 0; before < 8; before++) {
+            uint8_t marked = before & 1, depth = before >> 1 & 1, texted = before >> 2 & 1;
+            step_from(&PARTS[i], marked, depth, texted);
+            step_from(&PARTS[i], (uint8_t)(marked * 255), depth, (uint8_t)(texted * 2));
+            if (strchr("sdm01234", PARTS[i].letter) == NULL)
+                continue;
+            run_from(&PARTS[i], marked, depth, texted, 0);
+            run_from(&PARTS[i], marked, depth, texted, 1);
+        }
+}
+
 int main(int argc, char **argv)
 {
     unsigned most = argc > 1 ? (unsigned)atoi(argv[1]) : 3;
@@ -684,6 +925,8 @@ int main(int argc, char **argv)
     try_program();
     try_run_readers();
     try_depth();
+    try_directed();
+    try_directed_readers();
     try_many_runs();
     try_limits();
     printf("bounds: %lu strings, %lu accepted, %lu resource forms, %lu failures\n", strings, accepted, forms,
