@@ -214,6 +214,10 @@ int main(void)
     static const uint8_t old_form[] = { 0x41, 0x1B, 0x24, 0x42, 0x30, 0x21 };
     static const uint8_t space[] = { 0x1B, 0x24, 0x28, 0x42, 0x20 };
     static const uint8_t late_mark[] = { 0x41, 0x9B, 0x31, 0x5D };
+    static const uint8_t directed[] = { 0x9B, 0x32, 0x5D, 0x1B, 0x25, 0x2F, 0x31, 0x80, 0x84, 0x61, 0x62, 0x02, 0xFF };
+    static const uint8_t outside[] = {
+        0x9B, 0x32, 0x5D, 0x9B, 0x5D, 0x1B, 0x25, 0x2F, 0x31, 0x80, 0x84, 0x61, 0x62, 0x02, 0xFF
+    };
     show("empty", NULL, 0);
     SHOW("Latin", latin);
     SHOW("Japanese", japanese);
@@ -225,6 +229,8 @@ int main(void)
     SHOW("old form", old_form);
     SHOW("space under two octets", space);
     SHOW("mark after text", late_mark);
+    SHOW("extended segment within a direction", directed);
+    SHOW("extended segment outside all directions", outside);
     show_lists();
     show_readers();
     show_resource();
