@@ -61,6 +61,8 @@ static void try_parts(void)
     parts_are("a segment", ctext_segment_parts(note, sizeof note, units[1]), 7, 2, 10, 1);
     parts_are("a character", ctext_segment_parts(note, sizeof note, units[0]), 0, 0, 0, 0);
     parts_are("a cut one", ctext_segment_parts(note, sizeof note - 1, units[1]), 0, 0, 0, 0);
+    units[1].length = 3;
+    parts_are("one without text", ctext_segment_parts(note, sizeof note, units[1]), 7, 2, 10, 0);
     units[1].length = 2;
     parts_are("one without 02", ctext_segment_parts(note, sizeof note, units[1]), 0, 0, 0, 0);
     units[1].start = UINT32_MAX;
