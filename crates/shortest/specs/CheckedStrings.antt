@@ -1,12 +1,12 @@
 -- The checked strings marked * in rule P1, as one table of the definitions. An accepted string stands with its answer, the units that it
 -- reads as and what these are written as; a refused one with its answer.
 use Prim.Native.Nat.{ℕ}
-use mathlib.Core.List.{List, [], _∷_}
+use mathlib.Core.List.{List, [], _∷_, _++_}
 use lib.ListN.{length}
 use Rattle.base.specs.Answers.{answer, refusedAt}
 use Rattle.base.specs.Refusal as refusal
 use Rattle.base.specs.declared.Answer.{Answer}
-use Rattle.grammar.specs.Units.{TextUnit, char, space, control, tab, ltr, ext}
+use Rattle.grammar.specs.Units.{TextUnit, char, space, control, tab, ltr, revert, ext}
 use Rattle.grammar.specs.Reading.{checkOf, readingOf}
 use Rattle.shortest.specs.Writing.{shortestOf}
 
@@ -25,6 +25,22 @@ A = char 0 0x41
 
 abbrev E9 : TextUnit
 E9 = char 3 0x69
+
+-- direction marks; an extended segment with text, one without, and a bad one
+abbrev beginMark : List ℕ
+beginMark = 0x9B ∷ 0x31 ∷ 0x5D ∷ []
+
+abbrev revertMark : List ℕ
+revertMark = 0x9B ∷ 0x5D ∷ []
+
+abbrev segmentWithText : List ℕ
+segmentWithText = 0x1B ∷ 0x25 ∷ 0x2F ∷ 0x31 ∷ 0x80 ∷ 0x84 ∷ 0x61 ∷ 0x62 ∷ 0x02 ∷ 0xFF ∷ []
+
+abbrev segmentWithout : List ℕ
+segmentWithout = 0x1B ∷ 0x25 ∷ 0x2F ∷ 0x32 ∷ 0x80 ∷ 0x83 ∷ 0x61 ∷ 0x62 ∷ 0x02 ∷ []
+
+abbrev badSegment : List ℕ
+badSegment = 0x1B ∷ 0x25 ∷ 0x2F ∷ 0x32 ∷ 0x80 ∷ 0x84 ∷ 0x61 ∷ 0x62 ∷ 0x02 ∷ 0xFF ∷ []
 
 abbrev example : List ℕ → List TextUnit → List ℕ → Example
 example s us w = record { string = s; units = us; written = w }
@@ -45,8 +61,10 @@ table =
     ∷ itself (0x1B ∷ 0x24 ∷ 0x28 ∷ 0x42 ∷ 0x30 ∷ 0x21 ∷ 0xE9 ∷ 0x30 ∷ 0x21 ∷ 0x1B ∷ 0x28 ∷ 0x4A ∷ 0x20 ∷ 0x5C ∷ [])
     (X ∷ E9 ∷ X ∷ space ∷ char 2 0x5C ∷ [])
     ∷ itself (0x9B ∷ 0x31 ∷ 0x5D ∷ 0x41 ∷ []) (control ltr ∷ A ∷ [])
-    ∷ itself (0x1B ∷ 0x25 ∷ 0x2F ∷ 0x31 ∷ 0x80 ∷ 0x84 ∷ 0x61 ∷ 0x62 ∷ 0x02 ∷ 0xFF ∷ [])
-    (ext 0x31 (0x61 ∷ 0x62 ∷ 0x02 ∷ 0xFF ∷ []) ∷ [])
+    ∷ itself segmentWithText (ext 0x31 (0x61 ∷ 0x62 ∷ 0x02 ∷ 0xFF ∷ []) ∷ [])
+    ∷ itself (beginMark ++ segmentWithText) (control ltr ∷ ext 0x31 (0x61 ∷ 0x62 ∷ 0x02 ∷ 0xFF ∷ []) ∷ [])
+    ∷ itself (segmentWithout ++ beginMark ++ revertMark ++ segmentWithout)
+    (ext 0x32 (0x61 ∷ 0x62 ∷ 0x02 ∷ []) ∷ control ltr ∷ control revert ∷ ext 0x32 (0x61 ∷ 0x62 ∷ 0x02 ∷ []) ∷ [])
     ∷ []
 
 -- a string and the number and place of its refusal
@@ -62,7 +80,10 @@ abbrev pub refusals : List RefusedString
 refusals =
     refusedString (0x41 ∷ 0x9B ∷ 0x31 ∷ 0x5D ∷ []) refusal.direction 1
     ∷ refusedString (0x9B ∷ 0x31 ∷ 0x5D ∷ 0x9B ∷ 0x5D ∷ 0x41 ∷ []) refusal.direction 5
-    ∷ refusedString (0x1B ∷ 0x25 ∷ 0x2F ∷ 0x32 ∷ 0x80 ∷ 0x84 ∷ 0x61 ∷ 0x62 ∷ 0x02 ∷ 0xFF ∷ []) refusal.bad-segment 0
+    ∷ refusedString (segmentWithText ++ beginMark) refusal.direction 10
+    ∷ refusedString (beginMark ++ revertMark ++ segmentWithText) refusal.direction 5
+    ∷ refusedString (beginMark ++ revertMark ++ badSegment) refusal.bad-segment 5
+    ∷ refusedString badSegment refusal.bad-segment 0
     ∷ refusedString (0x1B ∷ 0x24 ∷ 0x42 ∷ []) refusal.unknown 0
     ∷ refusedString (0x1B ∷ 0x28 ∷ []) refusal.cut 0
     ∷ refusedString (0x1B ∷ 0x29 ∷ 0x42 ∷ []) refusal.not-approved 0

@@ -99,6 +99,41 @@ fn show(s: &[u8]) {
     show_items(s);
 }
 
+// Extended segments and the direction rule: with text within a direction, before the first mark and after the last revert; without text.
+fn show_segments() {
+    show(b"\x9B\x32\x5D\x41\x1B\x25\x2F\x31\x80\x84\x61\x62\x02\xFF\x41\x9B\x5D");
+    show(b"\x1B\x25\x2F\x31\x80\x84\x61\x62\x02\xFF\x9B\x31\x5D\x41");
+    show(b"\x9B\x31\x5D\x41\x9B\x5D\x1B\x25\x2F\x31\x80\x84\x61\x62\x02\xFF");
+    show(
+        b"\x1B\x25\x2F\x32\x80\x82\x6E\x02\x9B\x31\x5D\x41\x9B\x5D\x1B\x25\x2F\x34\x80\x82\x6E\x02",
+    );
+}
+
+fn show_steps() {
+    // in the middle of a character, at the end, past it; a set that may not stand in GL, in GR, and no set; 16 and 17 directions open; the
+    // largest count; more than 65,535 octets, at the end and past it
+    let s = b"\x1B\x24\x28\x42\x30\x21";
+    show_step(s, 5, 7, 13, 3, 1);
+    show_step(s, 4, 7, 13, 3, 1);
+    show_step(s, 5, 7, 0, 3, 1);
+    show_step(s, 6, 7, 0, 3, 1);
+    show_step(s, 7, 7, 0, 3, 1);
+    show_step(s, 0, 7, 3, 3, 1);
+    show_step(s, 0, 7, 0, 0, 1);
+    show_step(s, 0, 7, 15, 3, 1);
+    show_step(s, 0, 7, 0, 3, 16);
+    show_step(s, 0, 7, 0, 3, 17);
+    show_step(s, 0, 0xFFFF_FFFF_FFFF_FFFF, 0, 3, 1);
+    let long = [0x20u8; 65536];
+    show_step(&long, 65536, 7, 0, 3, 1);
+    show_step(&long, 65537, 7, 3, 3, 17);
+    // after a mark: an extended segment with text, no direction open and one open; one without text, none open
+    let segment = b"\x1B\x25\x2F\x31\x80\x84\x61\x62\x02\xFF";
+    show_step(segment, 0, 7, 0, 3, 0);
+    show_step(segment, 0, 7, 0, 3, 1);
+    show_step(b"\x1B\x25\x2F\x34\x80\x82\x6E\x02", 0, 7, 0, 3, 0);
+}
+
 fn main() {
     let none = [0u8; 1];
     show(&none[..0]);
@@ -123,21 +158,6 @@ fn main() {
     show(b"\x1B\x29\x49\xA0");
     show(b"\x41\x41\x41\x41\x41\x41\x41\x41\x41");
     show(b"\x41\x41\x1B\x2D\x42\x1B\x28\x42");
-    // in the middle of a character, at the end, past it; a set that may not stand in GL, in GR, and no set; 16 and 17 directions open; the
-    // largest count; more than 65,535 octets, at the end and past it
-    let s = b"\x1B\x24\x28\x42\x30\x21";
-    show_step(s, 5, 7, 13, 3, 1);
-    show_step(s, 4, 7, 13, 3, 1);
-    show_step(s, 5, 7, 0, 3, 1);
-    show_step(s, 6, 7, 0, 3, 1);
-    show_step(s, 7, 7, 0, 3, 1);
-    show_step(s, 0, 7, 3, 3, 1);
-    show_step(s, 0, 7, 0, 0, 1);
-    show_step(s, 0, 7, 15, 3, 1);
-    show_step(s, 0, 7, 0, 3, 16);
-    show_step(s, 0, 7, 0, 3, 17);
-    show_step(s, 0, 0xFFFF_FFFF_FFFF_FFFF, 0, 3, 1);
-    let long = [0x20u8; 65536];
-    show_step(&long, 65536, 7, 0, 3, 1);
-    show_step(&long, 65537, 7, 3, 3, 17);
+    show_segments();
+    show_steps();
 }
