@@ -11,7 +11,8 @@ pub struct Marks {
     pub open: Vec<Direction>,
     /// Whether a direction mark has occurred.
     pub marked: bool,
-    /// Whether a character or space has occurred.
+    /// Whether text has occurred: a character, a space, or an extended segment
+    /// whose own text is not empty.
     pub texted: bool,
 }
 
@@ -56,9 +57,20 @@ impl Marks {
 fn part_of(piece: &Piece) -> Part {
     match piece {
         Piece::Character { .. } | Piece::Space => Part::Text,
+        Piece::Segment { has_text, .. } => part_of_segment(*has_text),
         Piece::Begin(direction) => Part::Begin(*direction),
         Piece::Revert => Part::Revert,
-        Piece::Tab | Piece::Newline | Piece::Segment { .. } | Piece::Designation(..) => Part::Free,
+        Piece::Tab | Piece::Newline | Piece::Designation(..) => Part::Free,
+    }
+}
+
+/// An extended segment is text where it has some, and free where it is a name
+/// alone.
+pub fn part_of_segment(has_text: bool) -> Part {
+    if has_text {
+        Part::Text
+    } else {
+        Part::Free
     }
 }
 
@@ -142,7 +154,9 @@ pub fn unit_of(element: &Element) -> Option<Unit> {
         Piece::Begin(Direction::LeftToRight) => unit.kind = LEFT_TO_RIGHT,
         Piece::Begin(Direction::RightToLeft) => unit.kind = RIGHT_TO_LEFT,
         Piece::Revert => unit.kind = REVERT,
-        Piece::Segment { d, start, length } => {
+        Piece::Segment {
+            d, start, length, ..
+        } => {
             (unit.kind, unit.code) = (SEGMENT, u16::from(d));
             (unit.start, unit.length) = (start as u32, length as u32);
         }

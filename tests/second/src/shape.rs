@@ -11,10 +11,20 @@ pub enum Piece {
     Tab,
     Newline,
     Space,
-    Character { side: Side, set: u8, code: u16 },
+    Character {
+        side: Side,
+        set: u8,
+        code: u16,
+    },
     Begin(Direction),
     Revert,
-    Segment { d: u8, start: usize, length: usize },
+    /// Start and length are those of the n octets.
+    Segment {
+        d: u8,
+        start: usize,
+        length: usize,
+        has_text: bool,
+    },
 }
 
 /// A complete element and the octets start..end in which it stands.
@@ -146,12 +156,11 @@ fn second(side: Side, set: u8, first: u8, octet: u8) -> Step {
     Done(Piece::Character { side, set, code })
 }
 
-/// Whether the n octets of an extended segment hold a good name, 02 and a text
-/// of a length that d allows.
-pub fn is_good_body(d: u8, body: &[u8]) -> bool {
-    let Some(name_length) = body.iter().position(|&octet| octet == 0x02) else {
-        return false;
-    };
+/// The text of an extended segment: what stands behind the first 02 of its n
+/// octets. There is none unless these are a good name, 02 and a text of a
+/// length that d allows.
+pub fn segment_text(d: u8, body: &[u8]) -> Option<&[u8]> {
+    let name_length = body.iter().position(|&octet| octet == 0x02)?;
     let (name, text) = (&body[..name_length], &body[name_length + 1..]);
     let octets_of_one = match d {
         0x32 => 2,
@@ -159,7 +168,8 @@ pub fn is_good_body(d: u8, body: &[u8]) -> bool {
         0x34 => 4,
         _ => 1,
     };
-    !name.is_empty() && name.iter().all(is_name_octet) && text.len() % octets_of_one == 0
+    let good_name = !name.is_empty() && name.iter().all(is_name_octet);
+    (good_name && text.len() % octets_of_one == 0).then_some(text)
 }
 
 fn is_name_octet(octet: &u8) -> bool {
@@ -188,13 +198,12 @@ pub fn element(s: &[u8], start: usize, sets: Sets) -> Result<Element, u8> {
 fn segment(s: &[u8], start: usize, body: usize, d: u8, n: usize) -> Result<Element, u8> {
     let end = body + n;
     let octets = s.get(body..end).ok_or(2)?;
-    if !is_good_body(d, octets) {
-        return Err(7);
-    }
+    let text = segment_text(d, octets).ok_or(7)?;
     let piece = Piece::Segment {
         d,
         start: body,
         length: n,
+        has_text: !text.is_empty(),
     };
     Ok(Element { start, end, piece })
 }

@@ -1,5 +1,5 @@
-//! Every string of the paper, and of the open points of part A, that names an
-//! answer.
+//! Every string of the paper, of the open points of part A and of request No. 2
+//! that names an answer.
 
 use crate::oracle::octets;
 use crate::reader::{self, Marks, State};
@@ -365,10 +365,9 @@ fn a15_to_a19_directions() {
     accepted(&[
         ("09 9B 31 5D", 2),
         ("0A 9B 31 5D", 2),
-        ("1B 25 2F 31 80 84 61 62 02 FF 9B 31 5D", 2),
         ("9B 31 5D 41 9B 5D 9B 32 5D 41", 5),
         ("9B 31 5D 9B 5D 1B 28 42", 2),
-        ("9B 31 5D 9B 5D 09 0A 1B 25 2F 31 80 84 61 62 02 FF", 5),
+        ("9B 31 5D 9B 5D 09 0A", 4),
         ("1B 28 42 1B 2D 41", 0),
     ]);
     assert_eq!(crate::oracle::write("1B 28 42 1B 2D 41"), Ok(String::new()));
@@ -382,6 +381,219 @@ fn a18_depth() {
     let list = vec![plain(LEFT_TO_RIGHT); 17];
     refused(&list, &[], 9, 16);
     assert_eq!(writer::list_refusal(&list[..16], &[]), None);
+}
+
+// Request No. 2: an extended segment that has a text is text to the direction
+// rule.
+
+/// Segments with a text: of one octet, of 02 alone, of 02 and others, one
+/// character of each width, and a name of several octets.
+const WITH_TEXT: [&str; 8] = [
+    "1B 25 2F 31 80 83 61 02 FF",
+    "1B 25 2F 30 80 83 61 02 02",
+    "1B 25 2F 31 80 84 61 02 02 1B",
+    "1B 25 2F 31 80 85 61 02 62 63 02",
+    "1B 25 2F 32 80 84 61 02 02 02",
+    "1B 25 2F 33 80 85 61 02 9B 31 5D",
+    "1B 25 2F 34 80 86 61 02 00 00 00 00",
+    "1B 25 2F 31 80 84 61 62 02 FF",
+];
+
+/// Segments that are a name and 02, for every d.
+const WITHOUT_TEXT: [&str; 7] = [
+    "1B 25 2F 30 80 82 61 02",
+    "1B 25 2F 31 80 82 61 02",
+    "1B 25 2F 32 80 82 61 02",
+    "1B 25 2F 33 80 82 61 02",
+    "1B 25 2F 34 80 82 61 02",
+    "1B 25 2F 31 80 84 61 62 63 02",
+    "1B 25 2F 34 80 85 61 62 63 64 02",
+];
+
+/// Bad segments: no octet, no name, no 02, a bad octet in the name, and texts
+/// that end inside a character.
+const BAD: [&str; 7] = [
+    "1B 25 2F 31 80 80",
+    "1B 25 2F 31 80 82 02 41",
+    "1B 25 2F 31 80 82 61 62",
+    "1B 25 2F 31 80 84 61 2A 02 41",
+    "1B 25 2F 32 80 83 61 02 41",
+    "1B 25 2F 33 80 84 61 02 41 41",
+    "1B 25 2F 34 80 85 61 02 41 41 41",
+];
+
+/// Number and place of a string whose pieces are these.
+fn answer_of(pieces: &[&str]) -> (u8, usize) {
+    let answer = reader::check(&hex(&pieces.concat()));
+    (answer.number, answer.place)
+}
+
+#[test]
+fn text_of_a_segment_before_the_first_mark() {
+    for segment in WITH_TEXT {
+        let length = hex(segment).len();
+        for mark in ["9B 31 5D", "9B 32 5D"] {
+            assert_eq!(answer_of(&[segment, mark]), (8, length), "{segment}");
+            assert_eq!(answer_of(&["09", segment, "0A", mark]), (8, length + 2));
+        }
+        // No mark is asked for, and a revert is refused as ever.
+        assert_eq!(answer_of(&[segment, "41"]), (0, length + 1), "{segment}");
+        assert_eq!(answer_of(&[segment, "9B 5D"]), (8, length), "{segment}");
+        assert_eq!(answer_of(&[segment, "9B 33"]), (4, length), "{segment}");
+    }
+    for segment in WITHOUT_TEXT {
+        let length = hex(segment).len();
+        assert_eq!(answer_of(&[segment, "9B 31 5D"]), (0, length + 3));
+        assert_eq!(answer_of(&["41", segment, "9B 31 5D"]), (8, length + 1));
+    }
+}
+
+#[test]
+fn text_of_a_segment_after_the_last_revert() {
+    let reverted = "9B 31 5D 41 9B 5D";
+    for segment in WITH_TEXT {
+        assert_eq!(answer_of(&[reverted, segment]), (8, 6), "{segment}");
+        let tabs = answer_of(&[reverted, "09 0A 1B 24 28 42", segment]);
+        assert_eq!(tabs, (8, 12), "{segment}");
+    }
+    for segment in WITHOUT_TEXT {
+        let length = hex(segment).len();
+        assert_eq!(answer_of(&[reverted, segment]), (0, 6 + length));
+        assert_eq!(answer_of(&[reverted, segment, "41"]), (8, 6 + length));
+        let begun = answer_of(&[reverted, segment, "9B 32 5D 41"]);
+        assert_eq!(begun, (0, 10 + length), "{segment}");
+    }
+}
+
+#[test]
+fn segments_within_a_direction() {
+    for segment in WITH_TEXT.iter().chain(&WITHOUT_TEXT) {
+        let length = hex(segment).len();
+        assert_eq!(answer_of(&["9B 31 5D", segment]), (0, 3 + length));
+        let deeper = answer_of(&["9B 31 5D 9B 32 5D 9B 5D", segment, "9B 31 5D"]);
+        assert_eq!(deeper, (0, 11 + length), "{segment}");
+    }
+}
+
+/// The shape of a segment is judged before its text is one for the rule.
+#[test]
+fn bad_segments_are_bad_in_every_place() {
+    for segment in BAD {
+        for before in ["", "41", "9B 31 5D", "9B 31 5D 9B 5D", "9B 31 5D 9B 5D 09"] {
+            let place = hex(before).len();
+            assert_eq!(answer_of(&[before, segment]), (7, place), "{segment}");
+        }
+    }
+    answers(&[
+        ("9B 31 5D 9B 5D 1B 25 2F 31 80 84 61 02 FF", 2, 5),
+        ("9B 31 5D 9B 5D 1B 25 2F 35 80 83 61 02 FF", 4, 5),
+        ("9B 31 5D 9B 5D 1B 25 2F 31 7F", 7, 5),
+    ]);
+}
+
+/// What a reader keeps after each of them.
+#[test]
+fn text_of_a_segment_is_remembered() {
+    let texted = |s: &str, marked, depth, before| {
+        let mut after = before;
+        let state = by_hand(0, (0, 3), depth, marked, before);
+        reader::read_on(&hex(s), state, |_, state| after = state.marks.texted);
+        after
+    };
+    for (marked, depth) in [(false, 0), (false, 2), (true, 1), (true, 16)] {
+        for before in [false, true] {
+            for segment in WITH_TEXT {
+                assert!(texted(segment, marked, depth, before), "{segment}");
+            }
+            for segment in WITHOUT_TEXT {
+                assert_eq!(texted(segment, marked, depth, before), before);
+            }
+        }
+    }
+}
+
+/// The units of a list of strings that are each an element, and their octets.
+fn units_of(elements: &[&str]) -> (Vec<Unit>, Vec<u8>) {
+    let mut units = Vec::new();
+    let mut octets = Vec::new();
+    for element in elements {
+        let element = hex(element);
+        units.push(match element[..] {
+            [0x9B, 0x5D] => plain(REVERT),
+            [0x9B, 0x31, 0x5D] => plain(LEFT_TO_RIGHT),
+            [0x9B, 0x32, 0x5D] => plain(RIGHT_TO_LEFT),
+            [0x09] => plain(TAB),
+            [0x20] => plain(SPACE),
+            [0x41] => A,
+            _ => segment(
+                u16::from(element[3]),
+                octets.len() as u32,
+                element.len() as u32 - 6,
+            ),
+        });
+        octets.extend(element.get(6..).unwrap_or_default());
+    }
+    (units, octets)
+}
+
+/// Number and index of a list's refusal; 0 and its length for none.
+fn listed(elements: &[&str]) -> (u8, usize) {
+    let (units, octets) = units_of(elements);
+    match writer::list_refusal(&units, &octets) {
+        Some(refusal) => (refusal.number, refusal.place),
+        None => {
+            assert_eq!(written(&units, &octets), hex(&elements.concat()));
+            (0, units.len())
+        }
+    }
+}
+
+#[test]
+fn text_of_segments_in_lists() {
+    let (begin, revert) = ("9B 32 5D", "9B 5D");
+    for segment in WITH_TEXT {
+        assert_eq!(listed(&[segment, begin]), (8, 1), "{segment}");
+        assert_eq!(listed(&["09", segment, "09", begin]), (8, 3), "{segment}");
+        assert_eq!(listed(&[begin, revert, segment]), (8, 2), "{segment}");
+        assert_eq!(listed(&[begin, revert, "09", segment]), (8, 3), "{segment}");
+        assert_eq!(listed(&[begin, segment, revert]), (0, 3), "{segment}");
+        assert_eq!(listed(&[segment, "41", segment]), (0, 3), "{segment}");
+    }
+    for segment in WITHOUT_TEXT {
+        assert_eq!(listed(&[segment, begin]), (0, 2), "{segment}");
+        assert_eq!(listed(&[begin, revert, segment]), (0, 3), "{segment}");
+        assert_eq!(listed(&[begin, segment, revert]), (0, 3), "{segment}");
+        assert_eq!(listed(&["20", segment, begin]), (8, 2), "{segment}");
+        assert_eq!(listed(&[begin, revert, segment, "20"]), (8, 3), "{segment}");
+    }
+    for segment in BAD {
+        assert_eq!(listed(&[segment, begin]), (7, 0), "{segment}");
+        assert_eq!(listed(&[begin, revert, segment]), (7, 2), "{segment}");
+        assert_eq!(listed(&[begin, segment]), (7, 1), "{segment}");
+    }
+}
+
+/// Each unit is judged whole before the next, and within it 11, 7, 8, 9.
+#[test]
+fn order_within_a_segment_of_a_list() {
+    let octets = hex("61 02 02 41");
+    let (begin, revert) = (plain(LEFT_TO_RIGHT), plain(REVERT));
+    let after = |last: Unit| [begin, revert, last];
+    refused(&after(segment(0x35, 0, 4)), &octets, 11, 2);
+    refused(&after(segment(0x31, 0, 5)), &octets, 11, 2);
+    refused(&after(segment(0x31, 1, 3)), &octets, 7, 2);
+    refused(&after(segment(0x32, 0, 3)), &octets, 7, 2);
+    refused(&after(segment(0x32, 0, 4)), &octets, 8, 2);
+    // The same octets, as a name alone, and with a text of one octet.
+    assert_eq!(
+        writer::list_refusal(&after(segment(0x34, 0, 2)), &octets),
+        None
+    );
+    refused(&after(segment(0x31, 0, 3)), &octets, 8, 2);
+    refused(&[segment(0x31, 0, 3), begin, plain(8)], &octets, 8, 1);
+    let mut full = vec![begin; 16];
+    full.extend([segment(0x31, 0, 4), begin]);
+    refused(&full, &octets, 9, 17);
 }
 
 // Readers made by hand.
@@ -436,6 +648,43 @@ fn a20_states_that_contradict_themselves() {
     assert_eq!(read_by_hand(begin, full), (8, 0, 0));
     let full = by_hand(0, fresh, 16, false, false);
     assert_eq!(read_by_hand(begin, full), (9, 0, 0));
+}
+
+/// The flags alone say what came before, as for a character.
+#[test]
+fn readers_made_by_hand_before_a_segment() {
+    let read =
+        |s: &str, depth, marked, texted| read_by_hand(s, by_hand(0, (0, 3), depth, marked, texted));
+    for texted in [false, true] {
+        for segment in WITH_TEXT {
+            let length = hex(segment).len();
+            assert_eq!(read(segment, 0, true, texted), (8, 0, 0), "{segment}");
+            assert_eq!(read(segment, 0, false, texted), (0, length, 1));
+            assert_eq!(read(segment, 1, true, texted), (0, length, 1));
+            assert_eq!(read(segment, 1, false, texted), (0, length, 1));
+            let then_a_mark = format!("{segment} 9B 31 5D");
+            assert_eq!(read(&then_a_mark, 0, false, texted), (8, length, 1));
+            assert_eq!(read(&then_a_mark, 3, false, texted), (8, length, 1));
+            assert_eq!(read(&then_a_mark, 3, true, texted), (0, length + 3, 2));
+        }
+        for segment in WITHOUT_TEXT {
+            let length = hex(segment).len();
+            assert_eq!(read(segment, 0, true, texted), (0, length, 1));
+            let then_a_mark = format!("{segment} 9B 31 5D");
+            assert_eq!(read(&then_a_mark, 0, true, texted), (0, length + 3, 2));
+            let before = if texted {
+                (8, length, 1)
+            } else {
+                (0, length + 3, 2)
+            };
+            assert_eq!(read(&then_a_mark, 0, false, texted), before);
+        }
+        for segment in BAD {
+            for marked in [false, true] {
+                assert_eq!(read(segment, 0, marked, texted), (7, 0, 0), "{segment}");
+            }
+        }
+    }
 }
 
 #[test]

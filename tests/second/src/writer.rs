@@ -1,7 +1,7 @@
 //! The writer: which list is refused, how short a writing can be, and the one
 //! string that the paper's choice names.
 
-use crate::reader::{Marks, Part};
+use crate::reader::{part_of_segment, Marks, Part};
 use crate::sets::{self, Designation, Sets, Side, DESIGNATIONS};
 use crate::shape;
 use crate::unit::*;
@@ -32,7 +32,8 @@ pub fn list_refusal(units: &[Unit], segments: &[u8]) -> Option<Answer> {
     None
 }
 
-/// Within a unit the order is 11, 7, 8, 9.
+/// Within a unit the order is 11, 7, 8, 9: a segment is judged by itself before
+/// its text is one for the direction rule.
 fn admit_unit(unit: &Unit, segments: &[u8], marks: &mut Marks) -> Result<(), u8> {
     let part = match unit.kind {
         CHARACTER if !sets::uses(unit.set, unit.code) => return Err(11),
@@ -41,24 +42,22 @@ fn admit_unit(unit: &Unit, segments: &[u8], marks: &mut Marks) -> Result<(), u8>
         LEFT_TO_RIGHT => Part::Begin(Direction::LeftToRight),
         RIGHT_TO_LEFT => Part::Begin(Direction::RightToLeft),
         REVERT => Part::Revert,
-        SEGMENT => {
-            admit_segment(unit, segments)?;
-            Part::Free
-        }
+        SEGMENT => part_of_segment(!text_of_segment(unit, segments)?.is_empty()),
         _ => return Err(11),
     };
     marks.admit(part)
 }
 
-fn admit_segment(unit: &Unit, segments: &[u8]) -> Result<(), u8> {
+/// The text of a segment, or the number of its own refusal.
+fn text_of_segment<'a>(unit: &Unit, segments: &'a [u8]) -> Result<&'a [u8], u8> {
     if !(0x30..=0x34).contains(&unit.code) {
         return Err(11);
     }
     let body = part(unit, segments).ok_or(11)?;
-    if unit.length > LONGEST_SEGMENT || !shape::is_good_body(unit.code as u8, body) {
+    if unit.length > LONGEST_SEGMENT {
         return Err(7);
     }
-    Ok(())
+    shape::segment_text(unit.code as u8, body).ok_or(7)
 }
 
 /// The answer for a list of so many units without an offending one, whose
