@@ -2,7 +2,8 @@
 
 use crate::random::Random;
 use crate::sets;
-use crate::strings::{random_body, random_value};
+use crate::shape;
+use crate::strings::{any_body, random_body, random_value};
 use crate::unit::*;
 use crate::writer;
 
@@ -36,6 +37,12 @@ pub fn random_list(random: &mut Random) -> List {
 
 fn good_list(random: &mut Random, length: usize) -> List {
     let mut maker = Maker::new(random);
+    if maker.directed && random.percent(60) {
+        maker.begin(random);
+        if random.percent(70) {
+            maker.revert();
+        }
+    }
     for _ in 0..length {
         maker.unit(random);
     }
@@ -49,6 +56,9 @@ struct Maker {
     with_marks: bool,
     with_segments: bool,
     deep: bool,
+    /// Whether it is mostly segments and marks, and the direction rule often
+    /// left aside.
+    directed: bool,
     depth: usize,
 }
 
@@ -58,21 +68,26 @@ impl Maker {
             .map(|_| random_set(random))
             .collect();
         let deep = random.percent(4);
+        let directed = !deep && random.percent(20);
         Maker {
             list: List {
                 units: Vec::new(),
                 segments: Vec::new(),
             },
             palette,
-            with_marks: deep || random.percent(25),
-            with_segments: random.percent(25),
+            with_marks: deep || directed || random.percent(25),
+            with_segments: directed || random.percent(25),
             deep,
+            directed,
             depth: 0,
         }
     }
 
     fn unit(&mut self, random: &mut Random) {
         match random.below(100) {
+            _ if self.directed && random.percent(40) => self.segment(random),
+            _ if self.directed && random.percent(10) => self.segment_again(random),
+            _ if self.directed && random.percent(50) => self.mark(random),
             0..=9 if self.with_segments => self.segment(random),
             10..=24 if self.with_marks => self.mark(random),
             25..=84 if self.deep => self.begin(random),
@@ -112,15 +127,30 @@ impl Maker {
 
     fn mark(&mut self, random: &mut Random) {
         if self.depth > 0 && random.percent(60) {
-            self.push(REVERT);
-            self.depth -= 1;
+            self.revert();
         } else {
             self.begin(random);
         }
     }
 
+    fn revert(&mut self) {
+        self.push(REVERT);
+        self.depth -= 1;
+    }
+
+    /// A segment with a text has a direction open too, but often not where the
+    /// rule is left aside.
     fn segment(&mut self, random: &mut Random) {
-        let (d, body) = random_body(random);
+        let (d, body) = if self.directed {
+            any_body(random)
+        } else {
+            random_body(random)
+        };
+        let has_text = shape::segment_text(d, &body).is_some_and(|text| !text.is_empty());
+        let aside = self.directed && random.percent(70);
+        if has_text && self.with_marks && self.depth == 0 && !aside {
+            self.begin(random);
+        }
         let start = self.list.segments.len();
         self.list.units.push(Unit {
             kind: SEGMENT,
@@ -130,6 +160,20 @@ impl Maker {
             length: body.len() as u32,
         });
         self.list.segments.extend(body);
+    }
+
+    /// The octets of the last segment with another d and another end: so one
+    /// name stands with a text and without.
+    fn segment_again(&mut self, random: &mut Random) {
+        let last = self.list.units.iter().rfind(|unit| unit.kind == SEGMENT);
+        let Some(&(mut unit)) = last else {
+            return;
+        };
+        let body = part(&unit, &self.list.segments).unwrap_or_default();
+        let name = body.iter().position(|&octet| octet == 0x02).unwrap_or(0) as u32;
+        unit.code = random.between(0x30, 0x34) as u16;
+        unit.length = name + random.below(4) as u32;
+        self.list.units.push(unit);
     }
 }
 
@@ -264,7 +308,13 @@ pub fn limit_lists(random: &mut Random) -> Vec<List> {
         all.push(segments_with_writing(length));
     }
     for length in [16_382, 16_383, 16_384, 16_385] {
-        all.push(long_segment(length));
+        all.push(long_segment(length, 10));
+    }
+    for text in [0, 1] {
+        let mut list = long_segment(16_383, 16_382 - text);
+        let mark = |kind| same_units(kind, 1).units[0];
+        list.units.splice(0..0, [mark(LEFT_TO_RIGHT), mark(REVERT)]);
+        all.push(list);
     }
     all
 }
@@ -300,17 +350,17 @@ fn pad(list: &mut List, length: usize) {
 
 /// Longest segments, all with the same octets, and tabs.
 fn segments_with_writing(length: usize) -> List {
-    let mut list = long_segment(16_383);
+    let mut list = long_segment(16_383, 10);
     let unit = list.units[0];
     list.units.extend([unit, unit]);
     pad(&mut list, length);
     list
 }
 
-/// A good segment but for its length.
-fn long_segment(length: usize) -> List {
+/// A good segment but for its length, with a name of so many octets.
+fn long_segment(length: usize, name: usize) -> List {
     let mut segments = vec![0x41; length];
-    segments[10] = 0x02;
+    segments[name] = 0x02;
     let unit = Unit {
         kind: SEGMENT,
         set: 0,
@@ -326,6 +376,8 @@ fn long_segment(length: usize) -> List {
 
 #[cfg(test)]
 mod tests {
+    use std::collections::HashMap;
+
     use super::*;
 
     #[test]
@@ -340,6 +392,51 @@ mod tests {
         assert!(met[0] > 10_000, "{met:?}");
         let numbers = [7, 8, 9, 11];
         assert!(numbers.iter().all(|&n| met[n] > 50), "{met:?}");
+    }
+
+    /// Where the unit of an index stands, by the direction rule.
+    fn phase(units: &[Unit]) -> &'static str {
+        let many = |kinds: &[u8]| units.iter().filter(|u| kinds.contains(&u.kind)).count();
+        let begun = many(&[LEFT_TO_RIGHT, RIGHT_TO_LEFT]);
+        match begun.checked_sub(many(&[REVERT])) {
+            _ if begun == 0 => "no mark read",
+            Some(0) => "all reverted",
+            _ => "open",
+        }
+    }
+
+    fn kind(unit: &Unit, segments: &[u8]) -> &'static str {
+        let body = part(unit, segments).unwrap_or_default();
+        match shape::segment_text(unit.code as u8, body) {
+            None => "bad",
+            Some([]) => "no text",
+            Some([0x02, ..]) => "02 in front of the text",
+            Some(_) => "text",
+        }
+    }
+
+    #[test]
+    fn segments_of_every_kind_are_met_in_every_phase() {
+        let mut random = Random::new(1);
+        let mut times = HashMap::new();
+        for _ in 0..20_000 {
+            let List { units, segments } = random_list(&mut random);
+            let refusal = writer::list_refusal(&units, &segments);
+            let judged = refusal.map_or(units.len(), |refusal| refusal.place + 1);
+            for (index, unit) in units[..judged].iter().enumerate() {
+                if unit.kind == SEGMENT {
+                    let met = (phase(&units[..index]), kind(unit, &segments), unit.code);
+                    *times.entry(met).or_insert(0) += 1;
+                }
+            }
+        }
+        for phase in ["no mark read", "open", "all reverted"] {
+            for d in 0x30..=0x34 {
+                let kinds = ["no text", "text", "02 in front of the text", "bad"];
+                let least = kinds.map(|kind| *times.get(&(phase, kind, d)).unwrap_or(&0));
+                assert!(least.iter().all(|&times| times > 5), "{phase}, d {d:X}");
+            }
+        }
     }
 
     #[test]
@@ -358,8 +455,10 @@ mod tests {
         let tabs_and_kind_9 = [0, 11, 0, 11, 1, 1];
         let writings = [0, 0, 0, 0, 100, 100];
         let segments = [0, 0, 7, 7];
+        let reverted_with_segment = [0, 8];
         assert_eq!(answers[..6], tabs_and_kind_9);
         assert_eq!(answers[6..12], writings);
-        assert_eq!(answers[12..], segments);
+        assert_eq!(answers[12..16], segments);
+        assert_eq!(answers[16..], reverted_with_segment);
     }
 }

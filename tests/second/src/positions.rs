@@ -7,7 +7,7 @@ use crate::steps::{self, Position};
 use crate::unit::DEPTH;
 
 /// A string for each kind of element and each reason to refuse one.
-const ELEMENTS: [&[u8]; 16] = [
+const ELEMENTS: [&[u8]; 19] = [
     b"",
     b"\x09",
     b"\x0A",
@@ -20,6 +20,9 @@ const ELEMENTS: [&[u8]; 16] = [
     b"\x9B\x32\x5D",
     b"\x9B\x5D",
     b"\x1B\x25\x2F\x31\x80\x84ab\x02\xFF",
+    b"\x1B\x25\x2F\x30\x80\x83a\x02\x02",
+    b"\x1B\x25\x2F\x34\x80\x82a\x02",
+    b"\x1B\x25\x2F\x32\x80\x83a\x02\xFF",
     b"\x1B\x28\x4A",
     b"\x1B\x24\x29\x42",
     b"\x1B\x28",
@@ -43,7 +46,7 @@ const EDGES: [usize; 9] = [
 /// and together with those that it is judged with.
 pub fn all_positions(mut show: impl FnMut(&[u8], Position)) {
     for first in ELEMENTS {
-        for second in [&[][..], b"A", b"\x9B\x5D"] {
+        for second in [&[][..], b"A", b"\x9B\x5D", b"\x9B\x31\x5D"] {
             let s = [first, second].concat();
             let mut show = |position| show(&s, position);
             all_sets(&mut show);
@@ -98,7 +101,8 @@ fn all_places(length: usize, show: &mut impl FnMut(Position)) {
 pub fn random_position(random: &mut Random, s: &[u8]) -> Position {
     let mut position = match random.below(8) {
         0 => return random_octets(random),
-        1..=4 => reached(random, s),
+        1..=3 => reached(random, s),
+        4..=5 => directed(random, s),
         _ => good(random, s.len()),
     };
     for _ in 0..random.below(3) {
@@ -124,6 +128,17 @@ fn random_octets(random: &mut Random) -> Position {
 fn reached(random: &mut Random, s: &[u8]) -> Position {
     let steps = steps::steps(s, Position::OPENED);
     steps[random.below(steps.len())].position
+}
+
+/// Before an element of the string, with directions that the elements before
+/// it have not led to.
+fn directed(random: &mut Random, s: &[u8]) -> Position {
+    Position {
+        depth: random.pick(&[0, 0, 1, DEPTH as u8]),
+        marked: random.below(2) as u8,
+        texted: random.below(2) as u8,
+        ..reached(random, s)
+    }
 }
 
 /// A position that is read on, often in the middle of an element.

@@ -3,6 +3,7 @@
 use crate::random::Random;
 use crate::reader;
 use crate::sets::{self, Sets, Side, DESIGNATIONS};
+use crate::shape;
 use crate::unit::{DEPTH, LIMIT};
 
 /// Octets that some rule tells from their neighbours.
@@ -31,6 +32,16 @@ pub fn prefixes() -> Vec<Vec<u8>> {
         &[0x1B, 0x25, 0x2F, 0x32, 0x80, 0x83],
         &[0x1B, 0x25, 0x2F, 0x31, 0x80, 0x84],
     ];
+    // Before the last octet of a name alone, and of a text, with room for a
+    // mark behind it; and inside a name where a direction is open, or all are
+    // reverted.
+    let directed: [&[u8]; 5] = [
+        b"\x1B%/1\x80\x82a",
+        b"\x1B%/1\x80\x83a\x02",
+        b"\x9B1]\x1B%/1\x80\x83a",
+        b"\x9B1]\x9B]\x1B%/1\x80\x83a",
+        b"\x9B1]\x9B]\x1B%/2\x80\x84a",
+    ];
     let sequences: [&[u8]; 6] = [
         &[0x1B, 0x28],
         &[0x1B, 0x2D],
@@ -39,9 +50,8 @@ pub fn prefixes() -> Vec<Vec<u8>> {
         &[0x1B, 0x25, 0x2F],
         &[0x1B, 0x25, 0x2F, 0x31],
     ];
-    for prefix in marks.iter().chain(&segments).chain(&sequences) {
-        all.push(prefix.to_vec());
-    }
+    let others = marks.iter().chain(&segments).chain(&directed);
+    all.extend(others.chain(&sequences).map(|prefix| prefix.to_vec()));
     all
 }
 
@@ -117,23 +127,33 @@ struct Builder {
     /// Whether marks are wanted, and whether many of them.
     with_marks: bool,
     deep: bool,
+    /// Whether it is mostly segments and marks, and the rule often left aside.
+    directed: bool,
 }
 
 impl Builder {
     fn new(random: &mut Random) -> Builder {
         let deep = random.percent(5);
+        let directed = !deep && random.percent(25);
         Builder {
             s: Vec::new(),
             sets: Sets::FRESH,
             depth: 0,
             marked: false,
             texted: false,
-            with_marks: deep || random.percent(40),
+            with_marks: deep || directed || random.percent(40),
             deep,
+            directed,
         }
     }
 
     fn build(mut self, random: &mut Random, pieces: usize) -> Vec<u8> {
+        if self.directed && random.percent(60) {
+            self.begin(random);
+            if random.percent(70) {
+                self.revert(random);
+            }
+        }
         for _ in 0..pieces {
             self.piece(random);
         }
@@ -144,15 +164,18 @@ impl Builder {
         if self.deep && random.percent(60) {
             return self.begin(random);
         }
-        match random.below(100) {
+        match random.below(if self.directed { 400 } else { 100 }) {
             0..=44 => self.text(random),
             45..=64 => self.designation(random),
             65..=72 => self.s.push(random.pick(&[0x09, 0x0A])),
             73..=80 => self.begin(random),
             81..=87 => self.revert(random),
-            88..=95 => self.s.extend(random_segment(random)),
+            88..=95 => self.segment(random),
             96 => self.s.extend(odd_piece(random)),
-            _ => self.text(random),
+            97..=99 => self.text(random),
+            100..=224 => self.segment(random),
+            225..=299 => self.begin(random),
+            _ => self.revert(random),
         }
     }
 
@@ -161,9 +184,15 @@ impl Builder {
         rule_holds || random.percent(if self.deep { 15 } else { 2 })
     }
 
+    /// Whether text may stand here by the direction rule: where marks are
+    /// wanted, it waits for one.
+    fn takes_text(&self) -> bool {
+        !self.marked && !self.with_marks || self.depth > 0
+    }
+
     fn text(&mut self, random: &mut Random) {
-        let open = !self.marked && !self.with_marks || self.depth > 0;
-        if !self.goes_on(random, open) {
+        let may = self.takes_text();
+        if !self.goes_on(random, may) {
             return self.begin(random);
         }
         self.texted = true;
@@ -178,6 +207,26 @@ impl Builder {
         }
     }
 
+    /// A segment whose text may not stand here loses it, or waits as a
+    /// character does. A bad one is refused wherever it stands.
+    fn segment(&mut self, random: &mut Random) {
+        let (d, mut body) = if self.directed {
+            any_body(random)
+        } else {
+            random_body(random)
+        };
+        let text = shape::segment_text(d, &body).map_or(0, <[u8]>::len);
+        let may = text == 0 || self.takes_text() || self.directed && random.percent(50);
+        if self.goes_on(random, may) {
+            self.texted |= text > 0;
+        } else if random.percent(50) {
+            body.truncate(body.len() - text);
+        } else {
+            return self.begin(random);
+        }
+        self.s.extend(segment(d, &body));
+    }
+
     fn designation(&mut self, random: &mut Random) {
         let d = random.pick(&DESIGNATIONS);
         self.s.extend_from_slice(d.octets);
@@ -185,7 +234,8 @@ impl Builder {
     }
 
     fn begin(&mut self, random: &mut Random) {
-        let may = (self.marked || !self.texted) && self.depth < DEPTH && self.with_marks;
+        let first = self.marked || !self.texted || self.directed;
+        let may = first && self.depth < DEPTH && self.with_marks;
         if self.goes_on(random, may) {
             self.s.extend([0x9B, random.pick(&[0x31, 0x32]), 0x5D]);
             self.marked = true;
@@ -221,20 +271,23 @@ pub fn random_body(random: &mut Random) -> (u8, Vec<u8>) {
         .map(|_| random_name_octet(random))
         .collect();
     body.push(0x02);
-    let octets_of_one = [1, 1, 2, 3, 4][usize::from(d - 0x30)];
-    let mut text_length = octets_of_one * random.below(5);
-    if random.percent(1) {
-        text_length = octets_of_one * random.below(300);
-    }
+    let octets_of_one = octets_of_one(d);
+    let mut text_length = match random.below(100) {
+        0..=39 => 0,
+        40 => octets_of_one * random.below(300),
+        _ => octets_of_one * random.between(1, 4),
+    };
     if random.percent(5) {
         text_length += 1;
     }
+    // More 02 than the one that ends the name.
+    let separators = if random.percent(15) { 60 } else { 0 };
     for _ in 0..text_length {
         let telling = random.pick(&TELLING);
-        body.push(if random.percent(50) {
-            telling
-        } else {
-            random.octet()
+        body.push(match random.below(100) {
+            other if other < separators => 0x02,
+            other if other % 2 == 0 => telling,
+            _ => random.octet(),
         });
     }
     if random.percent(5) {
@@ -242,6 +295,29 @@ pub fn random_body(random: &mut Random) -> (u8, Vec<u8>) {
         body[place] = random.octet();
     }
     (d, body)
+}
+
+/// The same with more bad ones, and with texts that are one character of 02.
+pub fn any_body(random: &mut Random) -> (u8, Vec<u8>) {
+    let (d, mut body) = random_body(random);
+    match random.below(20) {
+        0 => body.insert(0, 0x02),
+        1 => body[0] = random.pick(&[0x20, 0x2A, 0x3F, 0x7F, 0x80, 0xA0]),
+        2 => body.retain(|&octet| octet != 0x02),
+        3 => body.push(0x41),
+        4 => {
+            let text = shape::segment_text(d, &body).map_or(0, <[u8]>::len);
+            body.truncate(body.len() - text);
+            body.extend(vec![0x02; octets_of_one(d)]);
+        }
+        _ => {}
+    }
+    (d, body)
+}
+
+/// The octets of a character in the text of a segment.
+fn octets_of_one(d: u8) -> usize {
+    [1, 1, 2, 3, 4][usize::from(d - 0x30)]
 }
 
 fn random_name_octet(random: &mut Random) -> u8 {
@@ -252,11 +328,6 @@ fn random_name_octet(random: &mut Random) -> u8 {
             return octet;
         }
     }
-}
-
-fn random_segment(random: &mut Random) -> Vec<u8> {
-    let (d, body) = random_body(random);
-    segment(d, &body)
 }
 
 fn segment(d: u8, body: &[u8]) -> Vec<u8> {
@@ -303,6 +374,8 @@ pub fn limit_strings(random: &mut Random) -> Vec<Vec<u8>> {
         all.push(repeated(&[], &[0x1B, 0x28, 0x42], length));
         all.push(ending_in_segment(length, 0));
         all.push(ending_in_segment(length, 1));
+        all.push(reverted_with_segment(length, 0));
+        all.push(reverted_with_segment(length, 1));
         all.push(random_limit_string(random, length));
     }
     all
@@ -330,6 +403,18 @@ fn ending_in_segment(length: usize, missing: usize) -> Vec<u8> {
     s
 }
 
+/// A direction begun and reverted, tabs, and a longest segment that is a name
+/// and a text of so many octets.
+fn reverted_with_segment(length: usize, text: usize) -> Vec<u8> {
+    let mut body = vec![0x41; 16_383];
+    body[16_382 - text] = 0x02;
+    let last = segment(0x31, &body);
+    let mut s = vec![0x9B, 0x31, 0x5D, 0x9B, 0x5D];
+    s.resize(length - last.len(), 0x09);
+    s.extend(last);
+    s
+}
+
 /// A random accepted string with tabs at its end, of exactly this length.
 pub fn random_limit_string(random: &mut Random, length: usize) -> Vec<u8> {
     let fresh_sets = [0x1B, 0x28, 0x42, 0x1B, 0x2D, 0x41];
@@ -346,7 +431,12 @@ pub fn random_limit_string(random: &mut Random, length: usize) -> Vec<u8> {
 
 #[cfg(test)]
 mod tests {
+    use std::collections::HashMap;
+
     use super::*;
+    use crate::reader::State;
+    use crate::shape::Piece;
+    use crate::unit::{CHARACTER, LEFT_TO_RIGHT, SEGMENT, SPACE};
 
     #[test]
     fn all_strings_are_all() {
@@ -379,6 +469,90 @@ mod tests {
         assert!(met[2..].iter().all(|&times| times > 20), "{met:?}");
     }
 
+    /// Where a segment stands, by the direction rule.
+    fn phase(state: &State) -> &'static str {
+        match (state.marks.marked, state.marks.open.len()) {
+            (false, _) => "no mark read",
+            (true, 0) => "all reverted",
+            _ => "open",
+        }
+    }
+
+    /// The phase, kind and d of the element at a reader's place, if that is a
+    /// segment, good or bad.
+    fn segment_at(s: &[u8], state: &State) -> Option<(&'static str, &'static str, u8)> {
+        let kind = match shape::element(s, state.place, state.sets).map(|e| e.piece) {
+            Err(7) => "bad",
+            Ok(Piece::Segment {
+                d, start, length, ..
+            }) => match shape::segment_text(d, &s[start..start + length])? {
+                [] => "no text",
+                [0x02] => "02 alone",
+                text if text.contains(&0x02) => "02 in the text",
+                _ => "text",
+            },
+            _ => return None,
+        };
+        Some((phase(state), kind, s[state.place + 3]))
+    }
+
+    /// All segments of a string, that at which it is refused too.
+    fn segments_met(s: &[u8]) -> Vec<(&'static str, &'static str, u8)> {
+        let mut states = vec![State::fresh()];
+        reader::read_on(s, State::fresh(), |_, after| states.push(after.clone()));
+        let starts = states.iter().filter(|state| state.place < s.len());
+        starts.filter_map(|state| segment_at(s, state)).collect()
+    }
+
+    #[test]
+    fn segments_of_every_kind_are_met_in_every_phase() {
+        let mut random = Random::new(1);
+        let mut times = HashMap::new();
+        for _ in 0..20_000 {
+            for met in segments_met(&random_string(&mut random)) {
+                *times.entry(met).or_insert(0) += 1;
+            }
+        }
+        for phase in ["no mark read", "open", "all reverted"] {
+            for d in 0x30..=0x34 {
+                let many = |kind| *times.get(&(phase, kind, d)).unwrap_or(&0);
+                let least = ["no text", "text", "02 in the text", "bad"].map(many);
+                assert!(least.iter().all(|&times| times > 10), "{phase}, d {d:X}");
+                assert!(d > 0x31 || many("02 alone") > 5, "{phase}, d {d:X}");
+            }
+        }
+    }
+
+    /// A mark is refused for the text of a segment alone, and let be by one
+    /// without text.
+    #[test]
+    fn segments_are_met_before_the_first_mark() {
+        let mut random = Random::new(1);
+        let (mut refused, mut let_be) = (0, 0);
+        for _ in 0..20_000 {
+            let s = random_string(&mut random);
+            let (units, answer) = reader::units_from(&s, State::fresh());
+            let kinds: Vec<u8> = units.iter().map(|unit| unit.kind).collect();
+            let before: Vec<u8> = kinds
+                .iter()
+                .copied()
+                .take_while(|&k| k < LEFT_TO_RIGHT || k == SEGMENT)
+                .collect();
+            if !before.contains(&SEGMENT) || before.contains(&CHARACTER) || before.contains(&SPACE)
+            {
+                continue;
+            }
+            let begins =
+                answer.number == 8 && s[answer.place] == 0x9B && s[answer.place + 1] != 0x5D;
+            refused += usize::from(before.len() == kinds.len() && begins);
+            let_be += usize::from(before.len() < kinds.len());
+        }
+        assert!(
+            refused > 100 && let_be > 100,
+            "{refused} refused, {let_be} let be"
+        );
+    }
+
     #[test]
     fn strings_at_the_limit_are_what_they_say() {
         let mut random = Random::new(1);
@@ -390,9 +564,9 @@ mod tests {
             let here = answers.iter().filter(|answer| answer.0 == length);
             here.map(|answer| answer.1).collect()
         };
-        assert_eq!(of(LIMIT - 1), [0, 3, 3, 0, 0, 2, 0, 2, 0]);
-        assert_eq!(of(LIMIT), [0, 3, 3, 2, 0, 0, 0, 2, 0]);
-        assert_eq!(of(LIMIT + 1), [1; 9]);
-        assert_eq!(of(LIMIT + 2), [1; 9]);
+        assert_eq!(of(LIMIT - 1), [0, 3, 3, 0, 0, 2, 0, 2, 0, 8, 0]);
+        assert_eq!(of(LIMIT), [0, 3, 3, 2, 0, 0, 0, 2, 0, 8, 0]);
+        assert_eq!(of(LIMIT + 1), [1; 11]);
+        assert_eq!(of(LIMIT + 2), [1; 11]);
     }
 }
