@@ -11,6 +11,7 @@ use crate::runs::{self, Shown};
 use crate::steps::{self, Handed, Position};
 use crate::unit::*;
 use crate::writer;
+use crate::wrong_rules::WrongRule;
 
 #[derive(Clone, Copy, PartialEq)]
 pub enum Fault {
@@ -73,6 +74,10 @@ pub enum Fault {
     PlainFirst,
     /// A resource input is changed.
     WritesInput,
+    /// The check and the steps keep a wrong rule for segments.
+    Reads(WrongRule),
+    /// The writer keeps one.
+    Writes(WrongRule),
 }
 
 pub struct Faulty {
@@ -103,6 +108,20 @@ impl Faulty {
             _ => {}
         }
         position
+    }
+
+    fn steps(&self, s: &[u8], from: Position) -> Vec<Handed> {
+        match self.fault {
+            Fault::Reads(rule) => rule.steps(s, from),
+            _ => steps::steps(s, from),
+        }
+    }
+
+    fn list_refusal(&self, units: &[Unit], segments: &[u8]) -> Option<Answer> {
+        match self.fault {
+            Fault::Writes(rule) if units.len() <= LIMIT => rule.list_refusal(units, segments),
+            _ => writer::list_refusal(units, segments),
+        }
     }
 
     /// What a faulty step hands back in place of the right thing.
@@ -150,7 +169,8 @@ impl Faulty {
 
 impl Library for Faulty {
     fn check(&self, s: &[u8]) -> Answer {
-        let mut answer = reader::check(s);
+        let steps = self.steps(s, Position::OPENED);
+        let mut answer = steps[steps.len() - 1].answer;
         if self.fault == Fault::CountOfRefusal && answer.number == 8 {
             answer.count = 1;
         }
@@ -198,7 +218,7 @@ impl Library for Faulty {
         }
         let s = &memory[string];
         let from = self.taken(position);
-        self.spoil(s, position, &steps::steps(s, from))
+        self.spoil(s, position, &self.steps(s, from))
     }
 
     fn open_runs(&self) -> RunReader {
@@ -266,7 +286,7 @@ impl Library for Faulty {
         if self.fault == Fault::WorkTooMuch {
             work.octets[work.lent] = 0;
         }
-        if let Some(refusal) = writer::list_refusal(units, segments) {
+        if let Some(refusal) = self.list_refusal(units, segments) {
             return refusal;
         }
         let mut string = writer::shortest_lazy(units, segments);

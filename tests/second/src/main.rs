@@ -31,6 +31,8 @@ mod strings;
 mod tests;
 mod unit;
 mod writer;
+#[cfg(test)]
+mod wrong_rules;
 
 use std::env;
 use std::process::ExitCode;

@@ -54,7 +54,7 @@ impl Marks {
 }
 
 /// What an element is to the direction rule.
-fn part_of(piece: &Piece) -> Part {
+pub fn part_of(piece: &Piece) -> Part {
     match piece {
         Piece::Character { .. } | Piece::Space => Part::Text,
         Piece::Segment { has_text, .. } => part_of_segment(*has_text),
@@ -99,6 +99,15 @@ impl State {
     pub fn is_good(&self, length: usize) -> bool {
         self.place <= length && self.sets.are_good() && self.marks.open.len() <= DEPTH
     }
+
+    /// Goes past an element that the direction rule has admitted.
+    pub fn pass(&mut self, element: &Element) {
+        self.place = element.end;
+        match element.piece {
+            Piece::Designation(side, set) => self.sets = self.sets.with(side, set),
+            _ => self.handed = self.handed.saturating_add(1),
+        }
+    }
 }
 
 /// Reads on from a state to the end or the offending element. Shows every
@@ -127,11 +136,7 @@ fn pass_element(
 ) -> Result<(), u8> {
     let element = shape::element(s, state.place, state.sets)?;
     state.marks.admit(part_of(&element.piece))?;
-    state.place = element.end;
-    match element.piece {
-        Piece::Designation(side, set) => state.sets = state.sets.with(side, set),
-        _ => state.handed = state.handed.saturating_add(1),
-    }
+    state.pass(&element);
     take(&element, state);
     Ok(())
 }

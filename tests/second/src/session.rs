@@ -442,6 +442,7 @@ mod tests {
     use super::*;
     use crate::faults::{Fault, Faulty};
     use crate::unit::*;
+    use crate::wrong_rules::WrongRule;
 
     fn session(fault: Fault) -> Session<Faulty> {
         let all = Functions {
@@ -615,6 +616,75 @@ mod tests {
         let (smallest, call) = found(Fault::WritesInput, s);
         assert_eq!(smallest.len(), 2);
         assert_eq!(call, "the string among its guards after all calls");
+    }
+
+    /// Each wrong rule shows in the strings after a prefix, and in random
+    /// strings, readers and lists.
+    #[test]
+    fn wrong_rules_for_segments_are_found() {
+        let differences = |fault, compare: fn(&mut Session<Faulty>)| {
+            let mut session = session(fault);
+            compare(&mut session);
+            session.differences
+        };
+        for rule in WrongRule::ALL {
+            let (reads, writes) = (Fault::Reads(rule), Fault::Writes(rule));
+            let prefixed = differences(reads, |session| {
+                let prefixes = strings::prefixes();
+                for prefix in prefixes.iter().filter(|prefix| prefix.len() > 6) {
+                    session.all_strings(prefix, &strings::FEW, 4);
+                }
+            });
+            let strings = differences(reads, |session| session.random_strings(5_000));
+            let readers = differences(reads, |session| session.random_readers(5_000));
+            let lists = differences(writes, |session| session.random_lists(5_000));
+            let found = [prefixed, strings, readers, lists];
+            assert!(found.iter().all(|&times| times > 5), "{rule:?} {found:?}");
+        }
+    }
+
+    #[test]
+    fn wrong_rules_for_segments_are_shrunk() {
+        let found = |rule, s: &[u8]| smallest(Fault::Reads(rule), s);
+        let check = |s: &[u8]| (s.to_vec(), "ctext_check".to_string());
+        let s = b"\x09\x1B%/1\x80\x82a\x02\x0A\x9B1]A";
+        let name_then_mark = check(b"\x1B%/1\x80\x82a\x02\x9B1]");
+        assert_eq!(found(WrongRule::EverySegment, s), name_then_mark);
+        let s = b"\x09\x1B%/1\x80\x83a\x02\x02\x0A\x9B1]A";
+        let text_then_mark = check(b"\x1B%/1\x80\x83a\x02\x02\x9B1]");
+        assert_eq!(found(WrongRule::NoSegment, s), text_then_mark);
+        assert_eq!(found(WrongRule::LastSeparator, s), text_then_mark);
+        assert_eq!(found(WrongRule::Forgotten, s), text_then_mark);
+        let s = b"\x9B1]A\x9B]\x09\x1B%/1\x80\x83a\x02\x02\x0A";
+        let text_after_revert = check(b"\x9B1]\x9B]\x1B%/1\x80\x83a\x02\x02");
+        assert_eq!(found(WrongRule::NotRefused, s), text_after_revert);
+        let s = b"\x9B1]A\x9B]\x09\x1B%/1\x80\x84abcd\x0A";
+        let bad_after_revert = check(b"\x9B1]\x9B]\x1B%/1d");
+        assert_eq!(found(WrongRule::BadToo, s), bad_after_revert);
+    }
+
+    /// A writer that keeps the rule from before request No. 2.
+    #[test]
+    fn a_wrong_rule_of_the_writer_is_shrunk() {
+        let unit = |kind| Unit {
+            kind,
+            ..Unit::default()
+        };
+        let (begin, revert, tab) = (unit(LEFT_TO_RIGHT), unit(REVERT), unit(TAB));
+        let segment = Unit {
+            code: 0x31,
+            length: 3,
+            ..unit(SEGMENT)
+        };
+        let list = List {
+            units: vec![tab, begin, tab, revert, segment, tab],
+            segments: b"a\x02\x02bc".to_vec(),
+        };
+        let session = session(Fault::Writes(WrongRule::NoSegment));
+        let first = session.comparer.list(&list.units, &list.segments);
+        let (smallest, _) = session.smallest_list(list, first.expect_err("a difference"));
+        assert_eq!(smallest.units, [begin, revert, segment]);
+        assert_eq!(smallest.segments, b"a\x02\x02");
     }
 
     /// A fault that only a long form shows.

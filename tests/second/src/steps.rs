@@ -181,6 +181,36 @@ mod tests {
         assert_eq!(steps[3].given, 0);
     }
 
+    /// Where no direction is open after a mark, a segment with a text is refused
+    /// and the reader stays; elsewhere it is remembered as text.
+    #[test]
+    fn steps_over_a_segment() {
+        let at = |depth, marked, texted| Position {
+            marked,
+            texted,
+            ..by_hand(depth, 0)
+        };
+        let (with_text, name) = (b"\x1B%/1\x80\x83a\x02\x02", b"\x1B%/4\x80\x82a\x02");
+        for texted in [0, 1] {
+            let refused = steps(with_text, at(0, 1, texted));
+            assert_eq!(refused.len(), 1);
+            assert_eq!(refused[0].answer, Answer::refusal(8, 0));
+            assert_eq!(refused[0].position, at(0, 1, texted));
+            for (depth, marked) in [(0, 0), (1, 0), (1, 1)] {
+                let handed = steps(with_text, at(depth, marked, texted))[0];
+                assert_eq!((handed.given, handed.unit.length), (1, 3));
+                assert_eq!(
+                    (handed.position.marked, handed.position.texted),
+                    (marked, 1)
+                );
+                let handed = steps(name, at(depth, marked, texted))[0];
+                assert_eq!((handed.given, handed.position.texted), (1, texted));
+            }
+            let handed = steps(name, at(0, 1, texted))[0];
+            assert_eq!((handed.given, handed.position.texted), (1, texted));
+        }
+    }
+
     #[test]
     fn a_bad_reader_stays() {
         let bad = Position {

@@ -34,7 +34,7 @@ pub fn list_refusal(units: &[Unit], segments: &[u8]) -> Option<Answer> {
 
 /// Within a unit the order is 11, 7, 8, 9: a segment is judged by itself before
 /// its text is one for the direction rule.
-fn admit_unit(unit: &Unit, segments: &[u8], marks: &mut Marks) -> Result<(), u8> {
+pub fn admit_unit(unit: &Unit, segments: &[u8], marks: &mut Marks) -> Result<(), u8> {
     let part = match unit.kind {
         CHARACTER if !sets::uses(unit.set, unit.code) => return Err(11),
         CHARACTER | SPACE => Part::Text,

@@ -1,0 +1,133 @@
+//! Wrong rules of what an extended segment is to the direction rule, to test
+//! the comparison itself: a reader and a writer that keep one of them.
+
+use crate::reader::{self, Marks, Part, State};
+use crate::shape::{self, Piece};
+use crate::steps::{self, Handed, Position};
+use crate::unit::*;
+use crate::writer;
+
+#[derive(Clone, Copy, PartialEq, Debug)]
+pub enum WrongRule {
+    /// Every segment is text, as if its name were part of that.
+    EverySegment,
+    /// None is, as before request No. 2.
+    NoSegment,
+    /// The text is taken to stand behind the last 02.
+    LastSeparator,
+    /// A segment with a text is refused, but a mark behind it is not.
+    Forgotten,
+    /// A mark behind a segment with a text is refused, but the segment is not.
+    NotRefused,
+    /// A bad segment is text too, and its shape is judged after that.
+    BadToo,
+}
+
+use WrongRule::*;
+
+impl WrongRule {
+    pub const ALL: [WrongRule; 6] = [
+        EverySegment,
+        NoSegment,
+        LastSeparator,
+        Forgotten,
+        NotRefused,
+        BadToo,
+    ];
+
+    /// Takes the n octets of a segment, or gives the number of its refusal.
+    fn admit(self, marks: &mut Marks, d: u8, body: &[u8]) -> Result<(), u8> {
+        let text = shape::segment_text(d, body);
+        let is_text = match (self, text) {
+            (BadToo, None) => true,
+            (_, None) => return Err(7),
+            (EverySegment, _) => true,
+            (NoSegment, _) => false,
+            (LastSeparator, _) => body.last() != Some(&0x02),
+            (_, Some(text)) => !text.is_empty(),
+        };
+        if is_text {
+            self.admit_text(marks)?;
+        }
+        text.map(|_| ()).ok_or(7)
+    }
+
+    fn admit_text(self, marks: &mut Marks) -> Result<(), u8> {
+        let before = marks.texted;
+        let admitted = marks.admit(Part::Text);
+        match self {
+            Forgotten => marks.texted = before,
+            NotRefused => {
+                marks.texted = true;
+                return Ok(());
+            }
+            _ => {}
+        }
+        admitted
+    }
+
+    /// Takes the state past the element at its place, or leaves it there.
+    fn pass_element(self, s: &[u8], state: &mut State) -> Result<Option<Unit>, u8> {
+        let element = match shape::element(s, state.place, state.sets) {
+            Err(7) => return self.admit(&mut state.marks, 0x30, &[]).map(|()| None),
+            element => element?,
+        };
+        match element.piece {
+            Piece::Segment {
+                d, start, length, ..
+            } => self.admit(&mut state.marks, d, &s[start..start + length])?,
+            piece => state.marks.admit(reader::part_of(&piece))?,
+        }
+        state.pass(&element);
+        Ok(reader::unit_of(&element))
+    }
+
+    /// All steps of a reader over a string, the last with the answer.
+    pub fn steps(self, s: &[u8], from: Position) -> Vec<Handed> {
+        let mut state = from.state();
+        if s.len() > LIMIT || !state.is_good(s.len()) {
+            return steps::steps(s, from);
+        }
+        let mut steps = Vec::new();
+        let mut handed = Handed {
+            position: Position::of(&state),
+            answer: Answer::accepted(0, 0),
+            unit: Unit::default(),
+            given: 1,
+        };
+        while state.place < s.len() {
+            match self.pass_element(s, &mut state) {
+                Err(number) => {
+                    handed.answer = Answer::refusal(number, state.place);
+                    break;
+                }
+                Ok(None) => {}
+                Ok(Some(unit)) => {
+                    (handed.position, handed.unit) = (Position::of(&state), unit);
+                    steps.push(handed);
+                }
+            }
+        }
+        if handed.answer.is_accepted() {
+            handed.answer = Answer::accepted(s.len(), state.handed);
+        }
+        (handed.unit, handed.given) = (Unit::default(), 0);
+        steps.push(handed);
+        steps
+    }
+
+    /// The refusal of a list that is not too long.
+    pub fn list_refusal(self, units: &[Unit], segments: &[u8]) -> Option<Answer> {
+        let mut marks = Marks::default();
+        units.iter().enumerate().find_map(|(index, unit)| {
+            let alone = writer::admit_unit(unit, segments, &mut Marks::default());
+            let admitted = match (unit.kind, alone, part(unit, segments)) {
+                (SEGMENT, Ok(()) | Err(7), Some(body)) => {
+                    self.admit(&mut marks, unit.code as u8, body)
+                }
+                _ => writer::admit_unit(unit, segments, &mut marks),
+            };
+            admitted.err().map(|number| Answer::refusal(number, index))
+        })
+    }
+}
