@@ -69,18 +69,19 @@ static inline int final_octet(const uint8_t **at, const uint8_t *end, enum desig
     return ACCEPTED;
 }
 
-// The n octets of an extended segment: a name, 02 and a text of so many octets a character.
-static int segment_octets(const uint8_t *octets, size_t n, unsigned width)
+// The n octets of an extended segment: a name, 02 and a text of so many octets a character. How many octets the text has goes to *text.
+static int segment_octets(const uint8_t *octets, size_t n, unsigned width, size_t *text)
 {
     const uint8_t *separator = memchr(octets, 2, n);
     if (!separator || separator == octets) return BAD_SEGMENT;
     for (const uint8_t *p = octets; p < separator; p++)
         if (*p < 0x21 || (*p > 0x7E && *p < 0xA1) || *p == 0x2A || *p == 0x3F) return BAD_SEGMENT;
-    return (octets + n - separator - 1) % width ? BAD_SEGMENT : ACCEPTED;
+    *text = (size_t)(octets + n - separator - 1);
+    return *text % width ? BAD_SEGMENT : ACCEPTED;
 }
 
 // An extended segment, from its third octet on.
-static int segment(const uint8_t **at, const uint8_t *end)
+static int segment(const uint8_t **at, const uint8_t *end, size_t *text)
 {
     const uint8_t *p = *at;
     if (p == end) return CUT;
@@ -97,12 +98,12 @@ static int segment(const uint8_t **at, const uint8_t *end)
     size_t n = (m - 128) * 128 + (l - 128);
     if ((size_t)(end - p) < n) return CUT;
     *at = p + n;
-    return segment_octets(p, n, d < 2 ? 1 : d);
+    return segment_octets(p, n, d < 2 ? 1 : d, text);
 }
 
 static inline bool within(uint8_t octet, uint8_t lowest) { return (uint8_t)(octet - lowest) < 94; }
 
-#define REFUSE(number) return (struct verdict){(number), (uint32_t)(start - octets)}
+#define REFUSE(number) return (struct verdict){(uint32_t)(number), (uint32_t)(start - octets)}
 
 // Characters of two octets, on the side whose lowest octet is given: written out for each, so that it compares with constants.
 #define PAIRS(lowest)                                                                   \
@@ -120,6 +121,7 @@ struct verdict yardstick(const uint8_t *octets, size_t length)
     if (length > LONGEST) REFUSE(TOO_LONG);
     int left = LEFT_94, right = RIGHT_96, depth = 0, number;
     bool marked = false, texted = false;
+    size_t text;
     const uint8_t *class = classes[left][right - RIGHT_94];
     while (p < end) {
         start = p;
@@ -151,7 +153,9 @@ struct verdict yardstick(const uint8_t *octets, size_t length)
                 d = *p++ == 0x28 ? LEFT_PAIRS : RIGHT_PAIRS;
                 break;
             case 0x25:
-                if ((number = segment(&p, end))) REFUSE(number);
+                if ((number = segment(&p, end, &text))) REFUSE(number);
+                if (text && marked && !depth) REFUSE(DIRECTION);
+                if (text) texted = true;
                 continue;
             case 0x23: REFUSE(VERSION);
             default: REFUSE(UNKNOWN);

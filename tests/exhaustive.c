@@ -26,6 +26,7 @@ struct prefix {
 
 #define LTR "\x9B" "1]"
 #define EIGHT LTR LTR LTR LTR LTR LTR LTR LTR
+#define REVERTED LTR "\x9B]"
 
 static const struct prefix prefixes[] = {
     {"a 94 set designated to GL", "\x1B(J"},
@@ -36,10 +37,10 @@ static const struct prefix prefixes[] = {
     {"94 by 94 sets on both sides", "\x1B$(A\x1B$)C"},
     {"a direction open", LTR},
     {"a direction open, and text in it", "\x9B" "2]A"},
-    {"all directions reverted", LTR "\x9B]"},
+    {"all directions reverted", REVERTED},
     {"text before any direction", "A"},
     {"text before any direction, inside a mark", "A\x9B"},
-    {"all directions reverted, a 94 by 94 set designated", LTR "\x9B]\x1B$(B"},
+    {"all directions reverted, a 94 by 94 set designated", REVERTED "\x1B$(B"},
     {"fifteen directions open", EIGHT LTR LTR LTR LTR LTR LTR LTR},
     {"sixteen directions open", EIGHT EIGHT},
     {"sixteen directions open, inside a mark", EIGHT EIGHT "\x9B"},
@@ -54,6 +55,13 @@ static const struct prefix prefixes[] = {
     {"inside a segment's name, three octets a character", "\x1B%/3\x80\x85" "ab"},
     {"inside a segment's text", "\x1B%/1\x80\x84" "a\x02"},
     {"inside a segment's text, three octets a character", "\x1B%/3\x80\x84" "a\x02"},
+    {"after a segment with a text, inside a mark", "\x1B%/1\x80\x83" "a\x02" "b\x9B"},
+    {"after a segment whose text is an 02, inside a mark", "\x1B%/1\x80\x83" "a\x02\x02\x9B"},
+    {"after a segment without text, inside a mark", "\x1B%/2\x80\x82" "a\x02\x9B"},
+    {"a direction open, inside a segment's name", LTR "\x1B%/1\x80\x83" "a"},
+    {"all directions reverted, inside a segment's name", REVERTED "\x1B%/1\x80\x83" "a"},
+    {"all directions reverted, inside a segment's name, two octets a character", REVERTED "\x1B%/2\x80\x84" "a"},
+    {"all directions reverted, after a segment without text", REVERTED "\x1B%/4\x80\x82" "a\x02"},
 };
 
 enum { PREFIXES = sizeof prefixes / sizeof *prefixes, PARTS = 1 + 256 + PREFIXES };
