@@ -198,18 +198,44 @@ static void directions(struct string *s, size_t length)
     while (s->length < length) put(s, 0x0A);
 }
 
-// Extended segments of a short name and a text of up to 40 octets, and a few characters between them.
+// An extended segment of a short name and a text of so many octets, of which a character has as many as the width says; 0 is any number.
+static void segment(struct string *s, int width, int octets)
+{
+    int n = 6 + octets;
+    put_all(s, "\x1B%/");
+    put(s, 0x30 + width);
+    put(s, 0x80 + n / 128);
+    put(s, 0x80 + n % 128);
+    put_all(s, "koi8r\x02");
+    for (; octets > 0; octets--) put(s, between(0, 255));
+}
+
+// Extended segments with texts of up to 40 octets, and a few characters between them.
 static void segments(struct string *s, size_t length)
 {
     while (s->length + 64 < length) {
-        int width = between(0, 4), n = 6 + (width < 2 ? between(0, 40) : between(0, 10) * width);
-        put_all(s, "\x1B%/");
-        put(s, 0x30 + width);
-        put(s, 0x80 + n / 128);
-        put(s, 0x80 + n % 128);
-        put_all(s, "koi8r\x02");
-        for (n -= 6; n > 0; n--) put(s, between(0, 255));
-        for (n = between(0, 3); n > 0; n--) put(s, between(0x61, 0x7A));
+        int width = between(0, 4);
+        segment(s, width, width < 2 ? between(0, 40) : between(0, 10) * width);
+        for (int n = between(0, 3); n > 0; n--) put(s, between(0x61, 0x7A));
+    }
+    while (s->length < length) put(s, 0x0A);
+}
+
+// Directions, begun and reverted around characters and extended segments. A third of the segments has no text, nor has any outside of them.
+static void directed_segments(struct string *s, size_t length)
+{
+    int depth = 0;
+    while (s->length + 64 < length) {
+        if (depth == 0 || (depth < 16 && below(2))) {
+            put_all(s, below(2) ? "\x9B" "1]" : "\x9B" "2]");
+            depth++;
+        } else {
+            put_all(s, "\x9B]");
+            depth--;
+        }
+        for (int n = depth ? between(0, 3) : 0; n > 0; n--) put(s, between(0x61, 0x7A));
+        int width = between(0, 4);
+        segment(s, width, depth == 0 || below(3) == 0 ? 0 : width < 2 ? between(1, 40) : between(1, 10) * width);
     }
     while (s->length < length) put(s, 0x0A);
 }
@@ -414,5 +440,8 @@ int main(int count, char **words)
     ladder("marks", marks);
     ladder("names", names);
     resource_files();
+    // after all others, which stay what they were for the same seed
+    strings("directed-segments", 1, LONGEST, directed_segments);
+    ladder("directed-segments", directed_segments);
     return 0;
 }

@@ -70,18 +70,18 @@ static inline int final_octet(const uint8_t **at, const uint8_t *end, enum desig
 }
 
 // The n octets of an extended segment: a name, 02 and a text of so many octets a character. How many octets the text has goes to *text.
-static int segment_octets(const uint8_t *octets, size_t n, unsigned width, size_t *text)
+static int segment_octets(const uint8_t *octets, size_t n, unsigned width, unsigned *text)
 {
     const uint8_t *separator = memchr(octets, 2, n);
     if (!separator || separator == octets) return BAD_SEGMENT;
     for (const uint8_t *p = octets; p < separator; p++)
         if (*p < 0x21 || (*p > 0x7E && *p < 0xA1) || *p == 0x2A || *p == 0x3F) return BAD_SEGMENT;
-    *text = (size_t)(octets + n - separator - 1);
+    *text = (unsigned)(octets + n - separator - 1);
     return *text % width ? BAD_SEGMENT : ACCEPTED;
 }
 
 // An extended segment, from its third octet on.
-static int segment(const uint8_t **at, const uint8_t *end, size_t *text)
+static int segment(const uint8_t **at, const uint8_t *end, unsigned *text)
 {
     const uint8_t *p = *at;
     if (p == end) return CUT;
@@ -121,7 +121,7 @@ struct verdict yardstick(const uint8_t *octets, size_t length)
     if (length > LONGEST) REFUSE(TOO_LONG);
     int left = LEFT_94, right = RIGHT_96, depth = 0, number;
     bool marked = false, texted = false;
-    size_t text;
+    unsigned text;
     const uint8_t *class = classes[left][right - RIGHT_94];
     while (p < end) {
         start = p;
