@@ -32,9 +32,9 @@ pub fn prefixes() -> Vec<Vec<u8>> {
         &[0x1B, 0x25, 0x2F, 0x32, 0x80, 0x83],
         &[0x1B, 0x25, 0x2F, 0x31, 0x80, 0x84],
     ];
-    // Before the last octet of a name alone, and of a text, with room for a
-    // mark behind it; and inside a name where a direction is open, or all are
-    // reverted.
+    // One octet before the end of a segment without text and of one with a
+    // text, so that a mark fits behind it; inside a name where a direction is
+    // open, and where all are reverted.
     let directed: [&[u8]; 5] = [
         b"\x1B%/1\x80\x82a",
         b"\x1B%/1\x80\x83a\x02",
