@@ -51,6 +51,21 @@ pub or-none : (a b : Bool) → (a || b) ≡ false → (a ≡ false) × (b ≡ fa
 or-none true b e = absurd (true≢false e)
 or-none false b e = (refl, e)
 
+pub or-first : (a : Bool) → (a || false) ≡ true → a ≡ true
+or-first true e = refl
+or-first false e = e
+
+pub or-more : (a b c : Bool) → (a || c) ≡ true → ((a || b) || c) ≡ true
+or-more true b c e = refl
+or-more false true c e = refl
+or-more false false c e = e
+
+pub or-turn : (a b c : Bool) → (a || (b || c)) ≡ true → ((b || a) || c) ≡ true
+or-turn true true c e = refl
+or-turn true false c e = refl
+or-turn false true c e = refl
+or-turn false false c e = e
+
 pub beq-eq : (a b : Bool) → Bool·beq a b ≡ true → a ≡ b
 beq-eq true true e = refl
 beq-eq true false e = off e

@@ -1,7 +1,7 @@
--- An element has one octet at least, and no more than are there; the fields of its unit that mean nothing are 0; whether it is text is told by its
--- kind and the octets of a text; a refused one has a number above 0; and a state that is fit stays fit. Of the shape (`Shaped`) it is shown for each
--- definition from the leaves up, with `n` the octets that the element may have; of the element (`Sized`) by its shape and the direction rule. On the
--- way: escape sequences and direction marks are no characters or spaces (`escape-kind`, `mark-kind`).
+-- An element has one octet at least, and no more than are there; the fields of its unit that mean nothing are 0; a refused one has a number
+-- above 0; and a state that is fit stays fit. Of the shape (`Shaped`) it is shown for each definition from the leaves up, with `n` the octets
+-- that the element may have; of the element (`Sized`) by its shape and the direction rule. On the way: escape sequences and direction marks are no
+-- characters or spaces (`escape-kind`, `mark-kind`).
 use Rattle.element.proofs.Names.{ℕ, suc, _+_, _-_, _<_, _≤_, zero-le, arith, _≡_, refl, sym, Bool, true, cond, List, [], _∷_, eqb, leb, ltb}
 use Rattle.element.proofs.Names.{length, take, leb-true, ltb-true, pick, pick-by, tested, no-set, allowed, setOf, Side, GL, GR, directions, writtenOf}
 use Rattle.element.proofs.Names.{deeperOf, begunOf, revertedOf, stepOf, get, put, designatedOf, Directions, Step, Goes, Stops, part, next, Sets}
@@ -10,8 +10,7 @@ use Rattle.base.specs.Kind as kind
 use Rattle.base.specs.Limit as limit
 use Rattle.base.specs.Refusal as refusal
 use Rattle.charset.proofs.Laws.{set-named}
-use Rattle.state.specs.Directions.{countsAsText}
-use Rattle.state.specs.Elements.{refused, unit as bare}
+use Rattle.state.specs.Elements.{refused}
 use Rattle.text.specs.Text.{secondOctetOf}
 use Rattle.control.specs.Escape.{intermediatesOf, designatesOf, finalOf, designationOf, multiOctetOf, escapeOf}
 use Rattle.segment.specs.Segment.{segmentPart, nameOf, contentOf, bodyOf, lengthsOf, extendedOf}
@@ -25,17 +24,12 @@ use Rattle.segment.specs.declared.Name.{Name, the-variants.Ends as NameEnds, th
 
 -- ---- a shape
 
--- a unit counts as text by its kind and the octets of a text
-pub data Counted (p : Part) : Type 0 where
-  counted : (text : ℕ) → p .text ≡ countsAsText (p .kind) text → Counted p
-
 -- a shape of at least one and at most n octets, and the end only where n is 0; its unit is of no kind below `low`
 data Shaped (n low : ℕ) : Shape → Type 0 where
   nothing : n ≡ 0 → Shaped n low Ends
   short : {r o : ℕ} → 1 ≤ r → o ≤ n → Shaped n low (Refuses r o)
   designates : {k : ℕ} {d : Side} {c : ℕ} → 1 ≤ k → k ≤ n → allowed d c ≡ true → Shaped n low (Designates k d c)
-  gives : {p : Part} → 1 ≤ p .skip + p .octets → p .skip + p .octets ≤ n → low ≤ p .kind → MeantPart p → Counted p
-      → Shaped n low (Gives p)
+  gives : {p : Part} → 1 ≤ p .skip + p .octets → p .skip + p .octets ≤ n → low ≤ p .kind → MeantPart p → Shaped n low (Gives p)
 
 module _ {n low : ℕ} where
   no : {r : ℕ} → Shaped n low (refused (suc r))
@@ -51,13 +45,13 @@ module _ {n low : ℕ} where
   onward [] f h = no
   onward (b ∷ u) f h = h b u refl
 
-  unit : (k set code octets : ℕ) → Meant k set code → (low ≤ k) × (1 ≤ octets) × (octets ≤ n) → Shaped n low (bare k set code octets)
-  unit k set code octets f h =
-      gives {p = part k set code 0 octets (countsAsText k 0)} (omega arith) (omega arith) (h .0) f (counted 0 refl)
+  unit : (k set code octets : ℕ) (x : Bool) → Meant k set code → (low ≤ k) × (1 ≤ octets) × (octets ≤ n)
+      → Shaped n low (Gives (part k set code 0 octets x))
+  unit k set code octets x f h = gives {p = part k set code 0 octets x} (omega arith) (omega arith) (h .0) f
 
   second : low ≤ 0 → (set b : ℕ) (t : List ℕ) → 1 + length t ≤ n → Shaped n low (secondOctetOf set b t)
   unfolding secondOctetOf
-  second l set b t h = onward t _ (λ d u e. either _ (either _ (unit 0 set _ 2 with-set (omega arith)) no) no)
+  second l set b t h = onward t _ (λ d u e. either _ (either _ (unit 0 set _ 2 _ with-set (omega arith)) no) no)
 
   intermediates : (t : List ℕ) → Shaped n low (intermediatesOf t)
   unfolding intermediatesOf
@@ -85,9 +79,7 @@ module _ {n low : ℕ} where
 module _ {n low : ℕ} (few : low ≤ 2) where
   content : (d m : ℕ) (k : Name) → 6 + m ≤ n → Shaped n low (contentOf d m k)
   unfolding contentOf
-  content d m (NameEnds k) h =
-      let p = segmentPart d m (m - k - 1) in
-      either _ (either _ (gives {p = p} (omega arith) h (omega arith) with-code (counted (m - k - 1) refl)) no) no
+  content d m (NameEnds k) h = either _ (either _ (gives {p = segmentPart d m (m - k - 1)} (omega arith) h (omega arith) with-code) no) no
   content d m (Bad k) h = no
 
   body : (d m : ℕ) (t : List ℕ) → 6 + length t ≤ n → Shaped n low (bodyOf d m t)
@@ -114,14 +106,14 @@ module _ {n low : ℕ} (few : low ≤ 2) where
 
   begin : (k : ℕ) (t : List ℕ) → (2 ≤ k) × (k < kind.segment) × (2 + length t ≤ n) → Shaped n low (beginOf k t)
   unfolding beginOf
-  begin k t h = onward t _ (λ b u e. either _ (unit k 0 0 3 (with-none (h .1)) (omega arith)) no)
+  begin k t h = onward t _ (λ b u e. either _ (unit k 0 0 3 _ (with-none (h .1)) (omega arith)) no)
 
   csi : (t : List ℕ) → 1 + length t ≤ n → Shaped n low (csiOf t)
   unfolding csiOf
   csi t h =
       onward t _
       (λ b u e.
-      either _ (unit 6 0 0 2 (with-none (omega arith)) (omega arith))
+      either _ (unit 6 0 0 2 _ (with-none (omega arith)) (omega arith))
       (either _ (begin 4 u (omega arith)) (either _ (begin 5 u (omega arith)) no)))
 
 module _ {n : ℕ} (s : Sets) where
@@ -129,10 +121,10 @@ module _ {n : ℕ} (s : Sets) where
   unfolding begunBy
   begun start.escape b t h = escape zero-le t h
   begun start.mark b t h = csi zero-le t h
-  begun start.tab b t h = unit kind.tab 0 0 1 (with-none (omega arith)) (omega arith)
-  begun start.newline b t h = unit kind.newline 0 0 1 (with-none (omega arith)) (omega arith)
-  begun start.space b t h = unit kind.space 0 0 1 (with-none (omega arith)) (omega arith)
-  begun (start.one d) b t h = unit kind.character (get d s) _ 1 with-set (omega arith)
+  begun start.tab b t h = unit kind.tab 0 0 1 _ (with-none (omega arith)) (omega arith)
+  begun start.newline b t h = unit kind.newline 0 0 1 _ (with-none (omega arith)) (omega arith)
+  begun start.space b t h = unit kind.space 0 0 1 _ (with-none (omega arith)) (omega arith)
+  begun (start.one d) b t h = unit kind.character (get d s) _ 1 _ with-set (omega arith)
   begun (start.two d) b t h = second zero-le (get d s) b t h
   begun start.unused b t h = no
 
@@ -140,12 +132,6 @@ module _ {n : ℕ} (s : Sets) where
   unfolding shapeOf
   shape [] h = nothing (sym h)
   shape (b ∷ t) h = begun (startIn s b) b t (omega arith)
-
-counted-in : {n : ℕ} {p : Part} → Shaped n 0 (Gives p) → Counted p
-counted-in (gives h k l m c) = c
-
-pub shape-counted : (t : List ℕ) (s : Sets) {p : Part} → shapeOf t s ≡ Gives p → Counted p
-shape-counted t s e = counted-in (rw e at (shape s t refl))
 
 -- the kind of a shape's unit; no other shape is a character or space
 abbrev pub kindIn : Shape → ℕ
@@ -158,7 +144,7 @@ no-text : {n : ℕ} {x : Shape} → Shaped n kind.tab x → kind.tab ≤ kindIn 
 no-text (nothing h) = omega arith
 no-text (short h k) = omega arith
 no-text (designates h k a) = omega arith
-no-text (gives h k l m c) = l
+no-text (gives h k l m) = l
 
 -- escape sequences and direction marks are no text
 pub escape-kind : (t : List ℕ) → kind.tab ≤ kindIn (escapeOf t)
@@ -239,7 +225,7 @@ module _ (n : ℕ) (st : State) where
   -- the direction rule changes the directions alone
   stepped : (p : Part) (x : Step) → Fair (st .directions) x → Shaped n 0 (Gives p) → Sized n st (steppedOf p st x)
   unfolding steppedOf
-  stepped p (Goes d) (goes g) (gives h k l m c) = of-unit h k m (λ e. record { left = e .left; right = e .right; depth = g (e .depth) })
+  stepped p (Goes d) (goes g) (gives h k l m) = of-unit h k m (λ e. record { left = e .left; right = e .right; depth = g (e .depth) })
   stepped p (Stops r) (stops g) h = of-bad g zero-le
 
   directed : {x : Shape} → Shaped n 0 x → Sized n st (directedOf x st)
@@ -247,8 +233,8 @@ module _ (n : ℕ) (st : State) where
   directed (nothing h) = of-none h
   directed (short h k) = of-bad h k
   directed (designates {d = d} {c = c} h k a) = of-designation h k (placed-fit d c a)
-  directed (gives {p} h k l m c) =
-      stepped p (stepOf (p .text) (p .kind) (st .directions)) (fair (st .directions) (p .text) (p .kind)) (gives h k l m c)
+  directed (gives {p} h k l m) =
+      stepped p (stepOf (p .text) (p .kind) (st .directions)) (fair (st .directions) (p .text) (p .kind)) (gives h k l m)
 
 pub element-size : (t : List ℕ) (st : State) → Sized (length t) st (elementOf t st)
 element-size t st = directed (length t) st (shape (st .sets) t refl)

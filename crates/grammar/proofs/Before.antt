@@ -1,13 +1,15 @@
--- What request No. 2 asks: an extended segment with text steps as a space does (`text-counts`), and one without text changes no direction
--- (`empty-free`). What it changed, and nothing else. The direction rule before it has names of its own here: no extended segment counts as text
--- (`countedBefore`), and the reader by it is `checkBefore` and `readingBefore`. A string without an extended segment that has text is read as
--- before (`as-before`); any string is read as before, or is refused 8 now (`changed`), so what is accepted was accepted before (`accepted-before`).
--- Both by one walk over the elements (`walk`): the shapes are the same, and the steps by the two rules are compared unit by unit.
-use Rattle.element.proofs.Names.{ℕ, zero, suc, _+_, _-_, _*_, _/_, _%_, _^_, _≤_, arith, _≡_, refl, sym, ap, _∙_, subst, Bool, true, false}
-use Rattle.element.proofs.Names.{true≢false, not, _&&_, List, [], _∷_, _⊎_, inl, inr, ⊎-elim, eqb, ltb, length, drop, eqb-true, lt-ltb}
-use Rattle.element.proofs.Names.{clash, off, test, pick, and-left, and-right, put, on, fresh, directions, undirected, writtenOf, deeperOf, begunOf}
-use Rattle.element.proofs.Names.{revertedOf, stepOf, designatedOf, Sets, Directions, State, Step, Goes, Stops, Part, Shape, Refuses, Designates}
-use Rattle.element.proofs.Names.{Gives, Element, End, Refused, Silent, Answer, refusedAt}
+-- What request No. 2 asks: an extended segment with text steps as a character does (`text-counts`), and one without text changes no direction
+-- (`empty-free`). And what it changed, over the direction rule before it, which has names of its own here: no extended segment counts as text
+-- (`countedBefore`), and the reader by that rule is `checkBefore` and `readingBefore`. A string whose units before had no segment with text among them
+-- is read as before (`as-before`). Any string is, or is refused 8 now at a unit that was read before, at or after a segment with text (`changed`); so
+-- what is accepted was accepted before (`accepted-before`). By one walk over the elements: their shapes are the same, and the steps by the two rules
+-- are compared unit by unit, from directions that may differ once a segment with text was seen (`Behind`).
+use Rattle.element.proofs.Names.{ℕ, zero, suc, _+_, _-_, _*_, _/_, _%_, _^_, _≤_, arith, not-suc-le-zero, _≡_, refl, sym, ap, _∙_, Bool, true}
+use Rattle.element.proofs.Names.{false, true≢false, cond, _&&_, _||_, or-true, List, [], _∷_, _++_, _⊎_, inl, inr, ⊎-elim, eqb, ltb, length}
+use Rattle.element.proofs.Names.{drop, eqb-true, lt-ltb, le-ltb, ltb-false, clash, off, test, pick, Side, rowOf, put, on, fresh, directions}
+use Rattle.element.proofs.Names.{undirected, writtenOf, deeperOf, begunOf, revertedOf, stepOf, designatedOf, formOf, Standing, Sets, Directions, State}
+use Rattle.element.proofs.Names.{Step, Goes, Stops, Part, Shape, Refuses, Designates, Gives, Element, End, Refused, Silent, Answer, refusedAt}
+use Rattle.base.proofs.Bools.{or-first, or-more, or-turn}
 use Rattle.base.specs.Kind as kind
 use Rattle.base.specs.Limit as limit
 use Rattle.base.specs.Refusal as refusal
@@ -15,21 +17,32 @@ use Rattle.state.specs.Directions.{countsAsText}
 use Rattle.state.specs.State.{state}
 use Rattle.state.specs.declared.elements.Shape.the-variants.{Ends}
 use Rattle.element.specs.Element.{shapeOf, steppedOf, directedOf}
-use Rattle.element.proofs.Sizes.{Counted, counted, shape-counted}
-use Rattle.grammar.specs.Units.{TextUnit, space, ext, textOctets}
+use Rattle.grammar.specs.Units.{TextUnit, char, ext, kindOf, textOctets, textIn, octets, designation}
+use Rattle.grammar.specs.Grammar.{Legal}
 use Rattle.grammar.specs.Reading.{Elements, end-at, silent-at, found-at, size, onward, elements, elementsOf, answerOf, checkOf, direct}
-use Rattle.grammar.specs.Reading.{unitAt, unitsOf, readingOf}
+use Rattle.grammar.specs.Reading.{Octets, unitAt, unitsOf, readingOf}
+use Rattle.grammar.proofs.Sound.{Shown, Changed, Sound, refuses, designates, finds, sound, lead-size}
+use Rattle.grammar.proofs.Complete.{part-size, part-some}
+use Rattle.grammar.proofs.Agrees.{fresh-legal, put-legal}
 
 -- ---- what the request asks
 
 module _ (d : Directions) (e : ℕ) (xs : List ℕ) where
-  pub text-counts : 1 ≤ textOctets xs → direct d (ext e xs) ≡ direct d space
+  pub text-counts : 1 ≤ textOctets xs → (c k : ℕ) → direct d (ext e xs) ≡ direct d (char c k)
   unfolding stepOf pick
-  text-counts h = rw (lt-ltb 0 (textOctets xs) h)
+  text-counts h c k = rw (lt-ltb 0 (textOctets xs) h)
 
   pub empty-free : textOctets xs ≡ 0 → direct d (ext e xs) ≡ Goes d
   unfolding stepOf pick
   empty-free h = rw h
+
+-- an extended segment with text, and whether units have one among them
+abbrev pub withText : TextUnit → Bool
+withText u = eqb (kindOf u) kind.segment && ltb 0 (textIn u)
+
+abbrev pub anyText : List TextUnit → Bool
+anyText [] = false
+anyText (u ∷ us) = withText u || anyText us
 
 -- ---- the rule before the request, and the reader by it
 
@@ -56,210 +69,187 @@ checkBefore s = pick (ltb limit.octets (length s)) (refusedAt refusal.too-long 0
 unfoldable pub readingBefore : List ℕ → List TextUnit
 readingBefore s = unitsOf s (elementsBefore s 0 0 fresh)
 
--- ---- the units of a string, whatever the direction rule says of them
+-- ---- the steps of a unit by the two rules
 
-abbrev pub eachIn : (ℕ → Bool → Bool) → Shape → Sets → (ℕ → Sets → Bool) → Bool
-eachIn may Ends s f = true
-eachIn may (Refuses n o) s f = true
-eachIn may (Designates k d c) s f = f (k - 1) (put (on d c) s)
-eachIn may (Gives p) s f = may (p .kind) (p .text) && f (size p - 1) s
-
--- a test, of its kind and whether it counts as text, holds of each unit of octets under sets, k of which are passed
-unfoldable pub each : (ℕ → Bool → Bool) → List ℕ → ℕ → Sets → Bool
-each may [] k s = true
-each may (b ∷ t) zero s = eachIn may (shapeOf (b ∷ t) s) s (λ k next. each may t k next)
-each may (b ∷ t) (suc k) s = each may t k s
-
--- no extended segment that counts as text
-abbrev pub noText : ℕ → Bool → Bool
-noText k text = not (eqb k kind.segment && text)
-
--- a string without an extended segment that has text
-abbrev pub textless : List ℕ → Bool
-textless s = each noText s 0 (fresh .sets)
-
--- ---- the walk
-
--- a unit's steps by the rule before and by that of now: both go on to directions that R relates, or both stop with one number, or the one of
--- now stops with 8, where N says that this may be
-pub data Steps (R : Directions → Directions → Type 0) (N : Type 0) : Step → Step → Type 0 where
-  go : {d e : Directions} → R d e → Steps R N (Goes d) (Goes e)
-  stop : {n : ℕ} → Steps R N (Stops n) (Stops n)
-  now : {x : Step} → N → Steps R N x (Stops refusal.direction)
-
--- the steps of each unit for which a test holds, by its kind and the octets of a text
-abbrev pub Compared : (Directions → Directions → Type 0) → Type 0 → (ℕ → Bool → Bool) → Type 0
-Compared R N may = (k n : ℕ) (d e : Directions) → may k (countsAsText k n) ≡ true → R d e
-    → Steps R N (stepOf (countedBefore k) k d) (stepOf (countsAsText k n) k e)
-
--- elements before and now: the same answer and units, or now a refusal 8
-data Read (N : Type 0) (es fs : Elements) : Type 0 where
-  alike : ((c : ℕ) → answerOf c fs ≡ answerOf c es) → ((w : List ℕ) → unitsOf w fs ≡ unitsOf w es) → Read N es fs
-  refused-now : N → (place : ℕ) → ((c : ℕ) → answerOf c fs ≡ refusedAt refusal.direction place) → Read N es fs
-
-module _ {N : Type 0} (at : ℕ) (a b : State) {es fs : Elements} where
-  found : (p : Part) → Read N es fs → Read N (found-at at p a es) (found-at at p b fs)
-  unfolding answerOf unitsOf
-  found p (alike f g) = alike (λ c. f (c + 1)) (λ w. ap (λ (us : List TextUnit). unitAt p w ∷ us) (g (drop (size p) w)))
-  found p (refused-now n q f) = refused-now n q (λ c. f (c + 1))
-
-  silent : (k : ℕ) → Read N es fs → Read N (silent-at at k a es) (silent-at at k b fs)
-  unfolding answerOf unitsOf
-  silent k (alike f g) = alike f (λ w. g (drop k w))
-  silent k (refused-now n q f) = refused-now n q f
-
-module _ (R : Directions → Directions → Type 0) (N : Type 0) (may : ℕ → Bool → Bool) (steps : Compared R N may) where
-  abbrev Rest : List ℕ → ℕ → Type 0
-  Rest t at = (k : ℕ) (s : Sets) (d e : Directions) → each may t k s ≡ true → R d e
-      → Read N (elementsBefore t k at (state s d)) (elements t k at (state s e))
-
-  -- a unit, by its two steps
-  unit : (t : List ℕ) (at : ℕ) (s : Sets) (d e : Directions) (p : Part) {x y : Step} → Rest t (at + 1) → each may t (size p - 1) s ≡ true
-      → Steps R N x y
-      → Read N (onward at (steppedOf p (state s d) x) (λ k next. elementsBefore t k (at + 1) next))
-      (onward at (steppedOf p (state s e) y) (λ k next. elements t k (at + 1) next))
-  unfolding onward steppedOf answerOf unitsOf
-  unit t at s d e p rest m (go {d = a} {e = b} r) = found at (state s a) (state s b) p (rest (size p - 1) s a b m r)
-  unit t at s d e p rest m stop = alike (λ c. refl) (λ w. refl)
-  unit t at s d e p rest m (now n) = refused-now n (at + 0) (λ c. refl)
-
-  -- an element, by its shape
-  shape : (t : List ℕ) (at : ℕ) (s : Sets) (d e : Directions) (x : Shape) → ((p : Part) → x ≡ Gives p → Counted p) → Rest t (at + 1)
-      → eachIn may x s (λ k next. each may t k next) ≡ true → R d e
-      → Read N (onward at (directedBefore x (state s d)) (λ k next. elementsBefore t k (at + 1) next))
-      (onward at (directedOf x (state s e)) (λ k next. elements t k (at + 1) next))
-  unfolding onward directedBefore directedOf answerOf unitsOf
-  shape t at s d e Ends n rest m r = alike (λ c. refl) (λ w. refl)
-  shape t at s d e (Refuses i o) n rest m r = alike (λ c. refl) (λ w. refl)
-  shape t at s d e (Designates k side c) n rest m r =
-      silent at (designatedOf side c (state s d)) (designatedOf side c (state s e)) k (rest (k - 1) (put (on side c) s) d e m r)
-  shape t at s d e (Gives p) n rest m r = unit t at s d e p rest (and-right (may (p .kind) (p .text)) _ m) (by (n p refl))
-    where
-      by : Counted p → Steps R N (stepOf (countedBefore (p .kind)) (p .kind) d) (stepOf (p .text) (p .kind) e)
-      by (counted text h) = rw h (steps (p .kind) text d e (rw h at (and-left (may (p .kind) (p .text)) _ m)) r)
-
-  walk : (t : List ℕ) (at : ℕ) → Rest t at
-  unfolding elements elementsBefore each answerOf unitsOf
-  walk [] at k s d e m r = alike (λ c. refl) (λ w. refl)
-  walk (b ∷ t) at zero s d e m r = shape t at s d e (shapeOf (b ∷ t) s) (λ p q. shape-counted (b ∷ t) s q) (walk t (at + 1)) m r
-  walk (b ∷ t) at (suc k) s d e m r = walk t (at + 1) k s d e m r
-
--- ---- no extended segment with text: the same steps
-
--- the two rules count the same, by the kind and the octets of a text
-same-count : (k n : ℕ) → noText k (countsAsText k n) ≡ true → countedBefore k ≡ countsAsText k n
-same-count k n m =
-    test (ltb k kind.tab) (λ q. rw q)
-    (λ q. test (eqb k kind.segment) (λ f. rw (q, f) (sym (none (ltb 0 n) (rw (q, f) at m)))) (λ f. rw (q, f)))
-  where
-    none : (x : Bool) → not x ≡ true → x ≡ false
-    none true e = off e
-    none false e = refl
-
-abbrev pub Is : Directions → Directions → Type 0
-Is d e = d ≡ e
-
-one-step : (x : Step) → Steps Is ⊥ x x
-one-step (Goes d) = go refl
-one-step (Stops n) = stop
-
-pub same-steps : Compared Is ⊥ noText
-same-steps k n d e m h =
-    subst (λ (x : Bool). Steps Is ⊥ (stepOf (countedBefore k) k d) (stepOf x k e)) (same-count k n m) (rw h (one-step _))
-
--- ---- any unit: where the steps differ it is refused 8 now
-
--- directions that are the same, but that text may have been read now where none was before
-pub record Behind (d e : Directions) : Type 0 where
+-- directions before and now, where `seen` says whether a segment with text was read: the same, but that text was read now where none was before
+pub record Behind (seen : Bool) (d e : Directions) : Type 0 where
   pub depth : d .depth ≡ e .depth
   pub levels : d .levels ≡ e .levels
   pub marked : d .marked ≡ e .marked
+  pub unmarked : d .marked ≡ false → d .depth ≡ 0
   pub texted : d .texted ≡ true → e .texted ≡ true
+  pub by-segment : e .texted ≡ true → (d .texted || seen) ≡ true
 
-abbrev pub anyUnit : ℕ → Bool → Bool
-anyUnit k text = true
+-- both go on, or both stop with one number, or the unit is refused 8 now and was not before
+pub data Steps (seen : Bool) : Step → Step → Type 0 where
+  go : {d e : Directions} → Behind seen d e → Steps seen (Goes d) (Goes e)
+  stop : {n : ℕ} → Steps seen (Stops n) (Stops n)
+  now : {d : Directions} → seen ≡ true → Steps seen (Goes d) (Stops refusal.direction)
 
-abbrev Stepped : Step → Step → Type 0
-Stepped x y = Steps Behind (Unit {0}) x y
-
-both : {x y v w : Step} (q r : Bool) → q ≡ r → Stepped x v → Stepped y w → Stepped (pick q x y) (pick r v w)
+both : {seen : Bool} {x y v w : Step} (q r : Bool) → q ≡ r → (q ≡ true → Steps seen x v) → (q ≡ false → Steps seen y w)
+    → Steps seen (pick q x y) (pick r v w)
 unfolding pick
-both true true h f g = f
+both true true h f g = f refl
 both true false h f g = absurd (true≢false h)
 both false true h f g = off h
-both false false h f g = g
+both false false h f g = g refl
 
--- where text that was read is refused
-unless-texted : {x y : Step} (q r : Bool) → (q ≡ true → r ≡ true) → Stepped x y
-    → Stepped (pick q (Stops refusal.direction) x) (pick r (Stops refusal.direction) y)
-unfolding pick
-unless-texted true true h f = stop
-unless-texted true false h f = off (h refl)
-unless-texted false true h f = now tt
-unless-texted false false h f = f
-
-module _ (d e : Directions) (b : Behind d e) where
+module _ (seen : Bool) (d e : Directions) (b : Behind seen d e) where
   none-open : eqb (d .depth) 0 ≡ eqb (e .depth) 0
   none-open = ap (λ (n : ℕ). eqb n 0) (b .depth)
 
-  written : Stepped (writtenOf d) (writtenOf e)
-  unfolding writtenOf
-  written = both _ _ (b .marked) (both _ _ none-open stop (go after)) (go after)
-    where
-      after : Behind (directions (d .depth) (d .levels) (d .marked) true) (directions (e .depth) (e .levels) (e .marked) true)
-      after = record { depth = b .depth; levels = b .levels; marked = b .marked; texted = λ z. z }
+  -- after a mark
+  after-mark : (f : ℕ → ℕ) (g : ℕ → ℕ)
+      → Steps seen (Goes (directions (f (d .depth)) (g (d .levels)) true (d .texted))) (Goes (directions (f (e .depth)) (g (e .levels)) true (e .texted)))
+  after-mark f g =
+      go (record {
+        depth = ap f (b .depth);
+        levels = ap g (b .levels);
+        marked = refl;
+        unmarked = λ x. absurd (true≢false x);
+        texted = b .texted;
+        by-segment = b .by-segment;
+      })
 
-  deeper : (way : ℕ) → Stepped (deeperOf way d) (deeperOf way e)
+  written : Steps seen (writtenOf d) (writtenOf e)
+  unfolding writtenOf
+  written = both _ _ (b .marked) (λ _. both _ _ none-open (λ _. stop) (λ _. go after)) (λ _. go after)
+    where
+      after : Behind seen (directions (d .depth) (d .levels) (d .marked) true) (directions (e .depth) (e .levels) (e .marked) true)
+      after =
+          record {
+            depth = b .depth;
+            levels = b .levels;
+            marked = b .marked;
+            unmarked = b .unmarked;
+            texted = λ z. z;
+            by-segment = λ _. refl;
+          }
+
+  deeper : (way : ℕ) → Steps seen (deeperOf way d) (deeperOf way e)
   unfolding deeperOf
   deeper way =
-      both _ _ (ap (λ (n : ℕ). ltb n limit.depth) (b .depth))
-      (go (record {
-        depth = ap (λ (n : ℕ). n + 1) (b .depth);
-        levels = ap (λ (v : ℕ). v % 2 ^ 63 * 2 + way % 2) (b .levels);
-        marked = refl;
-        texted = b .texted;
-      }))
-      stop
+      both _ _ (ap (λ (n : ℕ). ltb n limit.depth) (b .depth)) (λ _. after-mark (λ n. n + 1) (λ v. v % 2 ^ 63 * 2 + way % 2)) (λ _. stop)
 
-  begun : (way : ℕ) → Stepped (begunOf way d) (begunOf way e)
+  -- the first mark, after text or not
+  first-mark : (way : ℕ) → d .marked ≡ false → (q r : Bool) → d .texted ≡ q → e .texted ≡ r
+      → Steps seen (pick q (Stops refusal.direction) (deeperOf way d)) (pick r (Stops refusal.direction) (deeperOf way e))
+  unfolding pick deeperOf
+  first-mark way m true true hq hr = stop
+  first-mark way m true false hq hr = off (sym hr ∙ b .texted hq)
+  first-mark way m false true hq hr = rw (b .unmarked m) (now (rw hq at (b .by-segment hr)))
+  first-mark way m false false hq hr = deeper way
+
+  begun : (way : ℕ) → Steps seen (begunOf way d) (begunOf way e)
   unfolding begunOf
-  begun way = both _ _ (b .marked) (deeper way) (unless-texted (d .texted) (e .texted) (b .texted) (deeper way))
+  begun way = both _ _ (b .marked) (λ _. deeper way) (λ m. first-mark way m (d .texted) (e .texted) refl refl)
 
-  reverted : Stepped (revertedOf d) (revertedOf e)
+  reverted : Steps seen (revertedOf d) (revertedOf e)
   unfolding revertedOf
-  reverted =
-      both _ _ none-open stop
-      (go (record {
-        depth = ap (λ (n : ℕ). n - 1) (b .depth);
-        levels = ap (λ (v : ℕ). v / 2) (b .levels);
-        marked = refl;
-        texted = b .texted;
-      }))
+  reverted = both _ _ none-open (λ _. stop) (λ _. after-mark (λ n. n - 1) (λ v. v / 2))
+
+  marks : (k : ℕ) → Steps seen (stepOf false k d) (stepOf false k e)
+  unfolding stepOf pick
+  marks k =
+      both (eqb k kind.left-to-right) _ refl (λ _. begun 0)
+      (λ _. both (eqb k kind.right-to-left) _ refl (λ _. begun 1) (λ _. both (eqb k kind.revert) _ refl (λ _. reverted) (λ _. go b)))
 
   -- text that did not count before
-  text-now : Stepped (Goes d) (writtenOf e)
+  text-now : Steps true (Goes d) (writtenOf e)
   unfolding writtenOf pick
   text-now =
       test (e .marked)
-      (λ m. test (eqb (e .depth) 0) (λ z. rw (m, z) (now tt)) (λ z. rw (m, z) (go (after true (b .marked ∙ m)))))
+      (λ m. test (eqb (e .depth) 0) (λ z. rw (m, z) (now refl)) (λ z. rw (m, z) (go (after true (b .marked ∙ m)))))
       (λ m. rw m (go (after false (b .marked ∙ m))))
     where
-      after : (m : Bool) → d .marked ≡ m → Behind d (directions (e .depth) (e .levels) m true)
-      after m h = record { depth = b .depth; levels = b .levels; marked = h; texted = λ _. refl }
+      after : (m : Bool) → d .marked ≡ m → Behind true d (directions (e .depth) (e .levels) m true)
+      after m h =
+          record {
+            depth = b .depth;
+            levels = b .levels;
+            marked = h;
+            unmarked = b .unmarked;
+            texted = λ _. refl;
+            by-segment = λ _. or-true (d .texted);
+          }
 
-  marks : (k : ℕ) → Stepped (stepOf false k d) (stepOf false k e)
+  -- a unit, by its kind and the octets of a text
+  pub unit-steps : (k n : ℕ) → Steps ((eqb k kind.segment && ltb 0 n) || seen) (stepOf (countedBefore k) k d) (stepOf (countsAsText k n) k e)
   unfolding stepOf pick
-  marks k =
-      both (eqb k kind.left-to-right) _ refl (begun 0)
-      (both (eqb k kind.right-to-left) _ refl (begun 1) (both (eqb k kind.revert) _ refl reverted (go b)))
+  unit-steps k n =
+      test (eqb k kind.segment)
+      (λ f. rw (eqb-true k kind.segment f) (test (ltb 0 n) (λ g. rw g text-now) (λ g. rw g (go b))))
+      (λ f. test (ltb k kind.tab) (λ q. rw (f, q) written) (λ q. rw (f, q) (marks k)))
 
-pub any-steps : Compared Behind (Unit {0}) anyUnit
-unfolding stepOf pick
-any-steps k n d e m b =
-    test (ltb k kind.tab) (λ q. rw q (written d e b))
-    (λ q. test (eqb k kind.segment)
-    (λ f. rw (eqb-true k kind.segment f) (test (ltb 0 n) (λ g. rw g (text-now d e b)) (λ g. rw g (go b))))
-    (λ f. rw (q, f) (marks d e b k)))
+-- ---- the walk
+
+-- elements before and now, of octets w: the same answer and units; or now a refusal 8 at a unit that was read before, with a segment with text seen
+-- before or among the units up to it
+data Read (seen : Bool) (w : List ℕ) (es fs : Elements) : Type 0 where
+  alike : ((c : ℕ) → answerOf c fs ≡ answerOf c es) → unitsOf w fs ≡ unitsOf w es → Read seen w es fs
+  refused-now : (place : ℕ) → ((c : ℕ) → answerOf c fs ≡ refusedAt refusal.direction place) → (u : TextUnit) (rest : List TextUnit)
+      → unitsOf w es ≡ unitsOf w fs ++ u ∷ rest → (anyText (unitsOf w fs ++ u ∷ []) || seen) ≡ true → Read seen w es fs
+
+module _ {seen : Bool} (w : List ℕ) (at : ℕ) (a b : State) {es fs : Elements} where
+  found : (p : Part) → Read (withText (unitAt p w) || seen) (drop (size p) w) es fs → Read seen w (found-at at p a es) (found-at at p b fs)
+  unfolding answerOf unitsOf
+  found p (alike f g) = alike (λ c. f (c + 1)) (ap (λ (us : List TextUnit). unitAt p w ∷ us) g)
+  found p (refused-now q f u us g h) =
+      refused-now q (λ c. f (c + 1)) u us (ap (λ (vs : List TextUnit). unitAt p w ∷ vs) g)
+      (or-turn (anyText (unitsOf (drop (size p) w) fs ++ u ∷ [])) (withText (unitAt p w)) seen h)
+
+  silent : (k : ℕ) → Read seen (drop k w) es fs → Read seen w (silent-at at k a es) (silent-at at k b fs)
+  unfolding answerOf unitsOf
+  silent k (alike f g) = alike f g
+  silent k (refused-now q f u us g h) = refused-now q f u us g h
+
+-- the octets after an element that has one at least
+drop-first : (k b : ℕ) (t : List ℕ) → 1 ≤ k → drop (k - 1) t ≡ drop k (b ∷ t)
+drop-first zero b t h = absurd (not-suc-le-zero h)
+drop-first (suc k) b t h = let e : suc k - 1 ≡ k = omega arith in ap (λ (n : ℕ). drop n t) e
+
+some-octets : {s : Sets} {w t : List ℕ} {p : Part} {u : TextUnit} {d : Side} → Shown s w p u d t → 1 ≤ size p
+some-octets {u = u} {d = d} h = let a = part-size u d in let c = part-some u in omega (arith, h .size)
+
+designation-octets : {w t : List ℕ} {k : ℕ} {p : Standing} → Changed w k p t → 1 ≤ k
+unfolding designation
+designation-octets {p = p} h =
+    let size : (x : Bool) → eqb (formOf (p .set)) 3 ≡ x → length (designation p) ≡ cond x 4 3
+    = lead-size (formOf (p .set)) (p .side) (rowOf (p .set) .last) in
+    test (eqb (formOf (p .set)) 3) (λ e. omega (arith, h .size, size true e)) (λ e. omega (arith, h .size, size false e))
+
+-- the elements after the first octet
+abbrev Rest : List ℕ → ℕ → Type 0
+Rest t at = (k : ℕ) (s : Sets) (d e : Directions) (seen : Bool) → Legal s → Behind seen d e
+    → Read seen (drop k t) (elementsBefore t k at (state s d)) (elements t k at (state s e))
+
+module _ (b : ℕ) (t : List ℕ) (at : ℕ) (s : Sets) (d e : Directions) (seen : Bool) (l : Legal s) (rest : Rest t (at + 1)) where
+  -- a unit, by its two steps
+  unit : (p : Part) {x y : Step} → 1 ≤ size p → Steps (withText (unitAt p (b ∷ t)) || seen) x y
+      → Read seen (b ∷ t) (onward at (steppedOf p (state s d) x) (λ k next. elementsBefore t k (at + 1) next))
+      (onward at (steppedOf p (state s e) y) (λ k next. elements t k (at + 1) next))
+  unfolding onward steppedOf answerOf unitsOf
+  unit p h (go {d = f} {e = g} r) =
+      found (b ∷ t) at (state s f) (state s g) p (rw (← (drop-first (size p) b t h)) (rest (size p - 1) s f g _ l r))
+  unit p h stop = alike (λ c. refl) refl
+  unit p h (now q) = refused-now (at + 0) (λ c. refl) (unitAt p (b ∷ t)) _ refl (or-more (withText (unitAt p (b ∷ t))) false seen q)
+
+  -- an element, by its shape
+  shape : {x : Shape} → Behind seen d e → Sound s (b ∷ t) x
+      → Read seen (b ∷ t) (onward at (directedBefore x (state s d)) (λ k next. elementsBefore t k (at + 1) next))
+      (onward at (directedOf x (state s e)) (λ k next. elements t k (at + 1) next))
+  unfolding onward directedBefore directedOf answerOf unitsOf
+  shape r (refuses h) = alike (λ c. refl) refl
+  shape r (designates {k} side c _ h) =
+      silent (b ∷ t) at (designatedOf side c (state s d)) (designatedOf side c (state s e)) k
+      (rw (← (drop-first k b t (designation-octets h))) (rest (k - 1) (put (on side c) s) d e seen (put-legal (on side c) s (h .may) l) r))
+  shape r (finds {p} u side _ h) = unit p (some-octets h) (rw (h .unit, h .text, h .kind) (unit-steps seen d e r (kindOf u) (textIn u)))
+
+walk : (t : List ℕ) (at : ℕ) → Octets t → Rest t at
+unfolding elements elementsBefore answerOf unitsOf
+walk [] at o k s d e seen l r = alike (λ c. refl) refl
+walk (b ∷ t) at o zero s d e seen l r = shape b t at s d e seen l (walk t (at + 1) (λ i. o (suc i))) r (sound s l b t o)
+walk (b ∷ t) at o (suc k) s d e seen l r = walk t (at + 1) (λ i. o (suc i)) k s d e seen l r
 
 -- ---- the theorems
 
@@ -268,46 +258,64 @@ pub record ReadBefore (s : List ℕ) : Type 0 where
   pub answers : checkOf s ≡ checkBefore s
   pub units : readingOf s ≡ readingBefore s
 
-before : {s : List ℕ} {N : Type 0} → Read N (elementsBefore s 0 0 fresh) (elementsOf s)
-    → ReadBefore s ⊎ (N × (answerOf 0 (elementsOf s) .number ≡ refusal.direction))
-unfolding checkOf checkBefore readingOf readingBefore
-before {s} (alike f g) = inl (record { answers = ap (pick (ltb limit.octets (length s)) (refusedAt refusal.too-long 0)) (f 0); units = g s })
-before (refused-now n q f) = inr (n, ap (λ (a : Answer). a .number) (f 0))
+-- a string is refused 8 now, at a unit that was read before; a segment with text is among the units up to it
+pub record RefusedNow (s : List ℕ) : Type 0 where
+  pub place : ℕ
+  pub answers : checkOf s ≡ refusedAt refusal.direction place
+  pub unit : TextUnit
+  pub rest : List TextUnit
+  pub units : readingBefore s ≡ readingOf s ++ unit ∷ rest
+  pub text : anyText (readingOf s ++ unit ∷ []) ≡ true
 
--- a string without an extended segment that has text is read as before
-pub as-before : (s : List ℕ) → textless s ≡ true → ReadBefore s
-as-before s m = ⊎-elim (λ r. r) (λ x. absurd (x .0)) (before (walk Is ⊥ noText same-steps s 0 0 (fresh .sets) undirected undirected m refl))
+-- the directions of the fresh state, where nothing was read
+pub behind-fresh : Behind false undirected undirected
+behind-fresh =
+    record { depth = refl; levels = refl; marked = refl; unmarked = λ _. refl; texted = λ z. z; by-segment = λ z. off z }
 
-each-any : (t : List ℕ) (k : ℕ) (s : Sets) → each anyUnit t k s ≡ true
-unfolding each
-each-any [] k s = refl
-each-any (b ∷ t) zero s = by (shapeOf (b ∷ t) s) (each-any t)
-  where
-    by : (x : Shape) → ((k : ℕ) (s : Sets) → each anyUnit t k s ≡ true)
-        → eachIn anyUnit x s (λ k next. each anyUnit t k next) ≡ true
-    by Ends rest = refl
-    by (Refuses n o) rest = refl
-    by (Designates k d c) rest = rest _ _
-    by (Gives p) rest = rest _ _
-each-any (b ∷ t) (suc k) s = each-any t k s
+module _ (s : List ℕ) (o : Octets s) where
+  from-fresh : Read false s (elementsBefore s 0 0 fresh) (elementsOf s)
+  from-fresh = walk s 0 o 0 (fresh .sets) undirected undirected false fresh-legal behind-fresh
 
-either-way : (s : List ℕ) → ReadBefore s ⊎ (answerOf 0 (elementsOf s) .number ≡ refusal.direction)
-either-way s =
-    ⊎-elim inl (λ x. inr (x .1))
-    (before (walk Behind (Unit {0}) anyUnit any-steps s 0 0 (fresh .sets) undirected undirected (each-any s 0 (fresh .sets))
-    (record { depth = refl; levels = refl; marked = refl; texted = λ z. z })))
+  same : ((c : ℕ) → answerOf c (elementsOf s) ≡ answerOf c (elementsBefore s 0 0 fresh))
+      → unitsOf s (elementsOf s) ≡ unitsOf s (elementsBefore s 0 0 fresh) → ReadBefore s
+  unfolding checkOf checkBefore readingOf readingBefore
+  same f g = record { answers = ap (pick (ltb limit.octets (length s)) (refusedAt refusal.too-long 0)) (f 0); units = g }
 
--- a string whose answer is another one than before is refused 8
-pub changed : (s : List ℕ) → (checkOf s ≡ checkBefore s) ⊎ (checkOf s .number ≡ refusal.direction)
-unfolding checkOf checkBefore pick
-changed s =
-    test (ltb limit.octets (length s)) (λ e. inl (rw e refl))
-    (λ e. ⊎-elim (λ r. inl (r .answers)) (λ x. inr (rw e x)) (either-way s))
+  -- a segment with text among the units up to one is among them all
+  any-more : (us : List TextUnit) (u : TextUnit) (vs : List TextUnit) → anyText (us ++ u ∷ []) ≡ true → anyText (us ++ u ∷ vs) ≡ true
+  any-more [] u vs h = rw (or-first (withText u) h)
+  any-more (v ∷ us) u vs h = test (withText v) (λ e. rw e) (λ e. rw e (any-more us u vs (rw e at h)))
 
--- what is accepted now was accepted before, with the same units
-pub accepted-before : (s : List ℕ) → checkOf s .number ≡ refusal.accepted → ReadBefore s
-unfolding checkOf pick
-accepted-before s z =
-    ⊎-elim (λ r. r)
-    (λ x. test (ltb limit.octets (length s)) (λ e. clash (cc (rw e at z))) (λ e. absurd (let y = rw e at z in omega (arith, x, y))))
-    (either-way s)
+  -- a string in which no segment with text was read is read as before
+  pub as-before : anyText (readingBefore s) ≡ false → ReadBefore s
+  unfolding readingBefore
+  as-before none = by from-fresh
+    where
+      by : Read false s (elementsBefore s 0 0 fresh) (elementsOf s) → ReadBefore s
+      by (alike f g) = same f g
+      by (refused-now q f u us g h) =
+          off (sym (rw g at none) ∙ any-more (unitsOf s (elementsOf s)) u us (or-first (anyText (unitsOf s (elementsOf s) ++ u ∷ [])) h))
+
+  -- a string is read as before, or refused 8 now at a unit that was read before; one over the limit is refused by its length, before and now
+  pub changed : length s ≤ limit.octets → ReadBefore s ⊎ RefusedNow s
+  unfolding checkOf readingOf readingBefore pick
+  changed short = by from-fresh
+    where
+      by : Read false s (elementsBefore s 0 0 fresh) (elementsOf s) → ReadBefore s ⊎ RefusedNow s
+      by (alike f g) = inl (same f g)
+      by (refused-now q f u us g h) =
+          inr (record {
+            place = q;
+            answers = rw (le-ltb limit.octets (length s) short) (f 0);
+            unit = u;
+            rest = us;
+            units = g;
+            text = or-first (anyText (unitsOf s (elementsOf s) ++ u ∷ [])) h;
+          })
+
+  -- what is accepted was accepted before, with the same units
+  pub accepted-before : checkOf s .number ≡ refusal.accepted → ReadBefore s
+  unfolding checkOf pick
+  accepted-before z =
+      test (ltb limit.octets (length s)) (λ e. clash (cc (rw e at z)))
+      (λ e. ⊎-elim (λ r. r) (λ r. clash (cc (r .answers, z))) (changed (ltb-false limit.octets (length s) e)))

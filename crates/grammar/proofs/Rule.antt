@@ -1,8 +1,8 @@
 -- The direction rule by steps is that over counts of marks and text (`Lawful`): the directions after a list of units keep what the counts of marks and
 -- of text say (`Like`), and a unit may follow exactly where its step goes on (`After`).
-use Rattle.element.proofs.Names.{ℕ, _+_, _≤_, _<_, arith, _≡_, refl, Bool, true, false, true≢false, List, [], _∷_, _↔_, inl, inr, ⊎-elim, eqb}
-use Rattle.element.proofs.Names.{ltb, pick, directions, undirected, writtenOf, deeperOf, begunOf, revertedOf, stepOf, off, pick-by, test, tested, Directions, Step}
-use Rattle.element.proofs.Names.{Goes, Stops}
+use Rattle.element.proofs.Names.{ℕ, _+_, _≤_, _<_, arith, _≡_, refl, Bool, true, false, true≢false, List, [], _∷_, _↔_, inl, inr, ⊎-elim}
+use Rattle.element.proofs.Names.{eqb, ltb, pick, directions, undirected, writtenOf, deeperOf, begunOf, revertedOf, stepOf, off, pick-by, test, tested}
+use Rattle.element.proofs.Names.{Directions, Step, Goes, Stops}
 use Rattle.base.specs.Limit as limit
 use Rattle.grammar.specs.Units.{TextUnit, char, space, control, tab, newline, ltr, rtl, revert, ext, counts}
 use Rattle.grammar.specs.Grammar.{TextMay, BeginMay, May, begins, reverts, addIf, Lawful}
