@@ -77,25 +77,30 @@ static int show_string(const uint8_t *s, size_t n)
 
 /* ---- A property ----------------------------------------------------------- */
 
+/* The octets of the extended segment that stands at s, or 0 where there is none
+   of a good shape. 1B 25 begins nothing else, and a reader at the start of a
+   string has no mark before it, by which the segment could be refused. */
+static size_t segment_length(const uint8_t *s, size_t n)
+{
+    ctext_step step;
+    if (n < 2 || s[0] != 0x1B || s[1] != 0x25)
+        return 0;
+    step = ctext_next(s, n < CTEXT_MOST_OCTETS ? n : CTEXT_MOST_OCTETS, ctext_open());
+    return step.given ? step.reader.place : 0;
+}
+
 /* Where the first string of the n octets at s ends: at the first 00 that is not
-   in the text of an extended segment, or with the property. A reader goes on over
-   all elements of a good shape, among which no string ends. A direction is kept
-   open for it, so that it is not stopped by the direction rule, which may refuse
-   a segment with 00 in its text. */
+   in an extended segment, or with the property. Each segment is read by itself,
+   so that it is passed whole also in a string that is refused, before it or for
+   its length. */
 static size_t string_end(const uint8_t *s, size_t n)
 {
-    size_t most = n < CTEXT_MOST_OCTETS ? n : CTEXT_MOST_OCTETS, place;
-    const uint8_t *zero;
-    ctext_step step;
-    step.reader = ctext_open();
-    do {
-        step.reader.marked = 1;
-        step.reader.depth = 1;
-        step = ctext_next(s, most, step.reader);
-    } while (step.given);
-    place = step.answer.place;
-    zero = (const uint8_t *)memchr(s + place, 0, n - place);
-    return zero == NULL ? n : (size_t)(zero - s);
+    size_t end = 0, length;
+    while (end < n && s[end] != 0) {
+        length = segment_length(s + end, n - end);
+        end += length > 0 ? length : 1;
+    }
+    return end;
 }
 
 /* Whether all its strings were accepted. */
