@@ -166,7 +166,7 @@ fn or_two(s: &[u8], c: Cursor, b: u8, set: u8) -> Turn
     by_element(s, c)
 }
 
-// The unit at a cursor: text by its octets alone, and any other unit by its element.
+// The unit at a cursor: a character or space by its octets alone, and any other unit by its element.
 fn text_or_element(s: &[u8], c: Cursor) -> Turn
     ensures { λ r. ⌜ r ≡ textTurn (now (s .entry)) c ⌝ }
 {

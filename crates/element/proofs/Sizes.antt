@@ -140,18 +140,18 @@ kindIn (Refuses n o) = kind.tab
 kindIn (Designates k d c) = kind.tab
 kindIn (Gives p) = p .kind
 
-no-text : {n : ℕ} {x : Shape} → Shaped n kind.tab x → kind.tab ≤ kindIn x
-no-text (nothing h) = omega arith
-no-text (short h k) = omega arith
-no-text (designates h k a) = omega arith
-no-text (gives h k l m) = l
+no-character : {n : ℕ} {x : Shape} → Shaped n kind.tab x → kind.tab ≤ kindIn x
+no-character (nothing h) = omega arith
+no-character (short h k) = omega arith
+no-character (designates h k a) = omega arith
+no-character (gives h k l m) = l
 
--- escape sequences and direction marks are no text
+-- escape sequences and direction marks are no characters or spaces
 pub escape-kind : (t : List ℕ) → kind.tab ≤ kindIn (escapeOf t)
-escape-kind t = no-text {n = 1 + length t} (escape (omega arith) t (omega arith))
+escape-kind t = no-character {n = 1 + length t} (escape (omega arith) t (omega arith))
 
 pub mark-kind : (t : List ℕ) → kind.tab ≤ kindIn (csiOf t)
-mark-kind t = no-text {n = 1 + length t} (csi (omega arith) t (omega arith))
+mark-kind t = no-character {n = 1 + length t} (csi (omega arith) t (omega arith))
 
 -- ---- a refusal by the direction rule has a number, and what it lets pass stays within the limit
 

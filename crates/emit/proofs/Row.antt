@@ -1,4 +1,4 @@
--- The octets of the unit of a row, by its tag: those of text, or of a segment or a mark. Only the octets of text depend on the side.
+-- The octets of the unit of a row, by its tag: those of a character or space, or of a segment or a mark. Only those of a character depend on the side.
 use Rattle.element.proofs.Names.{ℕ, _+_, _%_, _≤_, _<_, arith, _≡_, refl, ap, _∙_, Bool, true, false, cond, _&&_, List, [], _∷_, ltb, leb, eqb}
 use Rattle.element.proofs.Names.{getD, take, drop, le-ltb, eqb-false, eq-eqb, pick, test, Side, GL}
 use Rattle.grammar.specs.Units.{TextUnit, space, control, tab, newline, ltr, rtl, revert, ext, octets, top}

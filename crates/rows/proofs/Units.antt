@@ -1,4 +1,4 @@
--- The unit of a row by its tag: text, a segment, a mark; and the octets of a segment's part.
+-- The unit of a row by its tag: a character or space, a segment, a mark; and the octets of a segment's part.
 use Rattle.element.proofs.Names.{ℕ, _+_, _≤_, _<_, arith, _≡_, _∙_, false, _&&_, List, length, take, drop, length-take, length-drop, eqb, leb, ltb}
 use Rattle.element.proofs.Names.{eq-eqb, lt-ltb, le-ltb, le-leb, lt-leb, ltb-true, ltb-false, ne-eqb, pick, test, tested}
 use Rattle.base.proofs.Bools.{and-second}

@@ -174,7 +174,7 @@ fn end_of(n: usize, k: usize, answer: Answer) -> Answer
     Answer::accepted(n, k)
 }
 
-// The runs from a place and a state on. What is no text that leaves the state as it is, and no designation, is passed by itself.
+// The runs from a place and a state on. What is no character or space that leaves the state as it is, and no designation, is passed by itself.
 fn list_from(s: &[u8], place: usize, state: State, out: &mut [u64]) -> RunsStep
     requires { ⌜ length (now s) ≤ limits.octets ⌝ }
     ensures { λ r. ⌜ (r ≡ givenFrom (now (s .entry)) 0 (length (now (out .entry))) place state .step)

@@ -218,7 +218,7 @@ module _ (s : List ℕ) where
     cut-text k low (none n) l = absurd (omega arith)
     cut-text k low (more w is g) l = cut-run (piece at (at + w) k st) (sym is) low g
 
-    -- an element that is no text
+    -- an element that is no character or space
     pub cut-other : (q : Piece) → q ≡ pieceAt s at st → (q .end ≡ at → ⊥) → isRun (q .kind) ≡ false → Cut at st q (q .state)
     cut-other q is n r =
         let m = moved at st q is n in

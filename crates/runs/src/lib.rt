@@ -1,4 +1,4 @@
-// Runs: the stretches of text of one side, and what is shown of each; `stepping` has them one after the other.
+// Runs: the stretches of characters and spaces of one side, and what is shown of each; `stepping` has them one after the other.
 ghost use mathlib.Core.Path.{_≡_};
 ghost use Prim.Native.Nat.{_≤_};
 ghost use Rattle.runs.specs.Runs.{widthOf, shownOf, noRun};

@@ -106,8 +106,8 @@ fn step_over(n: usize, run: Piece) -> RunStep
     step_to(run.end, run.state, crate::shown(n, run))
 }
 
-// The first run from a place and a state on. Designations, and text that leaves the state as it is, are passed by their octets, and any other
-// element by itself.
+// The first run from a place and a state on. Designations, and characters and spaces that leave the state as it is, are passed by their octets, and
+// any other element by itself.
 pub fn run_from(s: &[u8], place: usize, state: State) -> RunStep
     ensures { λ r. ⌜ r ≡ runFrom (now (s .entry)) place state ⌝ }
 {

@@ -27,13 +27,13 @@ abbrev E9 : TextUnit
 E9 = char 3 0x69
 
 -- direction marks; an extended segment with text, one without, and a bad one
-abbrev beginMark : List ℕ
+abbrev pub beginMark : List ℕ
 beginMark = 0x9B ∷ 0x31 ∷ 0x5D ∷ []
 
-abbrev revertMark : List ℕ
+abbrev pub revertMark : List ℕ
 revertMark = 0x9B ∷ 0x5D ∷ []
 
-abbrev segmentWithText : List ℕ
+abbrev pub segmentWithText : List ℕ
 segmentWithText = 0x1B ∷ 0x25 ∷ 0x2F ∷ 0x31 ∷ 0x80 ∷ 0x84 ∷ 0x61 ∷ 0x62 ∷ 0x02 ∷ 0xFF ∷ []
 
 abbrev segmentWithout : List ℕ

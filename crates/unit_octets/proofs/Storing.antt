@@ -203,7 +203,7 @@ module _ {l mid last : List ℕ} {at p q a b c x y z : ℕ} (m : ℕ) (h : at + 
   pub copy-room : q + m ≤ length last
   copy-room = omega (arith, lead-written .next, written-length lead-written, count-written .next, written-length count-written)
 
--- a unit that is no text
+-- a unit that is no character or space
 module _ (o w : List ℕ) (row t : ℕ) where
   abbrev pub other : List ℕ
   other = octets GL (otherTagged o t (highOctet w row) (lowOctet w row) (startFrom w row))

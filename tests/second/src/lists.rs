@@ -104,7 +104,8 @@ impl Maker {
         });
     }
 
-    /// In a list with marks every character and space has one open.
+    /// In a list with marks every character and space has one open, and so has
+    /// nearly every segment with a text.
     fn text(&mut self, random: &mut Random, kind: u8) {
         if self.with_marks && self.depth == 0 {
             self.begin(random);

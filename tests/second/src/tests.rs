@@ -1,5 +1,5 @@
-//! Every string of the paper, of the open points of part A and of request No. 2
-//! that names an answer.
+//! Every string of the papers that names an answer, what they leave open (A ..)
+//! as docs/DECISIONS.md reads it, and request No. 2.
 
 use crate::oracle::octets;
 use crate::reader::{self, Marks, State};
@@ -190,7 +190,7 @@ fn checked_writings() {
     );
 }
 
-// Part A of the open points.
+// What the papers leave open.
 
 #[test]
 fn a01_to_a04_escapes() {
