@@ -831,6 +831,32 @@ static void try_directed(void)
     }
 }
 
+/* Lists of a direction begun and reverted and a segment with text, spoiled by
+   itself: 11 for a d of 35 and for a part one octet past the octets lent, then 7
+   for a segment that is too long, and only then 8. */
+static void try_directed_spoiled(void)
+{
+    static uint8_t octets[CTEXT_MOST_SEGMENT + 1] = "a\x02";
+    static const struct { uint16_t d; uint32_t start, length; uint8_t number; } SPOILED[] = {
+        { 0x31, 0, CTEXT_MOST_SEGMENT, CTEXT_BAD_DIRECTION },
+        { 0x35, 0, CTEXT_MOST_SEGMENT, CTEXT_BAD_UNIT },
+        { 0x35, 0, CTEXT_MOST_SEGMENT + 1, CTEXT_BAD_UNIT },
+        { 0x31, 0, CTEXT_MOST_SEGMENT + 1, CTEXT_BAD_SEGMENT },
+        { 0x31, 0, CTEXT_MOST_SEGMENT + 2, CTEXT_BAD_UNIT },
+        { 0x31, CTEXT_MOST_SEGMENT + 1, 1, CTEXT_BAD_UNIT }
+    };
+    size_t i;
+    for (i = 0; i < sizeof SPOILED / sizeof SPOILED[0]; i++) {
+        ctext_unit units[3] = { { CTEXT_KIND_LEFT_TO_RIGHT, 0, 0, 0, 0 }, { CTEXT_KIND_REVERT, 0, 0, 0, 0 },
+                                { CTEXT_KIND_SEGMENT, 0, 0, 0, 0 } };
+        units[2].code = SPOILED[i].d;
+        units[2].start = SPOILED[i].start;
+        units[2].length = SPOILED[i].length;
+        expect(is_answer(ctext_write(units, 3, octets, sizeof octets, NULL, 0, NULL, 0), SPOILED[i].number, 2, 0),
+               "what is bad in a segment by itself comes before the direction rule", octets, 2);
+    }
+}
+
 /* What the first element is refused with from a reader on, 0 if it is not. */
 static unsigned refused_from(const struct part *p, ctext_reader r)
 {
@@ -883,6 +909,7 @@ static void run_from(const struct part *p, uint8_t marked, uint8_t depth, uint8_
     r.checked = checked;
     step = ctext_next_run(s, n, r);
     expect(same_answer(step.run.answer, outside ? refused : wanted), "a run of a reader made by hand", s, n);
+    /* of the levels that are open all are 0, left-to-right, whose number is 1 as the depth is */
     expect(outside || (step.run.start == d.places[1] && step.run.end == n && step.run.direction == depth
                        && step.reader.texted == 1),
            "a run after a segment", s, n);
@@ -926,6 +953,7 @@ int main(int argc, char **argv)
     try_run_readers();
     try_depth();
     try_directed();
+    try_directed_spoiled();
     try_directed_readers();
     try_many_runs();
     try_limits();
