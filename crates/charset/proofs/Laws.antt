@@ -2,7 +2,7 @@
 -- that may stand anywhere is one of the fifteen (`allowed-below`); and the code's comparisons say what the table says: where a test
 -- of a set's number is compared with the table, antt computes it for the fifteen rows (`by-rows`), and a final octet that is none of
 -- a form's finals finds no row (`ruleset finals`).
-use Prim.Native.Nat.{ℕ, suc, _+_, _-_, _<_, _≤_}
+use Prim.Native.Nat.{ℕ, zero, suc, _+_, _-_, _<_, _≤_}
 use native.Mathlib.Omega.{arith}
 use lib.Dec.{eqb, leb, ltb}
 use borrow.Author.Tests.{eqb-true, ne-eqb, le-ltb, le-leb, ltb-true, ltb-false, not-true}
@@ -10,8 +10,9 @@ use mathlib.Core.Path.{_≡_, refl, sym}
 use mathlib.Core.Bool.{Bool, true, false, not, _&&_, Bool·beq}
 use mathlib.Core.List.{List, [], _∷_}
 use lib.ListN.{length, getD, List·getD-eq-default}
-use Rattle.charset.specs.Charsets.{Row, form-96, form-94x94, Named, row, rows, rowOf, mayUse, allowed, fitsOf, find, setOf, formOf}
+use Rattle.charset.specs.Charsets.{Row, form-96, form-94x94, Named, row, rows, rowOf, mayUse, allowed, fitsOf, find, setOf, formOf, charsetOf}
 use Rattle.charset.specs.declared.Side.{Side, the-variants.GL, the-variants.GR}
+use Rattle.charset.specs.declared.approved.Charset.{Charset}
 use Rattle.base.specs.Choice.{pick}
 use Rattle.base.proofs.Bools.{beq-eq, off, test, pick-both, from-tests, up-to, upTo, up-to-where}
 
@@ -33,6 +34,11 @@ module _ (f : ℕ) (s : Side) (x : ℕ) (d : Row) where
   find-from [] i = omega arith
   find-from (w ∷ ws) i = let h = find-from ws (suc i) in test (fitsOf w f s x) (λ e. rw e (omega arith)) (λ e. rw e (omega arith))
 
+  find-to : (ws : List Row) (i : ℕ) → find ws f s x i ≤ i + length ws
+  unfolding find pick
+  find-to [] i = omega arith
+  find-to (w ∷ ws) i = let h = find-to ws (suc i) in test (fitsOf w f s x) (λ e. rw e (omega arith)) (λ e. rw e (omega arith))
+
   find-fits : (ws : List Row) (i : ℕ) → find ws f s x i < i + length ws → fitsOf (getD ws (find ws f s x i - i) d) f s x ≡ true
   unfolding find pick
   find-fits [] i h = absurd (omega arith)
@@ -49,6 +55,10 @@ unfolding setOf
 set-named f s x h =
     let z : find rows f s x 0 - 0 ≡ find rows f s x 0 = omega arith in
     fits-all _ f s x (rw z at (find-fits f s x (row 0 0 false false) rows 0 (omega arith)))
+
+pub set-most : (f : ℕ) (s : Side) (x : ℕ) → setOf f s x ≤ 15
+unfolding setOf
+set-most f s x = find-to f s x (row 0 0 false false) rows 0
 
 -- a final octet of the table lies in 40-7E
 pub final-range : (f : ℕ) (s : Side) (x : ℕ) → setOf f s x < 15 → (0x40 ≤ x) × (x < 0x7F)
@@ -71,33 +81,6 @@ allowed-below d c e = test (ltb c 15) (ltb-true c 15) (λ q. past d (rw (row-pas
 pub by-rows : (f : ℕ → Bool) → upTo 15 f ≡ true → ((n : ℕ) → 15 ≤ n → f n ≡ true) → (n : ℕ) → f n ≡ true
 by-rows f t past n = test (ltb n 15) (λ e. up-to 15 f t n (ltb-true n 15 e)) (λ e. past n (ltb-false n 15 e))
 
-unfoldable pub formRule : ℕ → ℕ
-formRule n = pick (ltb n 3) 1 (pick (ltb n 12) 2 (pick (ltb n 15) 3 0))
-
-unfoldable pub leftRule : ℕ → Bool
-leftRule n = pick (eqb n 0) true (pick (eqb n 2) true (pick (ltb n 12) false (ltb n 15)))
-
-unfoldable pub rightRule : ℕ → Bool
-rightRule n = pick (eqb n 0) false (pick (eqb n 2) false (ltb n 15))
-
-pub form-rule : (n : ℕ) → formRule n ≡ formOf n
-unfolding formRule formOf pick
-form-rule n =
-    eqb-true _ _ (by-rows (λ n. eqb (formRule n) (formOf n)) refl
-    (λ n h. rw (row-past n h, le-ltb n 3 (omega arith), le-ltb n 12 (omega arith), le-ltb n 15 h)) n)
-
-pub left-rule : (n : ℕ) → leftRule n ≡ allowed GL n
-unfolding leftRule allowed mayUse pick
-left-rule n =
-    beq-eq _ _ (by-rows (λ n. Bool·beq (leftRule n) (allowed GL n)) refl
-    (λ n h. rw (row-past n h, ne-eqb n 0 (λ e. omega arith), ne-eqb n 2 (λ e. omega arith), le-ltb n 12 (omega arith), le-ltb n 15 h)) n)
-
-pub right-rule : (n : ℕ) → rightRule n ≡ allowed GR n
-unfolding rightRule allowed mayUse pick
-right-rule n =
-    beq-eq _ _ (by-rows (λ n. Bool·beq (rightRule n) (allowed GR n)) refl
-    (λ n h. rw (row-past n h, ne-eqb n 0 (λ e. omega arith), ne-eqb n 2 (λ e. omega arith), le-ltb n 15 h)) n)
-
 -- sets 12 to 14 are those of two octets
 pub narrow-form : (c : ℕ) → c < 12 → eqb (formOf c) form-94x94 ≡ false
 unfolding formOf
@@ -112,11 +95,23 @@ pub left-form : (c : ℕ) → allowed GL c ≡ true → eqb (formOf c) form-96 �
 unfolding allowed mayUse formOf
 left-form c a = not-true _ (up-to-where 15 (allowed GL) (λ m. not (eqb (formOf m) form-96)) refl c (allowed-below GL c a) a)
 
--- a final octet that is known
-pub finds : (n f x f′ x′ : ℕ) (d : Side) → f ≡ f′ → x ≡ x′ → n ≡ setOf f′ d x′ → n ≡ setOf f d x
-finds n f x f′ x′ d a b h = rw (a, b) h
+-- the row of a number that is known, and of one that is none of the fifteen
+pub known-row : (n k : ℕ) {r : Charset} → n ≡ k → r ≡ charsetOf k → r ≡ charsetOf n
+known-row n k e h = rw e h
 
--- a form's final octets, and none of them
+-- a number is none of the first k: what the last arm of a match is told
+abbrev pub NoneOf : ℕ → ℕ → Type 0
+NoneOf n zero = Unit {0}
+NoneOf n (suc k) = NoneOf n k × (n ≡ k → ⊥)
+
+none-below : (n k : ℕ) → NoneOf n k → k ≤ n
+none-below n zero h = omega arith
+none-below n (suc k) h = let l = none-below n k (h .0) in let d : n ≡ k → ⊥ = h .1 in omega arith
+
+pub no-row : (n : ℕ) → NoneOf n 15 → charsetOf 15 ≡ charsetOf n
+unfolding charsetOf
+no-row n h = rw (row-past n (none-below n 15 h))
+
 dead : (a : Bool) → pick a false false ≡ false
 unfolding pick
 dead true = refl
@@ -125,26 +120,8 @@ dead false = refl
 other : (a x : ℕ) → (x ≡ a → ⊥) → eqb a x ≡ false
 other a x h = ne-eqb a x (λ e. h (sym e))
 
+-- a form that no row of a side has
 module _ (f x : ℕ) where
-  pub none-left-94 : f ≡ 1 → (x ≡ 0x42 → ⊥) → (x ≡ 0x4A → ⊥) → 15 ≡ setOf f GL x
-  unfolding setOf find fitsOf mayUse pick
-  none-left-94 e a b = rw e (simp (other 0x42 x a, other 0x4A x b, dead))
-
-  pub none-right-94 : f ≡ 1 → (x ≡ 0x49 → ⊥) → 15 ≡ setOf f GR x
-  unfolding setOf find fitsOf mayUse pick
-  none-right-94 e a = rw e (simp (other 0x49 x a, dead))
-
-  pub none-right-96 : f ≡ 2 → (x ≡ 0x41 → ⊥) → (x ≡ 0x42 → ⊥) → (x ≡ 0x43 → ⊥) → (x ≡ 0x44 → ⊥) → (x ≡ 0x46 → ⊥)
-      → (x ≡ 0x47 → ⊥) → (x ≡ 0x48 → ⊥) → (x ≡ 0x4C → ⊥) → (x ≡ 0x4D → ⊥) → 15 ≡ setOf f GR x
-  unfolding setOf find fitsOf mayUse pick
-  none-right-96 e a b c d g h i j k =
-      rw e
-      (simp (other 0x41 x a, other 0x42 x b, other 0x43 x c, other 0x44 x d, other 0x46 x g, other 0x47 x h, other 0x48 x i, other 0x4C x j, other 0x4D x k))
-
-  pub none-94x94 : (d : Side) → f ≡ 3 → (x ≡ 0x41 → ⊥) → (x ≡ 0x42 → ⊥) → (x ≡ 0x43 → ⊥) → 15 ≡ setOf f d x
-  unfolding setOf find fitsOf pick
-  none-94x94 d e a b c = rw e (simp (other 0x41 x a, other 0x42 x b, other 0x43 x c))
-
   pub none-left : (f ≡ 1 → ⊥) → (f ≡ 3 → ⊥) → 15 ≡ setOf f GL x
   unfolding setOf find fitsOf mayUse pick
   none-left a b = simp (other 1 f a, other 3 f b, dead)
@@ -152,5 +129,3 @@ module _ (f x : ℕ) where
   pub none-right : (f ≡ 1 → ⊥) → (f ≡ 2 → ⊥) → (f ≡ 3 → ⊥) → 15 ≡ setOf f GR x
   unfolding setOf find fitsOf mayUse pick
   none-right a b c = simp (other 1 f a, other 2 f b, other 3 f c)
-
-pub ruleset finals = (none-left-94, none-right-94, none-right-96, none-94x94, none-left, none-right, finds)

@@ -7,6 +7,7 @@ use lib.ListN.{getD}
 use lib.Dec.{eqb}
 use Rattle.base.specs.Choice.{pick}
 use Rattle.charset.specs.declared.Side.{Side, the-variants.GL, the-variants.GR}
+use Rattle.charset.specs.declared.approved.Charset.{Charset}
 
 -- the forms: a set of 94, of 96, of 94 by 94
 abbrev pub form-94 : ℕ
@@ -52,6 +53,10 @@ rows =
 abbrev pub no-set : ℕ
 no-set = 15
 
+-- the first of the sets of two octets: each set below it has one, each from it on has two (`narrow-form` and `wide-form` in proofs/Laws)
+abbrev pub first-double : ℕ
+first-double = 12
+
 -- the row of a set, and of no set
 abbrev pub rowOf : ℕ → Row
 rowOf c = getD rows c (row 0 0 false false)
@@ -67,6 +72,16 @@ allowed d c = mayUse d (rowOf c)
 -- the form of a set, 0 where there is no such set
 unfoldable pub formOf : ℕ → ℕ
 formOf c = rowOf c .form
+
+-- the octets of a character of a set of this form, 0 where there is no such form
+unfoldable pub widthOfForm : ℕ → ℕ
+widthOfForm f = pick (eqb f 0) 0 (pick (eqb f form-94x94) 2 1)
+
+-- the row of a set as the code has it, with the octets of a character
+unfoldable pub charsetOf : ℕ → Charset
+charsetOf c =
+    let w = rowOf c in
+    record { form = w .form; last = w .last; left = w .left; right = w .right; octets = widthOfForm (w .form) }
 
 -- a row is that of a designation of this form, side and final octet
 unfoldable pub fitsOf : Row → ℕ → Side → ℕ → Bool

@@ -1,1 +1,3 @@
 pub mod Charsets
+pub mod Finals
+pub mod Pairs

@@ -1,7 +1,8 @@
 -- Where the octets at a cursor are taken for text, the element there is refused or is that text, whatever the directions are (`quick-turn`): by
 -- the class of the first octet, which starts no control.
 use Rattle.element.proofs.Names.{ℕ, _+_, _*_, _%_, _^_, _≤_, _<_, arith, _≡_, refl, ap, sym, _∙_, Bool, true, false, false≢true, List, [], _∷_}
-use Rattle.element.proofs.Names.{_⊎_, inl, inr, ⊎-elim, ltb, eqb-false, ltb-true, ltb-false, lt-ltb, lt-leb, pick, off, pick-last, on-ge, on-lt, no-set}
+use Rattle.element.proofs.Names.{_⊎_, inl, inr, ⊎-elim, ltb, eqb-false, ltb-true, ltb-false, lt-ltb, lt-leb, pick, off, pick-last, on-ge, on-lt}
+use Rattle.element.proofs.Names.{no-set, first-double}
 use Rattle.element.proofs.Names.{Side, GL, GR, part, next, writtenOf, stepOf, get, State, Sets, Step, Part, Element, Refused, Found, Shape, Refuses, Gives}
 use Rattle.base.specs.Kind as kind
 use Rattle.charset.proofs.Laws.{narrow-form, wide-form}
@@ -10,7 +11,7 @@ use Rattle.element.specs.Element.{shapeOf, steppedOf, directedOf, elementOf}
 use Rattle.element.specs.Start.{Start, begunBy}
 use Rattle.element.proofs.Starts.{On, above, Starts, starts}
 use Rattle.element.proofs.Starts as start
-use Rattle.cursor.specs.Cursor.{cursor, turn, textOctet, setAt, kindAt, ifGraphic, first-double, doubleOf, octetOf, quickOf}
+use Rattle.cursor.specs.Cursor.{cursor, turn, textOctet, setAt, kindAt, ifGraphic, doubleOf, octetOf, quickOf}
 use Rattle.cursor.specs.declared.Turn.{Turn}
 use Rattle.cursor.proofs.Free.{texted}
 

@@ -14,7 +14,7 @@ use Rattle.state.specs.declared.State.{State}
 use Rattle.state.specs.declared.directions.Directions.{Directions}
 use Rattle.designations.specs.Designation.{designationAt}
 use Rattle.designations.specs.declared.Designation.{Designation}
-use Rattle.charset.specs.Charsets.{no-set}
+use Rattle.charset.specs.Charsets.{no-set, first-double}
 use Rattle.units.specs.Records.{blank}
 use Rattle.units.specs.Next.{nextOf}
 use Rattle.units.specs.declared.Outcome.{Outcome}
@@ -94,10 +94,6 @@ single at b set st = turn (oneOf at b set) (cursor (at + 1) st)
 
 abbrev pub double : ℕ → ℕ → ℕ → ℕ → State → Turn
 double at b d set st = turn (twoOf at b d set) (cursor (at + 2) st)
-
--- the first of the two-octet sets
-abbrev pub first-double : ℕ
-first-double = 12
 
 -- the octets t after b, where the set on its side has two octets
 unfoldable pub doubleOf : ℕ → ℕ → List ℕ → ℕ → State → Turn → Turn

@@ -11,6 +11,7 @@ ghost use Rattle.designations.specs.Designation.{designationAt};
 use crate::octets::one_octet;
 use crate::octets::two_octets;
 use base::Unit;
+use charset::FIRST_DOUBLE;
 use charset::NO_SET;
 use designations::Designation;
 use designations::designation_at;
@@ -20,9 +21,6 @@ use state::directions::Directions;
 use units::Outcome;
 
 pub mod octets;
-
-// The first of the sets of two octets.
-pub const FIRST_DOUBLE: u8 = 12;
 
 // Directions under which nothing is refused: one is open, and more may be opened.
 const FREE: Directions = Directions {

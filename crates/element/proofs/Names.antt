@@ -20,7 +20,7 @@ pub use Rattle.base.specs.Answers.{answer, refusedAt}
 unfoldable pub use Rattle.base.specs.Choice.{from, pick}
 pub use Rattle.base.specs.declared.Answer.{Answer}
 pub use Rattle.base.specs.declared.Unit.{Unit as UnitRecord}
-pub use Rattle.charset.specs.Charsets.{form-94x94, form-96, no-set, rowOf}
+pub use Rattle.charset.specs.Charsets.{first-double, form-94x94, form-96, no-set, rowOf}
 unfoldable pub use Rattle.charset.specs.Charsets.{allowed, formOf, mayUse, setOf}
 pub use Rattle.charset.specs.declared.Side.{Side}
 pub use Rattle.charset.specs.declared.Side.the-variants.{GL, GR}

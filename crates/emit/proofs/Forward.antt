@@ -7,7 +7,7 @@ use Rattle.grammar.specs.Units.{TextUnit, octets}
 use Rattle.shortest.specs.Writing.{Need, choose, after, met, need, cost, used, designated, writing}
 use Rattle.shortest.proofs.Needs.{chosen-met}
 use Rattle.rows.specs.Rows.{tagAt, highOctet, lowOctet, startFrom, unitFrom, unitsIn}
-use Rattle.numbers.specs.Numbers.{servedInGL, numbered, classOf, needOfClass, chosenBy, afterChoice, change, sideAt, secondSlot}
+use Rattle.numbers.specs.Numbers.{placesInGL, numbered, classOf, needOfClass, chosenBy, afterChoice, change, sideAt, secondSlot}
 use Rattle.plan.specs.Plan.{restFrom}
 use Rattle.numbers.proofs.Numbers.{Choice, choice-at, chosen-base, chosen-single, chosen-free, used-side}
 use Rattle.plan.proofs.Units.{need-tagged}
@@ -146,7 +146,7 @@ module _ {o w before : List ℕ} {n i k at : ℕ} {after : List ℕ} (g : Going 
         length-append unit′ rest′,
       )
 
-  module _ {l : ℕ} (el : l ≡ getD servedInGL x 0) (fits : length (whole o w n) ≤ length before) {a : ℕ} {mid : List ℕ}
+  module _ {l : ℕ} (el : l ≡ getD placesInGL x 0) (fits : length (whole o w n) ≤ length before) {a : ℕ} {mid : List ℕ}
       (s : Stored after at (designated (change k j)) a mid) where
     changed-put : Written after at (designated (change k j)) a mid
     changed-put = stored-written (omega (arith, lengths, written-length (g .put))) s
@@ -159,7 +159,7 @@ module _ {o w before : List ℕ} {n i k at : ℕ} {after : List ℕ} (g : Going 
     shown-same =
         test (ltb (tagAt w i) 15)
         (λ e. let t = ltb-true (tagAt w i) 15 e in
-        let c : l ≡ getD servedInGL (tagAt w i) 0 = el ∙ ap (λ (y : ℕ). getD servedInGL y 0) (ex ∙ class-character (tagAt w i) t) in
+        let c : l ≡ getD placesInGL (tagAt w i) 0 = el ∙ ap (λ (y : ℕ). getD placesInGL y 0) (ex ∙ class-character (tagAt w i) t) in
         ap (λ (b : Bool). octets (sideOf b) (unitFrom o w (72 * i)))
         (ap (λ (y : ℕ). eqb (j / 16) y) c ∙ its-place (tagAt w i) (j / 16) t (omega (arith, j-below))))
         (λ e. side-free o w (72 * i) _ _ (ltb-false (tagAt w i) 15 e))

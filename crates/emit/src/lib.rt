@@ -8,7 +8,7 @@ ghost use Rattle.grammar.specs.Units.{octets};
 ghost use Rattle.shortest.specs.Writing.{writing};
 ghost use Rattle.rows.specs.Layout as layouts;
 ghost use Rattle.rows.specs.Rows.{unitFrom, unitsIn};
-ghost use Rattle.numbers.specs.Numbers.{servedInGL, servedInGR, secondSlot, chosenBy};
+ghost use Rattle.numbers.specs.Numbers.{placesInGL, placesInGR, secondSlot, chosenBy};
 ghost use Rattle.unit_octets.specs.Octets.{Written, sideOf};
 ghost use Rattle.emit.specs.Emit.{rowsAnswer, rowsOutput, Ready};
 ghost use Rattle.numbers.specs.Size as sizes;
@@ -23,7 +23,7 @@ use rows::tag;
 // The number after the choice for a unit of class x under number k, by what its row keeps. Where l or r, the places of GL and GR that serve
 // the class, stands, it is k at once.
 fn choose(x: usize, k: usize, l: usize, r: usize, work: &[u8], row: usize) -> usize
-    requires { ⌜ (x < classes.all) × (k < sizes.numbers) × (l ≡ getD servedInGL x 0) × (r ≡ getD servedInGR x 0)
+    requires { ⌜ (x < classes.all) × (k < sizes.numbers) × (l ≡ getD placesInGL x 0) × (r ≡ getD placesInGR x 0)
         × (row + layouts.tag ≤ length (now work)) ⌝ }
     ensures { λ q. ⌜ q ≡ chosenBy x k (getD (now (work .entry)) (row + k % sizes.columns) 0) (getD (now (work .entry)) (row + secondSlot x k) 0) ⌝ }
 {
@@ -85,8 +85,8 @@ fn emit(work: &[u8], n: usize, segments: &[u8], out: &mut [u8]) -> usize
         × (length (writing (unitsIn (now segments) (now work) 0 n) (fresh .sets)) ≤ length (now out)) ⌝ }
     ensures { λ r. ⌜ Written (now (out .entry)) 0 (writing (unitsIn (now (segments .entry)) (now (work .entry)) 0 n) (fresh .sets)) r (now (out .exit)) ⌝ }
 {
-    let in_gl = numbers::SERVED_IN_GL;
-    let in_gr = numbers::SERVED_IN_GR;
+    let in_gl = numbers::PLACES_IN_GL;
+    let in_gr = numbers::PLACES_IN_GR;
     let mut i: usize = 0;
     let mut k: usize = 1;
     let mut at: usize = 0;

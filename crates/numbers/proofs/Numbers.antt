@@ -1,7 +1,8 @@
 -- The choice by number is the writer's choice: shown by one computed test of all 17 classes and 80 numbers, from which the laws follow.
 use Rattle.element.proofs.Names.{_≡_, refl, sym, ap, ap₂, _∙_, Bool, true, false, cond, _||_, _&&_, not, List, Option, none, some, ℕ, _+_, _-_, _≤_}
 use Rattle.element.proofs.Names.{_<_, arith, length, getD, List·getD-eq-default, eqb, leb, ltb, eqb-true, eq-eqb, ne-eqb, ltb-true, ltb-false, lt-ltb}
-use Rattle.element.proofs.Names.{le-ltb, leb-true, leb-false, le-leb, lt-leb, off, pick, test, up-to, from-tests, Side, GL, GR, allowed, mayUse, formOf}
+use Rattle.element.proofs.Names.{le-ltb, leb-true, leb-false, le-leb, lt-leb, off, pick, test, up-to, from-tests, Side, GL, GR, allowed, mayUse}
+use Rattle.element.proofs.Names.{form-94x94, formOf}
 use Rattle.element.proofs.Names.{Standing, on, put, Sets}
 use mathlib.Core.Bool.{Bool·beq}
 pub use Rattle.base.proofs.Bools.{beq-eq}
@@ -10,7 +11,9 @@ use Rattle.state.specs.State.{sets}
 use Rattle.grammar.specs.Units.{designation}
 use Rattle.shortest.specs.Writing.{Need, free, either, stands, met, price, via, least, choose, after, used}
 use Rattle.shortest.proofs.Needs.{Steady, least-chosen}
-use Rattle.numbers.specs.Numbers.{numbered, withGL, withGR, needOfClass, priceOfClass, placesInGL, placesInGR, afterFirst, afterSecond, chosenBy}
+use Rattle.numbers.specs.Size as size
+use Rattle.numbers.specs.Numbers.{setsInGL, setsInGR, numbered, withGL, withGR, needOfClass, priceOfClass, placesInGL, placesInGR, afterFirst}
+use Rattle.numbers.specs.Numbers.{afterSecond, chosenBy}
 use Rattle.numbers.specs.Numbers.{afterChoice, surcharge, change, sideAt}
 
 -- ---- tests of equality
@@ -242,6 +245,42 @@ chosen-free k u v u′ v′ = rw (eq-eqb k k refl)
 
 -- ---- places, prices and sets, each by one test
 
+-- what the writer knows of a set is what the table of sets says of it: it has a place on the sides it may use and on no other, it stands at
+-- that place, and its designation has as many octets as its price
+pub record Tied (c : ℕ) : Type 0 where
+  pub in-gl : ltb (getD placesInGL c 0) size.gl ≡ allowed GL c
+  pub in-gr : ltb (getD placesInGR c 0) size.gr ≡ allowed GR c
+  pub at-gl : allowed GL c ≡ true → getD setsInGL (getD placesInGL c 0) 0 ≡ c
+  pub at-gr : allowed GR c ≡ true → getD setsInGR (getD placesInGR c 0) 0 ≡ c
+  pub price : priceOfClass c ≡ cond (eqb (formOf c) form-94x94) 4 3
+
+ties : ℕ → Bool
+ties c =
+    (Bool·beq (ltb (getD placesInGL c 0) size.gl) (allowed GL c) && Bool·beq (ltb (getD placesInGR c 0) size.gr) (allowed GR c))
+    && (implies (allowed GL c) (eqb (getD setsInGL (getD placesInGL c 0) 0) c) && implies (allowed GR c) (eqb (getD setsInGR (getD placesInGR c 0) 0) c))
+    && eqb (priceOfClass c) (cond (eqb (formOf c) form-94x94) 4 3)
+
+all-tied : upTo 15 ties ≡ true
+unfolding ties allowed mayUse formOf priceOfClass
+all-tied = refl
+
+pub places-tied : (c : ℕ) → c < 15 → Tied c
+unfolding ties
+places-tied c h =
+    let e = up-to 15 ties all-tied c h in
+    record {
+      in-gl = search (from-tests, beq-eq);
+      in-gr = search (from-tests, beq-eq);
+      at-gl = λ a. eqb-true _ _ (implies-elim (allowed GL c) _ (search from-tests) a);
+      at-gr = λ a. eqb-true _ _ (implies-elim (allowed GR c) _ (search from-tests) a);
+      price = search from-tests;
+    }
+
+-- and no other set has a place: there are as many places as sets that may use the side
+all-placed : (upTo 5 (λ g. allowed GL (getD setsInGL g 0)) && upTo 13 (λ r. allowed GR (getD setsInGR r 0))) ≡ true
+unfolding allowed mayUse
+all-placed = refl
+
 -- a bound of all entries of a list of numbers
 pub bounded : (l : List ℕ) (b : ℕ) → upTo (length l) (λ i. leb (getD l i 0) b) ≡ true → (i : ℕ) → getD l i 0 ≤ b
 bounded l b t i =
@@ -261,6 +300,12 @@ gl-two x h k = in-table placesInGL 15 (leb 12) (λ y. y - 10) refl x k (le-leb 1
 
 pub gr-most : (x : ℕ) → 3 ≤ x → x < 15 → x - 2 ≡ getD placesInGR x 0
 gr-most x h k = in-table placesInGR 15 (leb 3) (λ y. y - 2) refl x k (le-leb 3 x h)
+
+-- a set without a place in GL has one in GR
+pub gr-alone : (x l : ℕ) → x < 15 → l ≡ getD placesInGL x 0 → 5 ≤ l → getD placesInGR x 0 < 13
+gr-alone x l h el b =
+    ltb-true _ _
+    (up-to-where 15 (λ y. not (ltb (getD placesInGL y 0) 5)) (λ y. ltb (getD placesInGR y 0) 13) refl x h (rw (← el, le-ltb l 5)))
 
 -- the numbers by a class's places
 module _ (x l r k : ℕ) (el : l ≡ getD placesInGL x 0) (er : r ≡ getD placesInGR x 0) where

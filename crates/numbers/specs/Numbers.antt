@@ -46,20 +46,13 @@ needOfClass x =
 unfoldable pub priceOfClass : ℕ → ℕ
 priceOfClass x = cond (leb class.double x && ltb x class.space) 4 3
 
--- the place of a class's set among those of GL, 5 where it has none; and among those of GR, 13 where it has none
-abbrev pub placesInGL : List ℕ
-placesInGL = 0 ∷ 5 ∷ 1 ∷ 5 ∷ 5 ∷ 5 ∷ 5 ∷ 5 ∷ 5 ∷ 5 ∷ 5 ∷ 5 ∷ 2 ∷ 3 ∷ 4 ∷ []
-
-abbrev pub placesInGR : List ℕ
-placesInGR = 13 ∷ 0 ∷ 13 ∷ 1 ∷ 2 ∷ 3 ∷ 4 ∷ 5 ∷ 6 ∷ 7 ∷ 8 ∷ 9 ∷ 10 ∷ 11 ∷ 12 ∷ []
-
 -- the place of GL that serves a class, 5 where none does; a space is served by the first, and what needs no set by any
-abbrev pub servedInGL : List ℕ
-servedInGL = 0 ∷ 5 ∷ 1 ∷ 5 ∷ 5 ∷ 5 ∷ 5 ∷ 5 ∷ 5 ∷ 5 ∷ 5 ∷ 5 ∷ 2 ∷ 3 ∷ 4 ∷ 0 ∷ 0 ∷ []
+abbrev pub placesInGL : List ℕ
+placesInGL = 0 ∷ 5 ∷ 1 ∷ 5 ∷ 5 ∷ 5 ∷ 5 ∷ 5 ∷ 5 ∷ 5 ∷ 5 ∷ 5 ∷ 2 ∷ 3 ∷ 4 ∷ 0 ∷ 0 ∷ []
 
 -- the place of GR that serves a class, 16 where none does
-abbrev pub servedInGR : List ℕ
-servedInGR = 16 ∷ 0 ∷ 16 ∷ 1 ∷ 2 ∷ 3 ∷ 4 ∷ 5 ∷ 6 ∷ 7 ∷ 8 ∷ 9 ∷ 10 ∷ 11 ∷ 12 ∷ 16 ∷ 16 ∷ []
+abbrev pub placesInGR : List ℕ
+placesInGR = 16 ∷ 0 ∷ 16 ∷ 1 ∷ 2 ∷ 3 ∷ 4 ∷ 5 ∷ 6 ∷ 7 ∷ 8 ∷ 9 ∷ 10 ∷ 11 ∷ 12 ∷ 16 ∷ 16 ∷ []
 
 -- the number after the first designation that serves a class, the preferred one, and after the second
 unfoldable pub afterFirst : ℕ → ℕ → ℕ

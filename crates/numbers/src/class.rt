@@ -1,7 +1,7 @@
 // The classes of units by what they need: below SPACE a character of the set of that number.
 
 // the first set of two octets
-pub const DOUBLE: usize = 12;
+pub const DOUBLE: usize = charset::FIRST_DOUBLE as usize;
 
 pub const SPACE: usize = 15;
 

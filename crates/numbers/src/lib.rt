@@ -8,11 +8,11 @@ pub mod class;
 pub mod size;
 mod slots;
 
-// The place of GL that serves each class, 5 where none does.
-pub const SERVED_IN_GL: [u8; class::ALL] = [0, 5, 1, 5, 5, 5, 5, 5, 5, 5, 5, 5, 2, 3, 4, 0, 0];
+// The place of GL that serves each class, 5 where none does: of sets as the table of sets has them (`places-tied`).
+pub const PLACES_IN_GL: [u8; class::ALL] = [0, 5, 1, 5, 5, 5, 5, 5, 5, 5, 5, 5, 2, 3, 4, 0, 0];
 
 // That of GR, 16 where none does.
-pub const SERVED_IN_GR: [u8; class::ALL] = [
+pub const PLACES_IN_GR: [u8; class::ALL] = [
     16,
     0,
     16,
@@ -40,24 +40,22 @@ pub fn class_of(tag: u8) -> usize
     if x < class::FREE { x } else { class::FREE }
 }
 
-// The place of a class's set among those of GL, 5 where it has none.
+// The place of GL that serves a class, 5 where none does.
 pub fn place_in_gl(x: usize) -> usize
     ensures { λ r. ⌜ r ≡ getD placesInGL x 0 ⌝ }
 {
-    let places = b"\x00\x05\x01\x05\x05\x05\x05\x05\x05\x05\x05\x05\x02\x03\x04";
-    if x < class::SPACE {
-        return places[x] as usize;
+    if x < class::ALL {
+        return PLACES_IN_GL[x] as usize;
     }
     0
 }
 
-// The place of a class's set among those of GR, 13 where it has none.
+// The place of GR that serves a class, 16 where none does.
 pub fn place_in_gr(x: usize) -> usize
     ensures { λ r. ⌜ r ≡ getD placesInGR x 0 ⌝ }
 {
-    let places = b"\x0D\x00\x0D\x01\x02\x03\x04\x05\x06\x07\x08\x09\x0A\x0B\x0C";
-    if x < class::SPACE {
-        return places[x] as usize;
+    if x < class::ALL {
+        return PLACES_IN_GR[x] as usize;
     }
     0
 }

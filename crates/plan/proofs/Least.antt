@@ -2,9 +2,9 @@
 -- designation's price.
 use Rattle.element.proofs.Names.{_≡_, refl, sym, ap, ap₂, _∙_, subst, Bool, true, false, cond, _||_, _&&_, List, ⊎-elim, ℕ, _+_, _-_, _*_, _≤_}
 use Rattle.element.proofs.Names.{_<_, min, arith, length, getD, leb, ltb, eqb, eqb-true, eqb-false, eq-eqb, ne-eqb, leb-true, leb-false, le-leb, ltb-true}
-use Rattle.element.proofs.Names.{lt-ltb, test, cond-by, and-left, and-right, up-to}
-use Rattle.base.proofs.Bools.{or-cases, implies, implies-elim, upTo}
-use Rattle.numbers.specs.Numbers.{withGL, withGR, priceOfClass, placesInGL, placesInGR, servedInGL, servedInGR, afterFirst, afterSecond, chosenBy, surcharge}
+use Rattle.element.proofs.Names.{lt-ltb, test, cond-by, up-to}
+use Rattle.base.proofs.Bools.{or-cases, implies, implies-elim, upTo, up-to-where}
+use Rattle.numbers.specs.Numbers.{withGL, withGR, priceOfClass, placesInGL, placesInGR, afterFirst, afterSecond, chosenBy, surcharge}
 use Rattle.table.specs.Table.{SumsFit, Charges, ColumnRead, fromGL}
 use Rattle.plan.specs.Costs.{leastBy, surcharges, OfGL, Smooth, InGR, OnBoth}
 use Rattle.table.proofs.Filled.{all-five}
@@ -114,8 +114,8 @@ module _ (x : ℕ) (next : List ℕ) (g q : ℕ) (hg : g < 5) (hq : q < 16) (sm 
 -- there are three
 of-gl : (x : ℕ) → OfGL x → (eqb x 0 || (eqb x 2 || eqb x 15)) ≡ true
 of-gl x (hx, h) =
-    implies-elim (leb 13 (getD servedInGR x 0)) (eqb x 0 || (eqb x 2 || eqb x 15))
-    (up-to 16 (λ y. implies (leb 13 (getD servedInGR y 0)) (eqb y 0 || (eqb y 2 || eqb y 15))) refl x hx) (le-leb 13 (getD servedInGR x 0) h)
+    implies-elim (leb 13 (getD placesInGR x 0)) (eqb x 0 || (eqb x 2 || eqb x 15))
+    (up-to 16 (λ y. implies (leb 13 (getD placesInGR y 0)) (eqb y 0 || (eqb y 2 || eqb y 15))) refl x hx) (le-leb 13 (getD placesInGR x 0) h)
 
 -- row by row from the costs a and b with sets 0 and 2 in GL, which are no more than a designation apart: for set 0, set 2, and a space
 abbrev Rows : ℕ → ℕ → ℕ → Type 0
@@ -161,24 +161,11 @@ module _ (next : List ℕ) (g q : ℕ) (hg : g < 5) (hq : q < 16) (sm : (y : ℕ
       ap₂ (λ (j t : ℕ). getD (fromGL (getD next j 0) p (getD next (16 + q) 0) p′ t) g 0) z et
       ∙ ap₂ (λ (m n : ℕ). getD (fromGL (getD next (16 * 0 + q) 0) m (getD next (16 + q) 0) n 3) g 0) ep ep′ ∙ least-gl x o
 
--- ---- the tables of the places that serve a class, by a computed test of the 16 classes that need a set
-
-pub served-left : (x l : ℕ) → x < 16 → l ≡ getD servedInGL x 0 → l ≡ getD placesInGL x 0
-served-left x l hx e =
-    e ∙ eqb-true (getD servedInGL x 0) (getD placesInGL x 0) (up-to 16 (λ y. eqb (getD servedInGL y 0) (getD placesInGL y 0)) refl x hx)
-
-pub in-right : (x r : ℕ) → x < 16 → r ≡ getD servedInGR x 0 → r < 13 → (x < 15) × (r ≡ getD placesInGR x 0)
+-- a class that a place of GR serves is that of a set: a computed test of the 16 classes that need one
+pub in-right : (x r : ℕ) → x < 16 → r ≡ getD placesInGR x 0 → r < 13 → x < 15
 in-right x r hx er h =
-    let t = implies-elim (ltb served 13) (ltb x 15 && eqb served placed)
-    (up-to 16 (λ y. implies (ltb (getD servedInGR y 0) 13) (ltb y 15 && eqb (getD servedInGR y 0) (getD placesInGR y 0))) refl x hx)
-    (lt-ltb served 13 (subst (λ (y : ℕ). y < 13) er h)) in
-    (ltb-true x 15 (and-left (ltb x 15) (eqb served placed) t), er ∙ eqb-true served placed (and-right (ltb x 15) (eqb served placed) t))
-  where
-    served : ℕ
-    served = getD servedInGR x 0
-
-    placed : ℕ
-    placed = getD placesInGR x 0
+    ltb-true x 15
+    (up-to-where 16 (λ y. ltb (getD placesInGR y 0) 13) (λ y. ltb y 15) refl x hx (lt-ltb _ 13 (subst (λ (y : ℕ). y < 13) er h)))
 
 -- ---- the sums fit an octet
 

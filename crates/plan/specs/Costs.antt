@@ -4,7 +4,7 @@ use mathlib.Core.Path.{_≡_}
 use mathlib.Core.Bool.{true, false}
 use mathlib.Core.List.{List, [], _∷_}
 use lib.ListN.{length, getD}
-use Rattle.numbers.specs.Numbers.{placesInGL, placesInGR, servedInGL, servedInGR, afterFirst, afterSecond, afterChoice, surcharge, priceOfClass, changes}
+use Rattle.numbers.specs.Numbers.{placesInGL, placesInGR, afterFirst, afterSecond, afterChoice, surcharge, priceOfClass, changes}
 use Rattle.numbers.specs.Class as class
 use Rattle.numbers.specs.Size as size
 
@@ -16,14 +16,14 @@ surcharges p =
 
 -- what the plan holds beside the costs: the places of GL and GR that serve each class, and the surcharges of either price
 pub record Tables (left right fours threes : List ℕ) : Type 0 where
-  pub in-gl : left ≡ servedInGL
-  pub in-gr : right ≡ servedInGR
+  pub in-gl : left ≡ placesInGL
+  pub in-gr : right ≡ placesInGR
   pub by-four : fours ≡ surcharges 4
   pub by-three : threes ≡ surcharges 3
 
 -- the classes that GL alone serves: those of sets 0 and 2, and that of a space
 abbrev pub OfGL : ℕ → Type 0
-OfGL x = (x < class.free) × (size.gr ≤ getD servedInGR x 0)
+OfGL x = (x < class.free) × (size.gr ≤ getD placesInGR x 0)
 
 -- a class whose set has a place in GR alone, and on both sides
 

@@ -23,8 +23,8 @@ pub fn plan(work: &mut [u8], n: usize, segments: &[u8]) -> usize
     fours[15] = 0;
     let mut threes = [3u8; 32];
     threes[15] = 0;
-    let left = numbers::SERVED_IN_GL;
-    let right = numbers::SERVED_IN_GR;
+    let left = numbers::PLACES_IN_GL;
+    let right = numbers::PLACES_IN_GR;
     let mut cur = [0u8; size::NUMBERS];
     let mut base: usize = 0;
     let mut last = class::FREE;

@@ -1,9 +1,11 @@
 -- The quick check is right: a record that it lets through, where the directions are settled, is refused for nothing and changes no
 -- direction. A space by its kind; a character since the bounds of its set's octets are those of the codes that the set uses.
-use Rattle.element.proofs.Names.{ℕ, _+_, _-_, _*_, _/_, _%_, _≤_, _<_, arith, _≡_, sym, ap, _∙_, true, false, List, eqb, leb, ltb, eqb-true, le-leb}
-use Rattle.element.proofs.Names.{lt-ltb, pick, UnitRecord, off, test, pick-last, from-tests, tested, no-set, formOf, writtenOf, stepOf, Directions, Goes}
+use Rattle.element.proofs.Names.{ℕ, _+_, _-_, _*_, _/_, _%_, _≤_, _<_, arith, _≡_, sym, ap, _∙_, Bool, true, false, _&&_, refl, List, eqb, leb}
+use Rattle.element.proofs.Names.{ltb, eqb-true, le-leb}
+use Rattle.element.proofs.Names.{lt-ltb, pick, cond, UnitRecord, off, test, pick-last, from-tests, tested, up-to, no-set, form-96, form-94x94, formOf}
+use Rattle.element.proofs.Names.{writtenOf, stepOf, Directions, Goes}
 use Rattle.base.specs.Kind as kind
-use Rattle.charset.proofs.Laws.{formRule, form-rule}
+use Rattle.base.proofs.Bools.{upTo}
 use Rattle.element.proofs.Starts.{graphic}
 use Rattle.state.specs.Directions.{countsAsText}
 use Rattle.grammar.specs.Units.{codeUsed}
@@ -37,16 +39,31 @@ bounded c k t m w et em = (
   w .whole,
 )
 
+-- what is computed from the set's number is what the table of sets says of its form: one test of the fifteen rows
+by-form : ℕ → Bool
+by-form c = eqb (isDouble c) (cond (eqb (formOf c) form-94x94) 1 0) && eqb (wider c) (cond (eqb (formOf c) form-96) 1 0)
+
+all-by-form : upTo 15 by-form ≡ true
+unfolding by-form formOf
+all-by-form = refl
+
+form-numbers : (c : ℕ) → c < no-set → (isDouble c ≡ cond (eqb (formOf c) form-94x94) 1 0) × (wider c ≡ cond (eqb (formOf c) form-96) 1 0)
+unfolding by-form
+form-numbers c h = let e = up-to 15 by-form all-by-form c h in search from-tests
+
 code-used : (c k : ℕ) → Within c k → codeUsed (formOf c) k ≡ true
-unfolding formRule codeUsed pick
+unfolding codeUsed pick
 code-used c k w =
-    rw (← form-rule c)
-    (test (ltb c 3)
-    (λ p. let b = bounded c k 0 0 w (omega tested) (omega tested) in rw p (graphic k (omega (arith, b)) (omega (arith, b))))
-    (λ p. test (ltb c 12)
-    (λ q. let b = bounded c k 0 1 w (omega tested) (omega tested) in rw (p, q, le-leb 0x20 k (omega (arith, b)), le-leb k 0x7F (omega (arith, b))))
-    (λ q. let b = bounded c k 1 0 w (omega (tested, w .set)) (omega (tested, w .set)) in
-    rw (p, q, lt-ltb c 15 (w .set), graphic (k / 256) (omega (arith, b)) (omega (arith, b)), graphic (k % 256) (omega (arith, b)) (omega (arith, b))))))
+    let n = form-numbers c (w .set) in
+    test (eqb (formOf c) form-94x94)
+    (λ p. let q = not-both c p in let b = bounded c k 1 0 w (rw p at (n .0)) (rw q at (n .1)) in
+    rw (p, graphic (k / 256) (omega (arith, b)) (omega (arith, b)), graphic (k % 256) (omega (arith, b)) (omega (arith, b))))
+    (λ p. test (eqb (formOf c) form-96)
+    (λ q. let b = bounded c k 0 1 w (rw p at (n .0)) (rw q at (n .1)) in rw (p, q, le-leb 0x20 k (omega (arith, b)), le-leb k 0x7F (omega (arith, b))))
+    (λ q. let b = bounded c k 0 0 w (rw p at (n .0)) (rw q at (n .1)) in rw (p, q) (graphic k (omega (arith, b)) (omega (arith, b)))))
+  where
+    not-both : (c : ℕ) → eqb (formOf c) form-94x94 ≡ true → eqb (formOf c) form-96 ≡ false
+    not-both c p = rw (eqb-true (formOf c) form-94x94 p)
 
 -- ---- the directions
 

@@ -1,7 +1,7 @@
 // The tags of units. Below SPACE a character of the set of that number.
 
 // the first set of two octets
-pub const DOUBLE: u8 = 12;
+pub const DOUBLE: u8 = charset::FIRST_DOUBLE;
 
 pub const SPACE: u8 = 15;
 

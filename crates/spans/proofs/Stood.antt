@@ -3,7 +3,8 @@
 -- no more than are asked for (`span-most`), and they are in the string (`span-fits`). Characters of two octets in GL and in GR are one case (`Twos`).
 use Rattle.element.proofs.Names.{ℕ, zero, suc, _+_, _-_, _*_, _/_, _%_, _^_, _≤_, _<_, arith, _≡_, refl, ap, sym, _∙_, Bool, true, false, List, _∷_}
 use Rattle.element.proofs.Names.{eqb, leb, ltb, length, getD, eqb-true, ltb-true, ltb-false, leb-true, leb-false, le-ltb, le-leb, pick, off, test, tested}
-use Rattle.element.proofs.Names.{pick-by, pick-last, from, on-false, on-ne, on-lt, on-ge, from-octet, UnitRecord, no-set, stepOf, part, Sets, Found}
+use Rattle.element.proofs.Names.{pick-by, pick-last, from, on-false, on-ne, on-lt, on-ge, from-octet, UnitRecord, no-set, first-double, stepOf, part}
+use Rattle.element.proofs.Names.{Sets, Found}
 use native.Mathlib.Nat.{mod-eq-of-lt}
 use Rattle.base.specs.Kind as kind
 use Rattle.base.specs.Limit as limit
@@ -12,7 +13,7 @@ use Rattle.element.specs.Start.{startOf, begunBy}
 use Rattle.element.proofs.Sizes.{found}
 use Rattle.grammar.proofs.Places.{at-passed}
 use Rattle.units.specs.Next.{outcomeOf, nextOf}
-use Rattle.cursor.specs.Cursor.{freed, cursor, stateIn, turn, outcomeTurn, elementTurn, first-double, textOctet, setAt, kindAt, ifGraphic, oneOf, doubleOf}
+use Rattle.cursor.specs.Cursor.{freed, cursor, stateIn, turn, outcomeTurn, elementTurn, textOctet, setAt, kindAt, ifGraphic, oneOf, doubleOf}
 use Rattle.cursor.specs.Cursor.{octetOf, quickOf, textTurn, advanceAt, advanceOf}
 use Rattle.cursor.specs.declared.Cursor.{Cursor}
 use Rattle.cursor.specs.declared.Turn.{Turn}

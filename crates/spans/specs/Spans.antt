@@ -8,11 +8,11 @@ use lib.Dec.{eqb, leb, ltb}
 use lib.ListN.{length, getD}
 use Rattle.base.specs.Choice.{pick}
 use Rattle.base.specs.declared.Unit.{Unit as UnitRecord}
-use Rattle.charset.specs.Charsets.{no-set}
+use Rattle.charset.specs.Charsets.{no-set, first-double}
 use Rattle.state.specs.State.{sets}
 use Rattle.state.specs.declared.Sets.{Sets}
 use Rattle.units.specs.Records.{blank}
-use Rattle.cursor.specs.Cursor.{freed, cursor, stateIn, first-double, setAt, oneOf, twoOf, advanceOf}
+use Rattle.cursor.specs.Cursor.{freed, cursor, stateIn, setAt, oneOf, twoOf, advanceOf}
 use Rattle.cursor.specs.declared.Cursor.{Cursor}
 use Rattle.spans.specs.declared.Span.{Span}
 

@@ -3,9 +3,9 @@ ghost use mathlib.Core.Path.{_≡_};
 ghost use Rattle.state.specs.State.{sets};
 ghost use Rattle.spans.specs.Spans.{singleUnder, leftFirst, hasTwo, formAt, lesserOf, anyOf, ofForm, spanOf};
 use base::Unit;
+use charset::FIRST_DOUBLE;
 use charset::NO_SET;
 use cursor::Cursor;
-use cursor::FIRST_DOUBLE;
 use cursor::advance;
 
 // The forms: any one unit, units of one octet, characters of two octets in GL, and in GR.

@@ -2,11 +2,14 @@
 use Rattle.element.proofs.Names.{_≡_, refl, sym, ap, ap₂, _∙_, subst, Bool, true, false, cond, _&&_, not, false≢true, List, [], _∷_, _++_, ℕ, suc}
 use Rattle.element.proofs.Names.{_+_, _-_, _*_, _/_, _%_, _≤_, _<_, arith, add-one, ltb, leb, eqb, eq-eqb, ltb-true, ltb-false, lt-ltb, le-ltb, le-leb}
 use Rattle.element.proofs.Names.{lt-leb, eqb-true, ne-eqb, length, getD, set, take, drop, length-append, length-take, length-drop, sets, test, pick-last}
-use Rattle.element.proofs.Names.{pick-by, and-left, and-right, up-to, pick, Side, GL, GR, rowOf, formOf, on}
+use Rattle.element.proofs.Names.{pick-by, and-left, and-right, up-to, pick, Side, GL, GR, form-96, form-94x94, formOf, on}
 use borrow.Author.Tests.{not-true}
 use lib.Seq.{length-sets, take-suc, take-all, take-take, getD-drop}
 use Rattle.base.proofs.Stores.{sets-append}
-use Rattle.grammar.specs.Units.{Control, control, ext, wide, top, octets, designation}
+use Rattle.charset.specs.Charsets.{widthOfForm, charsetOf}
+use Rattle.charset.specs.declared.approved.Charset.{Charset}
+use Rattle.charset.proofs.Laws.{narrow-form, wide-form}
+use Rattle.grammar.specs.Units.{Control, control, ext, wide, top, octets, lead, designation}
 use Rattle.rows.specs.Rows.{highOctet, lowOctet, startFrom, countOf, partOf, textTagged, markTagged, otherTagged}
 use Rattle.rows.specs.Tag as tag
 use Rattle.rows.proofs.Units.{part-length, other-segment, other-mark}
@@ -106,46 +109,37 @@ copy-done l m o at s k n h h′ f e =
 
 -- ---- designations
 
-abbrev sameList : List ℕ → List ℕ → Bool
-sameList [] [] = true
-sameList [] (y ∷ ys) = false
-sameList (x ∷ xs) [] = false
-sameList (x ∷ xs) (y ∷ ys) = eqb x y && sameList xs ys
+-- the octets of a designation by its set's row: three, or four with 24 for a set of two octets
+lead-one : (l : Bool) (f : ℕ) (t : List ℕ) → eqb f form-94x94 ≡ false → lead f (sideOf l) t ≡ 0x1B ∷ signOf l f ∷ t
+unfolding signOf pick
+lead-one true f t e = rw e
+lead-one false f t e = rw e (test (eqb f form-96) (λ q. rw q) (λ q. rw q))
 
-sameList-eq : (xs ys : List ℕ) → sameList xs ys ≡ true → xs ≡ ys
-sameList-eq [] [] e = refl
-sameList-eq [] (y ∷ ys) e = absurd (false≢true e)
-sameList-eq (x ∷ xs) [] e = absurd (false≢true e)
-sameList-eq (x ∷ xs) (y ∷ ys) e =
-    ap₂ _∷_ (eqb-true x y (and-left (eqb x y) (sameList xs ys) e)) (sameList-eq xs ys (and-right (eqb x y) (sameList xs ys) e))
+lead-two : (l : Bool) (f : ℕ) (t : List ℕ) → f ≡ form-94x94 → lead f (sideOf l) t ≡ 0x1B ∷ 0x24 ∷ signOf l f ∷ t
+unfolding signOf pick
+lead-two true f t e = rw e
+lead-two false f t e = rw e
 
-abbrev short : Bool → ℕ → List ℕ
-short l c = cond (leb 12 c) (0x1B ∷ 0x24 ∷ signOf l c ∷ rowOf c .last ∷ []) (0x1B ∷ signOf l c ∷ rowOf c .last ∷ [])
+octets-two : (f : ℕ) → widthOfForm f ≡ 2 → f ≡ form-94x94
+unfolding widthOfForm pick
+octets-two f e =
+    test (eqb f form-94x94) (eqb-true f form-94x94)
+    (λ q. test (eqb f 0) (λ z. absurd (omega (arith, rw z at e))) (λ z. absurd (omega (arith, rw (z, q) at e))))
 
-designation-short : (l : Bool) (c : ℕ) → c < 15 → designation (on (sideOf l) c) ≡ short l c
-unfolding designation formOf signOf pick
-designation-short true c h = sameList-eq (designation (on GL c)) (short true c) (up-to 15 (λ m. sameList (designation (on GL m)) (short true m)) refl c h)
-designation-short false c h = sameList-eq (designation (on GR c)) (short false c) (up-to 15 (λ m. sameList (designation (on GR m)) (short false m)) refl c h)
+octets-not-two : (f : ℕ) → (widthOfForm f ≡ 2 → ⊥) → eqb f form-94x94 ≡ false
+unfolding widthOfForm pick
+octets-not-two f n = ne-eqb f form-94x94 (λ e. n (rw e))
 
-pub designation-one : (l : Bool) (c s f : ℕ) → s ≡ signOf l c → f ≡ rowOf c .last → c < 12
-    → designation (on (sideOf l) c) ≡ 0x1B ∷ s ∷ f ∷ []
-designation-one l c s f e q h = designation-short l c (omega arith) ∙ rw (lt-leb 12 c h, e, q)
+module _ (l : Bool) (c s : ℕ) (row : Charset) (is : row ≡ charsetOf c) (es : s ≡ signOf l (row .form)) where
+  pub designation-one : (row .octets ≡ 2 → ⊥) → designation (on (sideOf l) c) ≡ 0x1B ∷ s ∷ row .last ∷ []
+  unfolding designation charsetOf formOf
+  designation-one n = rw (es, is) (lead-one l (formOf c) _ (octets-not-two (formOf c) (rw is at n)))
 
-pub designation-two : (l : Bool) (c s f : ℕ) → s ≡ signOf l c → f ≡ rowOf c .last → 12 ≤ c → c < 15
-    → designation (on (sideOf l) c) ≡ 0x1B ∷ 0x24 ∷ s ∷ f ∷ []
-designation-two l c s f e q h k = designation-short l c k ∙ rw (le-leb 12 c h, e, q)
+  pub designation-two : row .octets ≡ 2 → designation (on (sideOf l) c) ≡ 0x1B ∷ 0x24 ∷ s ∷ row .last ∷ []
+  unfolding designation charsetOf formOf
+  designation-two e = rw (es, is) (lead-two l (formOf c) _ (octets-two (formOf c) (rw is at e)))
 
 -- ---- a unit's octets by its tag
-
-narrow : (t : ℕ) → t < 12 → wide t ≡ false
-unfolding wide formOf
-narrow t h = not-true (wide t) (up-to 12 (λ m. not (wide m)) refl t h)
-
-broad : (t : ℕ) → 12 ≤ t → t < 15 → wide t ≡ true
-unfolding wide formOf
-broad t h k =
-    let e : 12 + (t - 12) ≡ t = omega arith in
-    subst (λ (m : ℕ). wide m ≡ true) e (up-to 3 (λ m. wide (12 + m)) refl (t - 12) (omega arith))
 
 -- the tag of a character of two octets, by its test
 pub paired : (t : ℕ) → pick (ltb t 12) false (ltb t 15) ≡ true → (12 ≤ t) × (t < 15)
@@ -155,12 +149,12 @@ paired t e = let p = pick-last (ltb t 12) (ltb t 15) e in (ltb-false t 12 (p .0)
 module _ (d : Side) (t a b : ℕ) where
   pub single-octet : (y : ℕ) → y ≡ pick (eqb t tag.space) 0x20 (top d + b % 128) → pick (ltb t tag.double) false (ltb t tag.space) ≡ false
       → t < tag.tab → octets d (textTagged t a b) ≡ y ∷ []
-  unfolding octets textTagged pick
+  unfolding octets textTagged pick wide
   single-octet y e n h =
       test (ltb t tag.double)
       (λ p. let l = ltb-true t tag.double p in
       let f : y ≡ top d + b % 128 = rw (ne-eqb t tag.space (λ z. omega arith)) at e in
-      rw (p, narrow t l, f))
+      rw (p, narrow-form t l, f))
       (λ p. let l = ltb-false t tag.space (rw p at n) in
       let z : t ≡ tag.space = omega arith in
       let f : y ≡ 0x20 = rw z at e in
@@ -168,10 +162,10 @@ module _ (d : Side) (t a b : ℕ) where
 
   pub two-octets : (x y : ℕ) → x ≡ top d + a % 128 → y ≡ top d + b % 128 → pick (ltb t tag.double) false (ltb t tag.space) ≡ true
       → octets d (textTagged t a b) ≡ x ∷ y ∷ []
-  unfolding octets textTagged pick
+  unfolding octets textTagged pick wide
   two-octets x y ex ey n =
       let p = paired t n in
-      rw (le-ltb t tag.double (p .0), lt-ltb t tag.space (p .1), broad t (p .0) (p .1), ex, ey)
+      rw (le-ltb t tag.double (p .0), lt-ltb t tag.space (p .1), wide-form t (p .0) (p .1), ex, ey)
       (ap₂ (λ (m n : ℕ). (top d + m) ∷ (top d + n) ∷ [])
       (let e : (a % 128 * 256 + b % 128) / 256 ≡ a % 128 = omega arith in e)
       (let e : (a % 128 * 256 + b % 128) % 256 ≡ b % 128 = omega arith in e))

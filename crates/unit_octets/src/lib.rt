@@ -5,7 +5,6 @@ ghost use Prim.Native.Nat.{_+_, _%_, _≤_, _<_};
 ghost use lib.Dec.{eqb, ltb};
 ghost use lib.ListN.{take, drop};
 ghost use Rattle.base.specs.Choice.{pick};
-ghost use Rattle.charset.specs.Charsets.{rowOf};
 ghost use Rattle.state.specs.State.{on};
 ghost use Rattle.charset.specs.declared.Side.the-variants.{GL};
 ghost use Rattle.grammar.specs.Units.{octets, designation, top, ext};
@@ -14,6 +13,8 @@ ghost use Rattle.rows.specs.Rows.{highOctet, lowOctet, startFrom, markTagged, o
 ghost use Rattle.rows.specs.Tag as tags;
 ghost use Rattle.numbers.specs.Numbers.{change};
 ghost use Rattle.unit_octets.specs.Octets.{Stored, sideOf, signOf};
+use charset::FORM_96;
+use charset::approved::row_of;
 use numbers::size;
 use rows::tag;
 
@@ -54,42 +55,30 @@ pub fn control(tag: u8) -> u8
     if tag == tag::TAB { 0x09 } else { 0x0A }
 }
 
-// The final octet of a set.
-fn final_of(set: usize) -> u8
-    requires { ⌜ set < 15 ⌝ }
-    ensures { λ r. ⌜ r ≡ rowOf set .last ⌝ }
-{
-    let finals = b"BIJABCDFGHLMABC";
-    finals[set]
-}
-
 // The octet of a designation that says the side and the form.
-fn sign(left: bool, set: usize) -> u8
-    ensures { λ r. ⌜ r ≡ signOf left set ⌝ }
+fn sign(left: bool, form: u8) -> u8
+    ensures { λ r. ⌜ r ≡ signOf left form ⌝ }
 {
     if left {
         return 0x28;
     }
-    if set < 3 {
-        return 0x29;
-    }
-    if set < 12 {
+    if form == FORM_96 {
         return 0x2D;
     }
     0x29
 }
 
-// Stores a designation, and answers the next place.
+// Stores the designation of a set by its row, and answers the next place.
 fn put_designation(left: bool, set: usize, out: &mut [u8], at: usize) -> usize
     requires { ⌜ set < 15 ⌝ }
     ensures { λ r. ⌜ Stored (now (out .entry)) at (designation (on (sideOf left) set)) r (now (out .exit)) ⌝ }
 {
-    let s = sign(left, set);
-    let f = final_of(set);
-    if set < 12 {
-        return stores::put_three(0x1B, s, f, out, at);
+    let row = row_of(set as u8);
+    let s = sign(left, row.form);
+    if row.octets == 2 {
+        return stores::put_four(0x1B, 0x24, s, row.last, out, at);
     }
-    stores::put_four(0x1B, 0x24, s, f, out, at)
+    stores::put_three(0x1B, s, row.last, out, at)
 }
 
 // Stores the designation that makes number k number j, and answers the next place.

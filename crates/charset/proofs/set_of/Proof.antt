@@ -1,7 +1,21 @@
--- `charset::set_of` meets its contract, by what it calls for each side.
+-- `charset::set_of` meets its contract: it answers `foundOf`, which is what the search through the table finds.
 use native.Mathlib.Omega.{arith}
+use Rattle.base.proofs.Ladder.{ladder, after}
+use Rattle.charset.specs.Finals.{foundOf}
+use Rattle.charset.proofs.Lookup.{found-is}
 use Rattle.charset.proofs.set_of.Statement.{statement}
 use Rattle.charset.proofs.set_of.Tie as tie
 
 pub set-of-spec : {M : Type 1} → statement M
-set-of-spec = tie.close (tie.spec (search arith) (search arith) (search arith) (search arith) (λ c. cc) (λ c. cc))
+unfolding foundOf
+set-of-spec =
+    tie.close
+    (tie.spec
+    (λ c. after (found-is _ _ _) (search ladder))
+    (λ c. after (found-is _ _ _) (search ladder))
+    (search arith)
+    (search arith)
+    (search arith)
+    (search arith)
+    (search arith)
+    (λ c. after (found-is _ _ _) (rw (← c .named-by .ensures) (search ladder))))

@@ -8,5 +8,5 @@ use Rattle.numbers.proofs.place_in_gl.Tie as tie
 pub place-in-gl-spec : {M : Type 1} → statement M
 place-in-gl-spec =
     tie.close
-    (tie.spec (search arith) (λ c. omega (arith, bounded placesInGL 13 refl (c .before .before .before .args .x))) (λ c. refl)
+    (tie.spec (search arith) (λ c. omega (arith, bounded placesInGL 5 refl (c .before .args .x))) (λ c. refl)
     (λ c. past-end placesInGL (c .if1 .left)))

@@ -8,5 +8,5 @@ use Rattle.numbers.proofs.place_in_gr.Tie as tie
 pub place-in-gr-spec : {M : Type 1} → statement M
 place-in-gr-spec =
     tie.close
-    (tie.spec (search arith) (λ c. omega (arith, bounded placesInGR 13 refl (c .before .before .before .args .x))) (λ c. refl)
+    (tie.spec (search arith) (λ c. omega (arith, bounded placesInGR 16 refl (c .before .args .x))) (λ c. refl)
     (λ c. past-end placesInGR (c .if1 .left)))

@@ -6,4 +6,4 @@ use Rattle.unit_octets.proofs.sign.Tie as tie
 
 pub sign-spec : {M : Type 1} → statement M
 unfolding signOf
-sign-spec = tie.close (tie.spec (λ c. search ladder) (λ c. search ladder) (λ c. search ladder) (λ c. search ladder))
+sign-spec = tie.close (tie.spec (λ c. search ladder) (λ c. search ladder) (λ c. search ladder))

@@ -1,7 +1,7 @@
 -- `costs::costs_before` meets its contract, by where the class has a place.
 use Rattle.element.proofs.Names.{arith, ℕ, _≤_, ap, subst, _∙_, List, getD}
 use Rattle.numbers.specs.Numbers.{placesInGL}
-use Rattle.plan.proofs.Least.{last-surcharge, served-left, in-right}
+use Rattle.plan.proofs.Least.{last-surcharge, in-right}
 use Rattle.plan.proofs.costs.costs_before.Statement.{statement}
 use Rattle.plan.proofs.costs.costs_before.Tie as tie
 
@@ -19,13 +19,12 @@ both-costs-requires c κs =
     let pre = start .pre in
     let x = start .args .x in
     let left = some .before .before .before .wide .ensures .0 ∙ ap (λ (t : List ℕ). getD t x 0) (pre .3 .in-gl) in
-    let right = some .before .wide2 .ensures .0 ∙ ap (λ (t : List ℕ). getD t x 0) (pre .3 .in-gr) in
-    let place = in-right x _ (pre .0) right (some .if1 .left) in (
+    let right = some .before .wide2 .ensures .0 ∙ ap (λ (t : List ℕ). getD t x 0) (pre .3 .in-gr) in (
       pre .1 x (omega (arith, pre .0)),
       pre .2,
       pre .3 .by-four,
       pre .2,
-      (place .0, served-left x _ (pre .0) left, place .1, c .before .before .if2 .taken, some .if1 .left),
+      (in-right x _ (pre .0) right (some .if1 .left), left, right, c .before .before .if2 .taken, some .if1 .left),
     )
 
 gr-costs-requires : tie.Need-gr-costs-requires
@@ -36,9 +35,8 @@ gr-costs-requires c κs =
     let x = start .args .x in
     let left = some .before .before .before .wide .ensures .0 ∙ ap (λ (t : List ℕ). getD t x 0) (pre .3 .in-gl) in
     let right = some .before .wide2 .ensures .0 ∙ ap (λ (t : List ℕ). getD t x 0) (pre .3 .in-gr) in
-    let place = in-right x _ (pre .0) right (some .if1 .left) in
-    let none : 5 ≤ getD placesInGL x 0 = omega (arith, served-left x _ (pre .0) left, c .before .before .if2 .left) in
-    (pre .1 x (omega (arith, pre .0)), pre .2, pre .3 .by-three, pre .2, (place .0, place .1, some .if1 .left, none))
+    let none : 5 ≤ getD placesInGL x 0 = omega (arith, left, c .before .before .if2 .left) in
+    (pre .1 x (omega (arith, pre .0)), pre .2, pre .3 .by-three, pre .2, (in-right x _ (pre .0) right (some .if1 .left), right, some .if1 .left, none))
 
 pub costs-before-spec : {M : Type 1} → statement M
 costs-before-spec =

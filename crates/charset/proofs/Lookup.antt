@@ -1,0 +1,122 @@
+-- The lookup of a designation's set is direct (`lookup-direct`), and it is the search through the table for every form, side and octet
+-- (`found-is`). Shown by one test of all 315 pairs of a form and a final octet, which antt computes; what is no such pair finds nothing either
+-- way: the search by the range of the table's final octets and by its forms, the lookup by its own tests and its word of fifteens.
+use Prim.Native.Nat.{ℕ, _+_, _-_, _*_, _/_, _%_, _^_, _<_, _≤_}
+use native.Mathlib.Omega.{arith}
+use lib.Dec.{eqb, ltb}
+use borrow.Author.Tests.{eqb-true, eqb-false, ltb-true, ltb-false, lt-ltb, le-ltb, ne-eqb}
+use mathlib.Core.Path.{_≡_, refl, sym, ap, _∙_}
+use mathlib.Core.Bool.{Bool, true, false, _&&_}
+use Rattle.base.specs.Choice.{pick}
+use Rattle.base.proofs.Bools.{and-left, and-right, test, upTo, up-to, up-to-both}
+use Rattle.charset.specs.Charsets.{mayUse, fitsOf, find, setOf}
+use Rattle.charset.specs.Finals.{namedBy, foundOf}
+use Rattle.charset.specs.Pairs.{formSide, nthForm, atPair, named, Direct}
+use Rattle.charset.specs.declared.Side.{Side, the-variants.GL, the-variants.GR}
+use Rattle.charset.proofs.Laws.{final-range, set-most, none-left, none-right}
+
+-- ---- the test
+
+agrees : ℕ → ℕ → Bool
+agrees i k = eqb (atPair foundOf i k) (atPair setOf i k)
+
+counts : Bool
+counts = eqb (named foundOf) 18
+
+all-pairs : (upTo 5 (λ i. upTo 63 (agrees i)) && counts) ≡ true
+unfolding agrees counts foundOf namedBy setOf find fitsOf mayUse pick
+all-pairs = refl
+
+at-pair : (i k : ℕ) → i < 5 → k < 63 → atPair foundOf i k ≡ atPair setOf i k
+unfolding agrees
+at-pair i k hi hk = eqb-true _ _ (up-to-both 5 63 agrees (and-left (upTo 5 (λ i. upTo 63 (agrees i))) counts all-pairs) i k hi hk)
+
+eighteen : named foundOf ≡ 18
+unfolding counts
+eighteen = eqb-true (named foundOf) 18 (and-right (upTo 5 (λ i. upTo 63 (agrees i))) counts all-pairs)
+
+-- ---- final octets outside 40-7E
+
+-- the search finds nothing where a fact of each set that it finds does not hold
+none-where : (f : ℕ) (d : Side) (x : ℕ) → (setOf f d x < 15 → ⊥) → setOf f d x ≡ 15
+none-where f d x h =
+    let m = set-most f d x in test (ltb (setOf f d x) 15) (λ e. absurd (h (ltb-true _ _ e))) (λ e. omega (arith, ltb-false (setOf f d x) 15 e))
+
+search-below : (f : ℕ) (d : Side) (x : ℕ) → x < 0x40 → setOf f d x ≡ 15
+search-below f d x l = none-where f d x (λ h. omega (arith, final-range f d x h .0))
+
+search-above : (f : ℕ) (d : Side) (x : ℕ) → 0x7E < x → setOf f d x ≡ 15
+search-above f d x l = none-where f d x (λ h. omega (arith, final-range f d x h .1))
+
+found-below : (f : ℕ) (d : Side) (x : ℕ) → x < 0x40 → foundOf f d x ≡ 15
+unfolding foundOf pick
+found-below f d x l = rw (lt-ltb x 0x40 l)
+
+found-above : (f : ℕ) (d : Side) (x : ℕ) → 0x7E < x → foundOf f d x ≡ 15
+unfolding foundOf pick
+found-above f d x l = rw (le-ltb x 0x40 (omega arith), lt-ltb 0x4F x (omega arith))
+
+-- ---- forms
+
+abbrev fifteens : ℕ
+fifteens = 0xFFFFFFFFFFFFFFFF
+
+-- a form and side are one of the five, or there is no such form: then the search finds nothing, and the lookup's word is of fifteens
+data Sort (f : ℕ) (d : Side) : Type 0 where
+  one : (i : ℕ) → i < 5 → nthForm i ≡ formSide f d → Sort f d
+  other : ((x : ℕ) → 15 ≡ setOf f d x) → namedBy f d ≡ fifteens → Sort f d
+
+form-by : (d : Side) (f k : ℕ) → eqb f k ≡ true → formSide k d ≡ formSide f d
+form-by d f k e = ap (λ y. formSide y d) (sym (eqb-true f k e))
+
+sort : (f : ℕ) (d : Side) → Sort f d
+unfolding namedBy pick
+sort f GL =
+    test (eqb f 1) (λ e. one 0 (omega arith) (form-by GL f 1 e))
+    (λ a. test (eqb f 3) (λ e. one 3 (omega arith) (form-by GL f 3 e))
+    (λ b. other (λ x. none-left f x (eqb-false f 1 a) (eqb-false f 3 b)) (rw (a, b))))
+sort f GR =
+    test (eqb f 1) (λ e. one 1 (omega arith) (form-by GR f 1 e))
+    (λ a. test (eqb f 2) (λ e. one 2 (omega arith) (form-by GR f 2 e))
+    (λ b. test (eqb f 3) (λ e. one 4 (omega arith) (form-by GR f 3 e))
+    (λ c. other (λ x. none-right f x (eqb-false f 1 a) (eqb-false f 2 b) (eqb-false f 3 c)) (rw (a, b, c)))))
+
+-- a word of fifteens has a fifteen at each final octet
+found-none : (f : ℕ) (d : Side) (x : ℕ) → namedBy f d ≡ fifteens → foundOf f d x ≡ 15
+unfolding foundOf pick
+found-none f d x e =
+    test (ltb x 0x40) (λ a. rw a)
+    (λ a. test (ltb 0x4F x) (λ b. rw (a, b))
+    (λ b. rw (a, b, e)
+    (eqb-true _ _ (up-to 16 (λ k. eqb (fifteens / 2 ^ (4 * k) % 16) 15) refl (x - 0x40) (omega (arith, ltb-false x 0x40 a, ltb-false 0x4F x b))))))
+
+-- a form of the five
+found-by : (i : ℕ) → i < 5 → (x : ℕ) → foundOf (nthForm i .form) (nthForm i .side) x ≡ setOf (nthForm i .form) (nthForm i .side) x
+found-by i h x =
+    test (ltb x 0x40) (λ a. let l = ltb-true x 0x40 a in found-below _ _ x l ∙ sym (search-below _ _ x l))
+    (λ a. test (ltb 0x7E x) (λ b. let l = ltb-true 0x7E x b in found-above _ _ x l ∙ sym (search-above _ _ x l))
+    (λ b. let z : 0x40 + (x - 0x40) ≡ x = omega (arith, ltb-false x 0x40 a) in
+    rw z at (at-pair i (x - 0x40) h (omega (arith, ltb-false x 0x40 a, ltb-false 0x7E x b)))))
+
+-- ---- every form, side and octet
+
+pub found-is : (f : ℕ) (d : Side) (x : ℕ) → foundOf f d x ≡ setOf f d x
+found-is f d x = go (sort f d)
+  where
+    go : Sort f d → foundOf f d x ≡ setOf f d x
+    go (one i h e) = rw e at (found-by i h x)
+    go (other n w) = found-none f d x w ∙ n x
+
+pub lookup-direct : Direct foundOf
+lookup-direct =
+    record {
+      pairs = at-pair;
+      eighteen = eighteen;
+      below = found-below;
+      above = found-above;
+      no-form = λ f d x n. none f d x n (sort f d);
+    }
+  where
+    none : (f : ℕ) (d : Side) (x : ℕ) → ((i : ℕ) → i < 5 → nthForm i ≡ formSide f d → ⊥) → Sort f d → foundOf f d x ≡ 15
+    none f d x n (one i h e) = absurd (n i h e)
+    none f d x n (other s w) = found-none f d x w
