@@ -81,7 +81,7 @@ widthOfForm f = pick (eqb f 0) 0 (pick (eqb f form-94x94) 2 1)
 unfoldable pub charsetOf : ℕ → Charset
 charsetOf c =
     let w = rowOf c in
-    record { form = w .form; last = w .last; left = w .left; right = w .right; octets = widthOfForm (w .form) }
+    record { 0 = w .form; 1 = w .last; 2 = w .left; 3 = w .right; 4 = widthOfForm (w .form) }
 
 -- a row is that of a designation of this form, side and final octet
 unfoldable pub fitsOf : Row → ℕ → Side → ℕ → Bool

@@ -6,150 +6,33 @@ use crate::FORM_94;
 use crate::FORM_94X94;
 use crate::FORM_96;
 
-// A row: the set's form, the final octet of its designations, whether it may stand in GL and in GR, and the octets of one of its characters.
+// A row: the set's form, the final octet of its designations, whether it may stand in GL, whether in GR, and the octets of a character.
 #[repr(C)]
-pub struct Charset {
-    pub form: u8,
-    pub last: u8,
-    pub left: bool,
-    pub right: bool,
-    pub octets: u8,
-}
+pub struct Charset(pub u8, pub u8, pub bool, pub bool, pub u8);
 
 pub const APPROVED: [Charset; 15] = [
-    // ASCII
-    Charset {
-        form: FORM_94,
-        last: 0x42,
-        left: true,
-        right: false,
-        octets: 1,
-    },
-    // JIS X0201 right
-    Charset {
-        form: FORM_94,
-        last: 0x49,
-        left: false,
-        right: true,
-        octets: 1,
-    },
-    // JIS X0201 left
-    Charset {
-        form: FORM_94,
-        last: 0x4A,
-        left: true,
-        right: false,
-        octets: 1,
-    },
-    // ISO 8859-1 right
-    Charset {
-        form: FORM_96,
-        last: 0x41,
-        left: false,
-        right: true,
-        octets: 1,
-    },
-    // ISO 8859-2 right
-    Charset {
-        form: FORM_96,
-        last: 0x42,
-        left: false,
-        right: true,
-        octets: 1,
-    },
-    // ISO 8859-3 right
-    Charset {
-        form: FORM_96,
-        last: 0x43,
-        left: false,
-        right: true,
-        octets: 1,
-    },
-    // ISO 8859-4 right
-    Charset {
-        form: FORM_96,
-        last: 0x44,
-        left: false,
-        right: true,
-        octets: 1,
-    },
-    // ISO 8859-7 right
-    Charset {
-        form: FORM_96,
-        last: 0x46,
-        left: false,
-        right: true,
-        octets: 1,
-    },
-    // ISO 8859-6 right
-    Charset {
-        form: FORM_96,
-        last: 0x47,
-        left: false,
-        right: true,
-        octets: 1,
-    },
-    // ISO 8859-8 right
-    Charset {
-        form: FORM_96,
-        last: 0x48,
-        left: false,
-        right: true,
-        octets: 1,
-    },
-    // ISO 8859-5 right
-    Charset {
-        form: FORM_96,
-        last: 0x4C,
-        left: false,
-        right: true,
-        octets: 1,
-    },
-    // ISO 8859-9 right
-    Charset {
-        form: FORM_96,
-        last: 0x4D,
-        left: false,
-        right: true,
-        octets: 1,
-    },
-    // GB 2312
-    Charset {
-        form: FORM_94X94,
-        last: 0x41,
-        left: true,
-        right: true,
-        octets: 2,
-    },
-    // JIS X0208
-    Charset {
-        form: FORM_94X94,
-        last: 0x42,
-        left: true,
-        right: true,
-        octets: 2,
-    },
-    // KS C5601
-    Charset {
-        form: FORM_94X94,
-        last: 0x43,
-        left: true,
-        right: true,
-        octets: 2,
-    },
+    Charset(FORM_94, 0x42, true, false, 1), // 0 ASCII
+    Charset(FORM_94, 0x49, false, true, 1), // 1 JIS X0201 right
+    Charset(FORM_94, 0x4A, true, false, 1), // 2 JIS X0201 left
+    Charset(FORM_96, 0x41, false, true, 1), // 3 ISO 8859-1 right
+    Charset(FORM_96, 0x42, false, true, 1), // 4 ISO 8859-2 right
+    Charset(FORM_96, 0x43, false, true, 1), // 5 ISO 8859-3 right
+    Charset(FORM_96, 0x44, false, true, 1), // 6 ISO 8859-4 right
+    Charset(FORM_96, 0x46, false, true, 1), // 7 ISO 8859-7 right
+    Charset(FORM_96, 0x47, false, true, 1), // 8 ISO 8859-6 right
+    Charset(FORM_96, 0x48, false, true, 1), // 9 ISO 8859-8 right
+    Charset(FORM_96, 0x4C, false, true, 1), // 10 ISO 8859-5 right
+    Charset(FORM_96, 0x4D, false, true, 1), // 11 ISO 8859-9 right
+    Charset(FORM_94X94, 0x41, true, true, 2), // 12 GB 2312
+    Charset(FORM_94X94, 0x42, true, true, 2), // 13 JIS X0208
+    Charset(FORM_94X94, 0x43, true, true, 2), // 14 KS C5601
 ];
 
 // The row of a number that is no set's.
-pub const NONE: Charset = Charset {
-    form: 0,
-    last: 0,
-    left: false,
-    right: false,
-    octets: 0,
-};
+pub const NONE: Charset = Charset(0, 0, false, false, 0);
 
-// The row of a set. By a place that is constant in each arm: an index that is computed has the whole table built on the stack at each call,
-// and of these arms the compiler makes a table of constants for each field that is asked for.
+// The row of a set. The place in the table is a constant in each arm: by an index that is computed, the whole table would be built on the
+// stack at each call, and of these arms the compiler makes a table of constants for each field that is asked for.
 pub fn row_of(set: u8) -> Charset
     ensures { λ r. ⌜ r ≡ charsetOf set ⌝ }
 {

@@ -1,6 +1,6 @@
 // The fifteen sets: their forms, the sides they may use, and the set that a designation names.
 ghost use mathlib.Core.Path.{_≡_};
-ghost use Rattle.charset.specs.Charsets.{formOf, allowed, setOf};
+ghost use Rattle.charset.specs.Charsets.{rowOf, formOf, widthOfForm, allowed, setOf};
 
 pub mod approved;
 mod finals;
@@ -29,7 +29,23 @@ pub fn form_of(set: u8) -> u8
     ensures { λ r. ⌜ r ≡ formOf set ⌝ }
 {
     let row = approved::row_of(set);
-    row.form
+    row.0
+}
+
+// The final octet of a set's designations, 0 where there is no such set.
+pub fn final_of(set: u8) -> u8
+    ensures { λ r. ⌜ r ≡ rowOf set .last ⌝ }
+{
+    let row = approved::row_of(set);
+    row.1
+}
+
+// The octets of a set's characters, 0 where there is no such set.
+pub fn octets_of(set: u8) -> u8
+    ensures { λ r. ⌜ r ≡ widthOfForm (formOf set) ⌝ }
+{
+    let row = approved::row_of(set);
+    row.4
 }
 
 // Whether a set may stand on a side.
@@ -38,8 +54,8 @@ pub fn may_use(side: Side, set: u8) -> bool
 {
     let row = approved::row_of(set);
     match side {
-        Side::GL => row.left,
-        Side::GR => row.right,
+        Side::GL => row.2,
+        Side::GR => row.3,
     }
 }
 

@@ -9,6 +9,7 @@ pub mod lists;
 pub mod printing;
 pub mod resources;
 pub mod running;
+pub mod sets;
 pub mod stepping;
 
 // Whether a string is accepted, and what of it is refused.

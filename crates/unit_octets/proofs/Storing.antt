@@ -2,12 +2,11 @@
 use Rattle.element.proofs.Names.{_≡_, refl, sym, ap, ap₂, _∙_, subst, Bool, true, false, cond, _&&_, not, false≢true, List, [], _∷_, _++_, ℕ, suc}
 use Rattle.element.proofs.Names.{_+_, _-_, _*_, _/_, _%_, _≤_, _<_, arith, add-one, ltb, leb, eqb, eq-eqb, ltb-true, ltb-false, lt-ltb, le-ltb, le-leb}
 use Rattle.element.proofs.Names.{lt-leb, eqb-true, ne-eqb, length, getD, set, take, drop, length-append, length-take, length-drop, sets, test, pick-last}
-use Rattle.element.proofs.Names.{pick-by, and-left, and-right, up-to, pick, Side, GL, GR, form-96, form-94x94, formOf, on}
+use Rattle.element.proofs.Names.{pick-by, and-left, and-right, up-to, pick, Side, GL, GR, form-96, form-94x94, rowOf, formOf, on}
 use borrow.Author.Tests.{not-true}
 use lib.Seq.{length-sets, take-suc, take-all, take-take, getD-drop}
 use Rattle.base.proofs.Stores.{sets-append}
-use Rattle.charset.specs.Charsets.{widthOfForm, charsetOf}
-use Rattle.charset.specs.declared.approved.Charset.{Charset}
+use Rattle.charset.specs.Charsets.{widthOfForm}
 use Rattle.charset.proofs.Laws.{narrow-form, wide-form}
 use Rattle.grammar.specs.Units.{Control, control, ext, wide, top, octets, lead, designation}
 use Rattle.rows.specs.Rows.{highOctet, lowOctet, startFrom, countOf, partOf, textTagged, markTagged, otherTagged}
@@ -130,14 +129,15 @@ octets-not-two : (f : ℕ) → (widthOfForm f ≡ 2 → ⊥) → eqb f form-94x9
 unfolding widthOfForm pick
 octets-not-two f n = ne-eqb f form-94x94 (λ e. n (rw e))
 
-module _ (l : Bool) (c s : ℕ) (row : Charset) (is : row ≡ charsetOf c) (es : s ≡ signOf l (row .form)) where
-  pub designation-one : (row .octets ≡ 2 → ⊥) → designation (on (sideOf l) c) ≡ 0x1B ∷ s ∷ row .last ∷ []
-  unfolding designation charsetOf formOf
-  designation-one n = rw (es, is) (lead-one l (formOf c) _ (octets-not-two (formOf c) (rw is at n)))
+module _ (l : Bool) (c : ℕ) {form s last width : ℕ} (ef : form ≡ formOf c) (es : s ≡ signOf l form) (el : last ≡ rowOf c .last)
+    (ew : width ≡ widthOfForm (formOf c)) where
+  pub designation-one : (width ≡ 2 → ⊥) → designation (on (sideOf l) c) ≡ 0x1B ∷ s ∷ last ∷ []
+  unfolding designation
+  designation-one n = rw (es, ef, el) (lead-one l (formOf c) _ (octets-not-two (formOf c) (rw ew at n)))
 
-  pub designation-two : row .octets ≡ 2 → designation (on (sideOf l) c) ≡ 0x1B ∷ 0x24 ∷ s ∷ row .last ∷ []
-  unfolding designation charsetOf formOf
-  designation-two e = rw (es, is) (lead-two l (formOf c) _ (octets-two (formOf c) (rw is at e)))
+  pub designation-two : width ≡ 2 → designation (on (sideOf l) c) ≡ 0x1B ∷ 0x24 ∷ s ∷ last ∷ []
+  unfolding designation
+  designation-two e = rw (es, ef, el) (lead-two l (formOf c) _ (octets-two (formOf c) (rw ew at e)))
 
 -- ---- a unit's octets by its tag
 

@@ -14,7 +14,9 @@ ghost use Rattle.rows.specs.Tag as tags;
 ghost use Rattle.numbers.specs.Numbers.{change};
 ghost use Rattle.unit_octets.specs.Octets.{Stored, sideOf, signOf};
 use charset::FORM_96;
-use charset::approved::row_of;
+use charset::final_of;
+use charset::form_of;
+use charset::octets_of;
 use numbers::size;
 use rows::tag;
 
@@ -68,17 +70,18 @@ fn sign(left: bool, form: u8) -> u8
     0x29
 }
 
-// Stores the designation of a set by its row, and answers the next place.
+// Stores the designation of a set, and answers the next place.
 fn put_designation(left: bool, set: usize, out: &mut [u8], at: usize) -> usize
     requires { ⌜ set < 15 ⌝ }
     ensures { λ r. ⌜ Stored (now (out .entry)) at (designation (on (sideOf left) set)) r (now (out .exit)) ⌝ }
 {
-    let row = row_of(set as u8);
-    let s = sign(left, row.form);
-    if row.octets == 2 {
-        return stores::put_four(0x1B, 0x24, s, row.last, out, at);
+    let c = set as u8;
+    let s = sign(left, form_of(c));
+    let last = final_of(c);
+    if octets_of(c) == 2 {
+        return stores::put_four(0x1B, 0x24, s, last, out, at);
     }
-    stores::put_three(0x1B, s, row.last, out, at)
+    stores::put_three(0x1B, s, last, out, at)
 }
 
 // Stores the designation that makes number k number j, and answers the next place.

@@ -6,17 +6,24 @@ use Rattle.unit_octets.proofs.put_designation.Tie as tie
 
 returns : tie.Need-returns
 returns c =
-    let form = c .before .before .before .before in
-    let row = form .before .before .before in
-    stored-as (designation-two _ _ _ _ (row .row-of .ensures) (form .before .before .sign .ensures) (form .if1 .taken)) (c .before .before .put-four .ensures)
+    let width = c .before .before .before .before in
+    let last = width .before in
+    stored-as
+    (designation-two _ _ (last .before .before .before .form-of .ensures) (last .before .before .sign .ensures) (last .before .final-of .ensures)
+    (last .octets-of .ensures) (width .if1 .taken))
+    (c .before .before .put-four .ensures)
 
 returns-2 : tie.Need-returns-2
 returns-2 c =
-    let form = c .before .before .before .before in
-    let row = form .before .before .before in
-    stored-as (designation-one _ _ _ _ (row .row-of .ensures) (form .before .before .sign .ensures) (form .if1 .left)) (c .before .before .put-three .ensures)
+    let width = c .before .before .before .before in
+    let last = width .before in
+    stored-as
+    (designation-one _ _ (last .before .before .before .form-of .ensures) (last .before .before .sign .ensures) (last .before .final-of .ensures)
+    (last .octets-of .ensures) (width .if1 .left))
+    (c .before .before .put-three .ensures)
 
 pub put-designation-spec : {M : Type 1} → statement M
 put-designation-spec =
     tie.close
-    (tie.spec (λ c. omega (arith, c .before .pre)) (search arith) (search arith) (search arith) (search arith) returns (search arith) (search arith) returns-2)
+    (tie.spec (λ c. omega (arith, c .before .pre)) (search arith) (search arith) (search arith) (search arith)
+    (search arith) (search arith) returns (search arith) (search arith) returns-2)
