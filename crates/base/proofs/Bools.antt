@@ -1,5 +1,5 @@
 -- What tests say that were put together: by `&&`, by `||`, by a choice, and over the first n numbers, which antt computes (`up-to`).
-use Prim.Native.Nat.{ℕ, zero, suc, _<_}
+use Prim.Native.Nat.{ℕ, zero, suc, _<_, _≤_}
 use native.Mathlib.Omega.{arith}
 use native.Mathlib.Nat.{not-suc-le-zero, le-of-suc-le-suc}
 use mathlib.Core.Path.{_≡_, refl, sym, subst}
@@ -107,6 +107,15 @@ up-to-both m n f t x k h l = up-to n (f x) (up-to m (λ y. upTo n (f y)) t x h) 
 
 pub up-to-where : (n : ℕ) (p q : ℕ → Bool) → upTo n (λ y. implies (p y) (q y)) ≡ true → (k : ℕ) → k < n → p k ≡ true → q k ≡ true
 up-to-where n p q t k h e = implies-elim (p k) (q k) (up-to n (λ y. implies (p y) (q y)) t k h) e
+
+-- a number is none of the first k: what the last arm of a match on 0, 1, .. is told
+abbrev pub NoneOf : ℕ → ℕ → Type 0
+NoneOf n zero = Unit {0}
+NoneOf n (suc k) = NoneOf n k × (n ≡ k → ⊥)
+
+pub none-below : (n k : ℕ) → NoneOf n k → k ≤ n
+none-below n zero h = omega arith
+none-below n (suc k) h = let l = none-below n k (h .0) in let d : n ≡ k → ⊥ = h .1 in omega arith
 
 -- a rule of the first n numbers, one by one
 abbrev pub Each : ℕ → (ℕ → Type 0) → Type 0

@@ -1,20 +1,20 @@
--- The laws of the table of sets. A row that the search finds has the designation's form, side and final octet (`set-named`); a set
--- that may stand anywhere is one of the fifteen (`allowed-below`); and the code's comparisons say what the table says: where a test
--- of a set's number is compared with the table, antt computes it for the fifteen rows (`by-rows`), and a final octet that is none of
--- a form's finals finds no row (`ruleset finals`).
-use Prim.Native.Nat.{ℕ, zero, suc, _+_, _-_, _<_, _≤_}
+-- The laws of the table of sets. A row that the search finds has the designation's form, side and final octet (`set-named`); a set that may
+-- stand anywhere is one of the fifteen (`allowed-below`); the code's table has the rows of the definition (`known-row`, `no-row`); and what is
+-- told by a set's number is what the table says, by a test that antt computes for the fifteen rows (`by-rows`, `narrow-form`, `wide-form`).
+use Prim.Native.Nat.{ℕ, suc, _+_, _-_, _<_, _≤_}
 use native.Mathlib.Omega.{arith}
 use lib.Dec.{eqb, leb, ltb}
-use borrow.Author.Tests.{eqb-true, ne-eqb, le-ltb, le-leb, ltb-true, ltb-false, not-true}
+use borrow.Author.Tests.{eqb-true, ne-eqb, le-leb, ltb-true, ltb-false, not-true}
 use mathlib.Core.Path.{_≡_, refl, sym}
-use mathlib.Core.Bool.{Bool, true, false, not, _&&_, Bool·beq}
+use mathlib.Core.Bool.{Bool, true, false, not, _&&_}
 use mathlib.Core.List.{List, [], _∷_}
 use lib.ListN.{length, getD, List·getD-eq-default}
-use Rattle.charset.specs.Charsets.{Row, form-96, form-94x94, Named, row, rows, rowOf, mayUse, allowed, fitsOf, find, setOf, formOf, charsetOf}
+use Rattle.charset.specs.Charsets.{Row, form-96, form-94x94, no-set, first-double, Named, row, rows, rowOf, mayUse, allowed, fitsOf, find, setOf}
+use Rattle.charset.specs.Charsets.{formOf, charsetOf}
 use Rattle.charset.specs.declared.Side.{Side, the-variants.GL, the-variants.GR}
 use Rattle.charset.specs.declared.approved.Charset.{Charset}
 use Rattle.base.specs.Choice.{pick}
-use Rattle.base.proofs.Bools.{beq-eq, off, test, pick-both, from-tests, up-to, upTo, up-to-where}
+use Rattle.base.proofs.Bools.{off, test, pick-both, from-tests, up-to, upTo, up-to-where, NoneOf, none-below}
 
 -- past the table there is no set
 pub row-past : (n : ℕ) → 15 ≤ n → rowOf n ≡ row 0 0 false false
@@ -81,12 +81,12 @@ allowed-below d c e = test (ltb c 15) (ltb-true c 15) (λ q. past d (rw (row-pas
 pub by-rows : (f : ℕ → Bool) → upTo 15 f ≡ true → ((n : ℕ) → 15 ≤ n → f n ≡ true) → (n : ℕ) → f n ≡ true
 by-rows f t past n = test (ltb n 15) (λ e. up-to 15 f t n (ltb-true n 15 e)) (λ e. past n (ltb-false n 15 e))
 
--- sets 12 to 14 are those of two octets
-pub narrow-form : (c : ℕ) → c < 12 → eqb (formOf c) form-94x94 ≡ false
+-- the sets of two octets are the last of the table
+pub narrow-form : (c : ℕ) → c < first-double → eqb (formOf c) form-94x94 ≡ false
 unfolding formOf
 narrow-form c h = not-true (eqb (formOf c) form-94x94) (up-to 12 (λ m. not (eqb (formOf m) form-94x94)) refl c h)
 
-pub wide-form : (c : ℕ) → 12 ≤ c → c < 15 → eqb (formOf c) form-94x94 ≡ true
+pub wide-form : (c : ℕ) → first-double ≤ c → c < no-set → eqb (formOf c) form-94x94 ≡ true
 unfolding formOf
 wide-form c h k = up-to-where 15 (leb 12) (λ m. eqb (formOf m) form-94x94) refl c k (le-leb 12 c h)
 
@@ -99,19 +99,11 @@ left-form c a = not-true _ (up-to-where 15 (allowed GL) (λ m. not (eqb (formOf 
 pub known-row : (n k : ℕ) {r : Charset} → n ≡ k → r ≡ charsetOf k → r ≡ charsetOf n
 known-row n k e h = rw e h
 
--- a number is none of the first k: what the last arm of a match is told
-abbrev pub NoneOf : ℕ → ℕ → Type 0
-NoneOf n zero = Unit {0}
-NoneOf n (suc k) = NoneOf n k × (n ≡ k → ⊥)
-
-none-below : (n k : ℕ) → NoneOf n k → k ≤ n
-none-below n zero h = omega arith
-none-below n (suc k) h = let l = none-below n k (h .0) in let d : n ≡ k → ⊥ = h .1 in omega arith
-
 pub no-row : (n : ℕ) → NoneOf n 15 → charsetOf 15 ≡ charsetOf n
 unfolding charsetOf
 no-row n h = rw (row-past n (none-below n 15 h))
 
+-- a form that no row of a side has
 dead : (a : Bool) → pick a false false ≡ false
 unfolding pick
 dead true = refl
@@ -120,7 +112,6 @@ dead false = refl
 other : (a x : ℕ) → (x ≡ a → ⊥) → eqb a x ≡ false
 other a x h = ne-eqb a x (λ e. h (sym e))
 
--- a form that no row of a side has
 module _ (f x : ℕ) where
   pub none-left : (f ≡ 1 → ⊥) → (f ≡ 3 → ⊥) → 15 ≡ setOf f GL x
   unfolding setOf find fitsOf mayUse pick

@@ -77,7 +77,7 @@ formOf c = rowOf c .form
 unfoldable pub widthOfForm : ℕ → ℕ
 widthOfForm f = pick (eqb f 0) 0 (pick (eqb f form-94x94) 2 1)
 
--- the row of a set as the code has it, with the octets of a character
+-- the row of a set as the code has it: form, final octet, whether it may stand in GL and in GR, and the octets of a character
 unfoldable pub charsetOf : ℕ → Charset
 charsetOf c =
     let w = rowOf c in

@@ -5,11 +5,11 @@ use Prim.Native.Nat.{ℕ}
 abbrev pub gl : ℕ
 gl = 5
 
--- those of GR that a set has; it also stands for none of them
+-- those of GR that a set has
 abbrev pub gr : ℕ
 gr = 13
 
--- those of GR with the spare ones
+-- those of GR with the spare ones; it also stands for none of them
 abbrev pub columns : ℕ
 columns = 16
 

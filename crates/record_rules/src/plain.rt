@@ -15,7 +15,7 @@ fn used(set: u8, code: u16) -> bool
     if NO_SET <= set {
         return false;
     }
-    // 1 for a set of 94 by 94, and for one of 96
+    // 1 for a set of 94 by 94, and for one of 96, as the table of sets has them (`form-numbers`)
     let two_octets = (set as u32 + 4) / 16;
     let wider = (set as u32 + 13) / 16 - two_octets;
     let low = (code as u32 % 256 + 223 + wider) % 256;
