@@ -32,22 +32,6 @@ pub fn form_of(set: u8) -> u8
     row.0
 }
 
-// The final octet of a set's designations, 0 where there is no such set.
-pub fn final_of(set: u8) -> u8
-    ensures { λ r. ⌜ r ≡ rowOf set .last ⌝ }
-{
-    let row = approved::row_of(set);
-    row.1
-}
-
-// The octets of a set's characters, 0 where there is no such set.
-pub fn octets_of(set: u8) -> u8
-    ensures { λ r. ⌜ r ≡ widthOfForm (formOf set) ⌝ }
-{
-    let row = approved::row_of(set);
-    row.4
-}
-
 // Whether a set may stand on a side.
 pub fn may_use(side: Side, set: u8) -> bool
     ensures { λ r. ⌜ r ≡ allowed side set ⌝ }
@@ -71,4 +55,20 @@ pub fn set_of(form: u8, side: Side, last: u8) -> u8
     }
     let sets = finals::named_by(form, side);
     ((sets >> (4 * (last - finals::FIRST))) % 16) as u8
+}
+
+// The final octet of a set's designations, 0 where there is no such set.
+pub fn final_of(set: u8) -> u8
+    ensures { λ r. ⌜ r ≡ rowOf set .last ⌝ }
+{
+    let row = approved::row_of(set);
+    row.1
+}
+
+// The octets of a set's characters, 0 where there is no such set.
+pub fn octets_of(set: u8) -> u8
+    ensures { λ r. ⌜ r ≡ widthOfForm (formOf set) ⌝ }
+{
+    let row = approved::row_of(set);
+    row.4
 }

@@ -109,15 +109,15 @@ copy-done l m o at s k n h h′ f e =
 -- ---- designations
 
 -- the octets of a designation by its set's row: three, or four with 24 for a set of two octets
-lead-one : (l : Bool) (f : ℕ) (t : List ℕ) → eqb f form-94x94 ≡ false → lead f (sideOf l) t ≡ 0x1B ∷ signOf l f ∷ t
+lead-one : (l : Bool) (c : ℕ) (t : List ℕ) → eqb (formOf c) form-94x94 ≡ false → lead (formOf c) (sideOf l) t ≡ 0x1B ∷ signOf l c ∷ t
 unfolding signOf pick
-lead-one true f t e = rw e
-lead-one false f t e = rw e (test (eqb f form-96) (λ q. rw q) (λ q. rw q))
+lead-one true c t e = rw e
+lead-one false c t e = rw e (test (eqb (formOf c) form-96) (λ q. rw q) (λ q. rw q))
 
-lead-two : (l : Bool) (f : ℕ) (t : List ℕ) → f ≡ form-94x94 → lead f (sideOf l) t ≡ 0x1B ∷ 0x24 ∷ signOf l f ∷ t
+lead-two : (l : Bool) (c : ℕ) (t : List ℕ) → formOf c ≡ form-94x94 → lead (formOf c) (sideOf l) t ≡ 0x1B ∷ 0x24 ∷ signOf l c ∷ t
 unfolding signOf pick
-lead-two true f t e = rw e
-lead-two false f t e = rw e
+lead-two true c t e = rw e
+lead-two false c t e = rw e
 
 octets-two : (f : ℕ) → widthOfForm f ≡ 2 → f ≡ form-94x94
 unfolding widthOfForm pick
@@ -129,15 +129,14 @@ octets-not-two : (f : ℕ) → (widthOfForm f ≡ 2 → ⊥) → eqb f form-94x9
 unfolding widthOfForm pick
 octets-not-two f n = ne-eqb f form-94x94 (λ e. n (rw e))
 
-module _ (l : Bool) (c : ℕ) {form s last width : ℕ} (ef : form ≡ formOf c) (es : s ≡ signOf l form) (el : last ≡ rowOf c .last)
-    (ew : width ≡ widthOfForm (formOf c)) where
+module _ (l : Bool) (c : ℕ) {s last width : ℕ} (es : s ≡ signOf l c) (el : last ≡ rowOf c .last) (ew : width ≡ widthOfForm (formOf c)) where
   pub designation-one : (width ≡ 2 → ⊥) → designation (on (sideOf l) c) ≡ 0x1B ∷ s ∷ last ∷ []
   unfolding designation
-  designation-one n = rw (es, ef, el) (lead-one l (formOf c) _ (octets-not-two (formOf c) (rw ew at n)))
+  designation-one n = rw (es, el) (lead-one l c _ (octets-not-two (formOf c) (rw ew at n)))
 
   pub designation-two : width ≡ 2 → designation (on (sideOf l) c) ≡ 0x1B ∷ 0x24 ∷ s ∷ last ∷ []
   unfolding designation
-  designation-two e = rw (es, ef, el) (lead-two l (formOf c) _ (octets-two (formOf c) (rw ew at e)))
+  designation-two e = rw (es, el) (lead-two l c _ (octets-two (formOf c) (rw ew at e)))
 
 -- ---- a unit's octets by its tag
 

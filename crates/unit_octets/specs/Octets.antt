@@ -7,7 +7,7 @@ use lib.Dec.{eqb, leb}
 use lib.ListN.{length}
 use lib.Seq.{sets}
 use Rattle.base.specs.Choice.{pick}
-use Rattle.charset.specs.Charsets.{form-96}
+use Rattle.charset.specs.Charsets.{form-96, formOf}
 use Rattle.charset.specs.declared.Side.{Side}
 use Rattle.charset.specs.declared.Side.the-variants.{GL, GR}
 
@@ -24,6 +24,6 @@ pub record Stored (before : List ℕ) (at : ℕ) (xs : List ℕ) (r : ℕ) (afte
 abbrev pub sideOf : Bool → Side
 sideOf left = cond left GL GR
 
--- the octet after 1B, or after 1B 24, of a designation, by the side and the form
+-- the octet after 1B, or after 1B 24, of a designation: it says the side and the form
 unfoldable pub signOf : Bool → ℕ → ℕ
-signOf left form = pick left 0x28 (pick (eqb form form-96) 0x2D 0x29)
+signOf left set = pick left 0x28 (pick (eqb (formOf set) form-96) 0x2D 0x29)

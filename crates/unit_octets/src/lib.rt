@@ -58,13 +58,13 @@ pub fn control(tag: u8) -> u8
 }
 
 // The octet of a designation that says the side and the form.
-fn sign(left: bool, form: u8) -> u8
-    ensures { λ r. ⌜ r ≡ signOf left form ⌝ }
+fn sign(left: bool, set: u8) -> u8
+    ensures { λ r. ⌜ r ≡ signOf left set ⌝ }
 {
     if left {
         return 0x28;
     }
-    if form == FORM_96 {
+    if form_of(set) == FORM_96 {
         return 0x2D;
     }
     0x29
@@ -76,7 +76,7 @@ fn put_designation(left: bool, set: usize, out: &mut [u8], at: usize) -> usize
     ensures { λ r. ⌜ Stored (now (out .entry)) at (designation (on (sideOf left) set)) r (now (out .exit)) ⌝ }
 {
     let c = set as u8;
-    let s = sign(left, form_of(c));
+    let s = sign(left, c);
     let last = final_of(c);
     if octets_of(c) == 2 {
         return stores::put_four(0x1B, 0x24, s, last, out, at);

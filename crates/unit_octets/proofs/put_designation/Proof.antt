@@ -9,7 +9,7 @@ returns c =
     let width = c .before .before .before .before in
     let last = width .before in
     stored-as
-    (designation-two _ _ (last .before .before .before .form-of .ensures) (last .before .before .sign .ensures) (last .before .final-of .ensures)
+    (designation-two _ _ (last .before .before .sign .ensures) (last .before .final-of .ensures)
     (last .octets-of .ensures) (width .if1 .taken))
     (c .before .before .put-four .ensures)
 
@@ -18,12 +18,12 @@ returns-2 c =
     let width = c .before .before .before .before in
     let last = width .before in
     stored-as
-    (designation-one _ _ (last .before .before .before .form-of .ensures) (last .before .before .sign .ensures) (last .before .final-of .ensures)
+    (designation-one _ _ (last .before .before .sign .ensures) (last .before .final-of .ensures)
     (last .octets-of .ensures) (width .if1 .left))
     (c .before .before .put-three .ensures)
 
 pub put-designation-spec : {M : Type 1} → statement M
 put-designation-spec =
     tie.close
-    (tie.spec (λ c. omega (arith, c .before .pre)) (search arith) (search arith) (search arith) (search arith)
+    (tie.spec (λ c. omega (arith, c .before .pre)) (search arith) (search arith) (search arith)
     (search arith) (search arith) returns (search arith) (search arith) returns-2)
