@@ -28,7 +28,7 @@
 #include <stddef.h>
 #include <stdint.h>
 
-#define CTEXT_VERSION "2.0"
+#define CTEXT_VERSION "2.1"
 
 /* The most octets of a string, units of a list, octets of an extended
    segment, and directions open at once. */
@@ -165,6 +165,50 @@ typedef struct ctext_unit {
     uint32_t start;
     uint32_t length;
 } ctext_unit;
+
+/* ---- Sets -------------------------------------------------------------- */
+
+/* The number that stands for no set, one more than the last of enum ctext_set. */
+#define CTEXT_NO_SET 15
+
+/* The form of a set, by the octets of its characters. */
+enum ctext_form {
+    CTEXT_FORM_NONE = 0, /* no set */
+    CTEXT_FORM_94 = 1,   /* one octet, 21-7E in GL, A1-FE in GR */
+    CTEXT_FORM_96 = 2,   /* one octet, A0-FF in GR */
+    CTEXT_FORM_94X94 = 3 /* two octets, each as of a set of 94 */
+};
+
+enum ctext_side {
+    CTEXT_GL = 0,
+    CTEXT_GR = 1
+};
+
+/* A row of the table of sets.
+   form         one of enum ctext_form
+   final_octet  F, the last octet of the set's designations, which are
+                1B 28 F to GL and 1B 29 F to GR for a set of 94,
+                1B 2D F to GR for a set of 96,
+                1B 24 28 F to GL and 1B 24 29 F to GR for a set of 94 by 94
+   gl, gr       whether the set may stand in GL, and whether in GR: 0 or 1
+   octets       of one of its characters, 1 or 2 */
+typedef struct ctext_row {
+    uint8_t form;
+    uint8_t final_octet;
+    uint8_t gl;
+    uint8_t gr;
+    uint8_t octets;
+} ctext_row;
+
+/* The row of a set, one of enum ctext_set. For every other number, 15 to 255,
+   all of it is 0. */
+ctext_row ctext_set_row(uint8_t set);
+
+/* The set that a designation names: the one whose row has that form and final
+   octet, and 1 for that side (of enum ctext_side). No two sets agree in these.
+   CTEXT_NO_SET where there is none, as for every form that is 0 or over 3 and
+   every side over 1. */
+uint8_t ctext_set_of(uint8_t form, uint8_t side, uint8_t final_octet);
 
 /* ---- Reading a whole string -------------------------------------------- */
 
@@ -474,6 +518,7 @@ ctext_printed ctext_program(const uint8_t *s, size_t n, uint8_t *out, size_t o);
 
 /* The archive is for x86-64 Linux; another layout does not compile. */
 typedef char ctext_layout[sizeof(ctext_answer) == 24 && sizeof(ctext_unit) == 12
+                          && sizeof(ctext_row) == 5
                           && sizeof(ctext_run_bounds) == 48 && sizeof(ctext_printed) == 32
                           && sizeof(ctext_run_reader) == 24
                           && sizeof(ctext_run_step) == 72

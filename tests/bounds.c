@@ -4,9 +4,9 @@
    All strings of up to three elements out of a table are read, shown, stepped
    over and written, and all of up to five octets out of another are put into
    their resource form and read as one. What the direction rule says of extended
-   segments is tried on a table of strings, lists and readers. What is lent is
-   filled with a pattern or left as malloc gives it, and what must stay is looked
-   at afterwards. */
+   segments is tried on a table of strings, lists and readers, and the table of
+   sets is held against one of its own. What is lent is filled with a pattern or
+   left as malloc gives it, and what must stay is looked at afterwards. */
 
 #include <stdio.h>
 #include <stdlib.h>
@@ -32,7 +32,7 @@ static const char *const ELEMENTS[] = {
 /* What escapes are made of and for, and others; resource forms are tried over it. */
 static const uint8_t LETTERS[] = { '\\', 'n', '0', 0x0A, 0x00, 'A', 0xE9 };
 
-static unsigned long failures, strings, accepted, forms;
+static unsigned long failures, strings, accepted, forms, designations;
 
 static void expect(int holds, const char *what, const uint8_t *s, size_t n)
 {
@@ -938,6 +938,114 @@ static void try_directed_readers(void)
         }
 }
 
+/* ---- Sets ---------------------------------------------------------------- */
+
+#define OCTETS 256 /* the values of an octet */
+
+/* The paper's table: form, final octet, GL, GR, octets of a character. */
+static const ctext_row ROWS[CTEXT_NO_SET] = {
+    [CTEXT_SET_ASCII] = { CTEXT_FORM_94, 0x42, 1, 0, 1 },
+    [CTEXT_SET_JISX0201_RIGHT] = { CTEXT_FORM_94, 0x49, 0, 1, 1 },
+    [CTEXT_SET_JISX0201_LEFT] = { CTEXT_FORM_94, 0x4A, 1, 0, 1 },
+    [CTEXT_SET_ISO8859_1_RIGHT] = { CTEXT_FORM_96, 0x41, 0, 1, 1 },
+    [CTEXT_SET_ISO8859_2_RIGHT] = { CTEXT_FORM_96, 0x42, 0, 1, 1 },
+    [CTEXT_SET_ISO8859_3_RIGHT] = { CTEXT_FORM_96, 0x43, 0, 1, 1 },
+    [CTEXT_SET_ISO8859_4_RIGHT] = { CTEXT_FORM_96, 0x44, 0, 1, 1 },
+    [CTEXT_SET_ISO8859_7_RIGHT] = { CTEXT_FORM_96, 0x46, 0, 1, 1 },
+    [CTEXT_SET_ISO8859_6_RIGHT] = { CTEXT_FORM_96, 0x47, 0, 1, 1 },
+    [CTEXT_SET_ISO8859_8_RIGHT] = { CTEXT_FORM_96, 0x48, 0, 1, 1 },
+    [CTEXT_SET_ISO8859_5_RIGHT] = { CTEXT_FORM_96, 0x4C, 0, 1, 1 },
+    [CTEXT_SET_ISO8859_9_RIGHT] = { CTEXT_FORM_96, 0x4D, 0, 1, 1 },
+    [CTEXT_SET_GB2312] = { CTEXT_FORM_94X94, 0x41, 1, 1, 2 },
+    [CTEXT_SET_JISX0208] = { CTEXT_FORM_94X94, 0x42, 1, 1, 2 },
+    [CTEXT_SET_KSC5601] = { CTEXT_FORM_94X94, 0x43, 1, 1, 2 }
+};
+
+static void try_set_rows(void)
+{
+    static const ctext_row none = { 0, 0, 0, 0, 0 };
+    unsigned set;
+    for (set = 0; set < OCTETS; set++) {
+        const ctext_row *wanted = set < CTEXT_NO_SET ? &ROWS[set] : &none;
+        const uint8_t number = (uint8_t)set;
+        ctext_row row = ctext_set_row(number);
+        expect(row.form == wanted->form && row.final_octet == wanted->final_octet && row.gl == wanted->gl
+                   && row.gr == wanted->gr && row.octets == wanted->octets,
+               "the row of a set", &number, 1);
+    }
+}
+
+/* The sets by the rows: forms 1 to 3, both sides, every octet. */
+static void named_by_rows(uint8_t named[4][2][OCTETS])
+{
+    uint8_t set;
+    memset(named, CTEXT_NO_SET, sizeof(uint8_t[4][2][OCTETS]));
+    for (set = 0; set < CTEXT_NO_SET; set++) {
+        ctext_row row = ROWS[set];
+        if (row.gl)
+            named[row.form][CTEXT_GL][row.final_octet] = set;
+        if (row.gr)
+            named[row.form][CTEXT_GR][row.final_octet] = set;
+    }
+}
+
+/* Every form, side and octet, those that are none too. */
+static void try_set_of(void)
+{
+    static uint8_t named[4][2][OCTETS];
+    unsigned form, side, octet;
+    named_by_rows(named);
+    for (form = 0; form < OCTETS; form++)
+        for (side = 0; side < OCTETS; side++)
+            for (octet = 0; octet < OCTETS; octet++) {
+                const uint8_t asked[] = { (uint8_t)form, (uint8_t)side, (uint8_t)octet };
+                uint8_t wanted = form < 4 && side < 2 ? named[form][side][octet] : CTEXT_NO_SET;
+                expect(ctext_set_of(asked[0], asked[1], asked[2]) == wanted,
+                       "the set of a form, a side and an octet", asked, 3);
+            }
+}
+
+/* The five forms of a designation: what stands before its final octet. */
+static const struct lead { const char *octets; uint8_t form, side; } LEADS[] = {
+    { "\x1B\x28", CTEXT_FORM_94, CTEXT_GL },
+    { "\x1B\x29", CTEXT_FORM_94, CTEXT_GR },
+    { "\x1B\x2D", CTEXT_FORM_96, CTEXT_GR },
+    { "\x1B\x24\x28", CTEXT_FORM_94X94, CTEXT_GL },
+    { "\x1B\x24\x29", CTEXT_FORM_94X94, CTEXT_GR }
+};
+
+/* The reader knows the same sets: a character after the designation is of the one
+   that it names, and a designation that names none is refused. */
+static void designated(const struct lead *l, uint8_t octet)
+{
+    uint8_t s[6], set = ctext_set_of(l->form, l->side, octet);
+    size_t n = strlen(l->octets);
+    ctext_step step;
+    memcpy(s, l->octets, n);
+    s[n++] = octet;
+    s[n++] = l->side == CTEXT_GL ? 0x30 : 0xB0;
+    s[n++] = l->side == CTEXT_GL ? 0x21 : 0xA1;
+    step = ctext_next(s, n, ctext_open());
+    if (set == CTEXT_NO_SET) {
+        expect(is_answer(step.answer, CTEXT_NOT_APPROVED, 0, 0), "a designation of no set", s, n);
+        return;
+    }
+    designations++;
+    expect(step.given && step.unit.set == set && step.unit.length == ctext_set_row(set).octets,
+           "a character of the set designated", s, n);
+}
+
+/* All forms with all final octets: eighteen designations. */
+static void try_designations(void)
+{
+    uint8_t octet;
+    size_t i;
+    for (i = 0; i < sizeof LEADS / sizeof LEADS[0]; i++)
+        for (octet = 0x40; octet <= 0x7E; octet++)
+            designated(&LEADS[i], octet);
+    expect(designations == 18, "the number of designations", NULL, 0);
+}
+
 int main(int argc, char **argv)
 {
     unsigned most = argc > 1 ? (unsigned)atoi(argv[1]) : 3;
@@ -957,7 +1065,10 @@ int main(int argc, char **argv)
     try_directed_readers();
     try_many_runs();
     try_limits();
-    printf("bounds: %lu strings, %lu accepted, %lu resource forms, %lu failures\n", strings, accepted, forms,
-           failures);
+    try_set_rows();
+    try_set_of();
+    try_designations();
+    printf("bounds: %lu strings, %lu accepted, %lu resource forms, %lu designations, %lu failures\n", strings,
+           accepted, forms, designations, failures);
     return failures != 0;
 }

@@ -1,6 +1,7 @@
 /* installed.c: a program, C and C++, that knows the installed header alone: what
-   tests/c does not call, the names for people, the parts of a segment, and the
-   version. Says what is wrong; the exit status is 0 where nothing is. */
+   tests/c does not call, or not from C++, the names for people, the table of sets,
+   the parts of a segment, and the version. Says what is wrong; the exit status is
+   0 where nothing is. */
 
 #include <ctext.h>
 #include <stdio.h>
@@ -48,6 +49,20 @@ static void try_names(void)
     same("the version", ctext_version(), CTEXT_VERSION);
 }
 
+static void try_sets(void)
+{
+    ctext_row row = ctext_set_row(CTEXT_SET_JISX0201_RIGHT);
+    if (row.form != CTEXT_FORM_94 || row.final_octet != 0x49 || row.gl != 0 || row.gr != 1
+        || row.octets != 1) {
+        printf("installed: the row of JIS X0201 right\n");
+        failures++;
+    }
+    if (ctext_set_of(row.form, CTEXT_GR, row.final_octet) != CTEXT_SET_JISX0201_RIGHT) {
+        printf("installed: the set that 1B 29 49 names\n");
+        failures++;
+    }
+}
+
 static void try_parts(void)
 {
     static const uint8_t note[] = { 'A', 0x1B, 0x25, 0x2F, 0x31, 0x80, 0x84, 'a', 'b', 0x02, 0xFF };
@@ -73,6 +88,7 @@ static void try_parts(void)
 int main(void)
 {
     try_names();
+    try_sets();
     try_parts();
     return failures != 0;
 }

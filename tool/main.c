@@ -5,26 +5,30 @@
 
 #include "tool.h"
 
-/* most is the octets of the longest note that the verb takes. */
+/* A verb takes notes, of at most so many octets each, and answers them one by one;
+   or it takes none, and prints. The function for the other is null. */
 typedef struct verb {
     const char *name;
     int (*answer)(const note *n);
     size_t most;
+    int (*print)(void);
     const char *help;
 } verb;
 
-/* A new verb is a line here, a line of tool.h and a file. */
+/* A new verb is a line here, a line of tool.h and a file; one that takes no note
+   is a line of USAGE too. */
 static const verb VERBS[] = {
-    { "shorten", shorten, CTEXT_MOST_OCTETS, "write its shortest form, nothing added" },
-    { "check", check, CTEXT_MOST_OCTETS, "say whether it is accepted, or why not" },
-    { "units", units, CTEXT_MOST_OCTETS,
+    { "shorten", shorten, CTEXT_MOST_OCTETS, NULL, "write its shortest form, nothing added" },
+    { "check", check, CTEXT_MOST_OCTETS, NULL, "say whether it is accepted, or why not" },
+    { "units", units, CTEXT_MOST_OCTETS, NULL,
       "list its units: characters, spaces, tabs, newlines, directions, segments" },
-    { "runs", runs, CTEXT_MOST_OCTETS, "list its runs: stretches of text in one set" },
-    { "explain", explain, CTEXT_MOST_OCTETS, "show where it is refused, or what it holds" },
-    { "escape", escape, CTEXT_MOST_OCTETS,
+    { "runs", runs, CTEXT_MOST_OCTETS, NULL, "list its runs: stretches of text in one set" },
+    { "explain", explain, CTEXT_MOST_OCTETS, NULL, "show where it is refused, or what it holds" },
+    { "escape", escape, CTEXT_MOST_OCTETS, NULL,
       "write its resource form, a value for an X resource file, nothing added" },
-    { "unescape", unescape, CTEXT_MOST_FORM,
-      "read a resource form, and write the octets it stands for, nothing added" }
+    { "unescape", unescape, CTEXT_MOST_FORM, NULL,
+      "read a resource form, and write the octets it stands for, nothing added" },
+    { "sets", NULL, 0, sets, "take no note, and list the fifteen sets with their designations" }
 };
 
 #define COUNT (sizeof VERBS / sizeof VERBS[0])
@@ -32,6 +36,7 @@ static const verb VERBS[] = {
 static const char USAGE[] =
     "usage: ctext < NOTE\n"
     "       ctext VERB [FILE ..]\n"
+    "       ctext sets\n"
     "       ctext --help | --version\n";
 
 static const char ABOUT[] =
@@ -102,6 +107,13 @@ static int answer_all(const verb *v, char *const *files, int count)
     return status;
 }
 
+static int run_on(const verb *v, char *const *files, int count)
+{
+    if (v->print == NULL)
+        return answer_all(v, files, count);
+    return count == 0 ? v->print() : wrong_use(files[0], "the verb takes no file");
+}
+
 static int is_option(const char *word)
 {
     return word[0] == '-' && word[1] != '\0';
@@ -111,15 +123,15 @@ static int is_option(const char *word)
 static int run_verb(const verb *v, char *const *words, int count)
 {
     if (count > 0 && strcmp(words[0], "--help") == 0) {
-        out_format("usage: ctext %s [FILE ..]\n", v->name);
+        out_format("usage: ctext %s%s\n", v->name, v->print == NULL ? " [FILE ..]" : "");
         print_verb(v);
         return STATUS_ACCEPTED;
     }
     if (count > 0 && strcmp(words[0], "--") == 0)
-        return answer_all(v, words + 1, count - 1);
+        return run_on(v, words + 1, count - 1);
     if (count > 0 && is_option(words[0]))
         return wrong_use(words[0], "no such option");
-    return answer_all(v, words, count);
+    return run_on(v, words, count);
 }
 
 static int run(int argc, char *const *argv)

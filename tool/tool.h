@@ -89,4 +89,7 @@ int explain(const note *n);
 int escape(const note *n);
 int unescape(const note *n);
 
+/* Takes no note. */
+int sets(void);
+
 #endif

@@ -8,6 +8,7 @@ use crate::reader::{self, State};
 use crate::resource::{self, Made, Way};
 use crate::run_steps::{self, RunList, RunReader, RunStep};
 use crate::runs::{self, Shown};
+use crate::sets::{self, Row};
 use crate::steps::{self, Handed, Position};
 use crate::unit::*;
 use crate::writer;
@@ -74,6 +75,13 @@ pub enum Fault {
     PlainFirst,
     /// A resource input is changed.
     WritesInput,
+    /// A designation names a set of its form also where that may not stand, as
+    /// `1B 29 42` does in ISO 2022.
+    EitherSide,
+    /// Every side but 0 is GR.
+    SideIsFlag,
+    /// A number past the last set has the row of that.
+    RowOfNone,
     /// The check and the steps keep a wrong rule for segments.
     Reads(WrongRule),
     /// The writer keeps one.
@@ -325,5 +333,21 @@ impl Library for Faulty {
             _ => {}
         }
         answer
+    }
+
+    fn set_row(&self, set: u8) -> Row {
+        match self.fault {
+            Fault::RowOfNone => sets::row(set.min(14)),
+            _ => sets::row(set),
+        }
+    }
+
+    fn set_of(&self, form: u8, side: u8, last: u8) -> u8 {
+        let other = sets::set_of(form, 1 - side.min(1), last);
+        match (self.fault, sets::set_of(form, side, last)) {
+            (Fault::EitherSide, sets::NO_SET) if side < 2 => other,
+            (Fault::SideIsFlag, _) => sets::set_of(form, side.min(1), last),
+            (_, set) => set,
+        }
     }
 }

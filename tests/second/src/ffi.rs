@@ -14,7 +14,8 @@
         feature = "runs",
         feature = "listed",
         feature = "write",
-        feature = "resource"
+        feature = "resource",
+        feature = "sets"
     )),
     allow(dead_code)
 )]
@@ -25,6 +26,7 @@ use std::ops::Range;
 use crate::resource::Way;
 use crate::run_steps::{RunReader, RunStep};
 use crate::runs::Shown;
+use crate::sets::Row;
 use crate::steps::{Handed, Position};
 use crate::unit::{Answer, Unit};
 
@@ -65,6 +67,10 @@ pub trait Library {
 
     /// As for a step, and lends the first octets of the output.
     fn resource(&self, way: Way, memory: &mut [u8], string: Range<usize>, out: Lent) -> Answer;
+
+    fn set_row(&self, set: u8) -> Row;
+
+    fn set_of(&self, form: u8, side: u8, last: u8) -> u8;
 }
 
 /// Octets of which the first are lent, and the rest are guards.
@@ -84,6 +90,7 @@ pub struct Functions {
     pub listed: bool,
     pub write: bool,
     pub resource: bool,
+    pub sets: bool,
 }
 
 impl Functions {
@@ -96,6 +103,7 @@ impl Functions {
         listed: false,
         write: false,
         resource: false,
+        sets: false,
     };
 }
 
@@ -109,6 +117,7 @@ pub const LINKED: Functions = Functions {
     listed: cfg!(feature = "listed"),
     write: cfg!(feature = "write"),
     resource: cfg!(feature = "resource"),
+    sets: cfg!(feature = "sets"),
 };
 
 #[repr(C)]
@@ -211,6 +220,15 @@ struct CRunsStep {
     answer: CAnswer,
 }
 
+#[repr(C)]
+struct CRow {
+    form: u8,
+    final_octet: u8,
+    gl: u8,
+    gr: u8,
+    octets: u8,
+}
+
 /// The header's sizes.
 const _: () = assert!(
     size_of::<CReader>() == 32 && size_of::<CPassedReader>() == 32 && size_of::<CStep>() == 72
@@ -221,6 +239,7 @@ const _: () = assert!(
         && size_of::<CRunStep>() == 72
         && size_of::<CRunsStep>() == 48
 );
+const _: () = assert!(size_of::<CRow>() == 5);
 
 extern "C" {
     fn ctext_check(s: *const u8, n: usize) -> CAnswer;
@@ -249,6 +268,8 @@ extern "C" {
     ) -> CAnswer;
     fn ctext_resource_write(s: *const u8, n: usize, out: *mut u8, o: usize) -> CAnswer;
     fn ctext_resource_read(s: *const u8, n: usize, out: *mut u8, o: usize) -> CAnswer;
+    fn ctext_set_row(set: u8) -> CRow;
+    fn ctext_set_of(form: u8, side: u8, final_octet: u8) -> u8;
 }
 
 /// The proved library, libctext.a.
@@ -394,6 +415,30 @@ impl Library for Proved {
         let answer = not_linked((way, s, n, out, o));
         answer
     }
+
+    fn set_row(&self, set: u8) -> Row {
+        #[cfg(feature = "sets")]
+        // Safety: nothing is lent.
+        let row = unsafe { ctext_set_row(set) };
+        #[cfg(not(feature = "sets"))]
+        let row: CRow = not_linked(set);
+        Row {
+            form: row.form,
+            last: row.final_octet,
+            gl: row.gl,
+            gr: row.gr,
+            octets: row.octets,
+        }
+    }
+
+    fn set_of(&self, form: u8, side: u8, last: u8) -> u8 {
+        #[cfg(feature = "sets")]
+        // Safety: nothing is lent.
+        let set = unsafe { ctext_set_of(form, side, last) };
+        #[cfg(not(feature = "sets"))]
+        let set = not_linked((form, side, last));
+        set
+    }
 }
 
 #[cfg(not(all(
@@ -404,7 +449,8 @@ impl Library for Proved {
     feature = "runs",
     feature = "listed",
     feature = "write",
-    feature = "resource"
+    feature = "resource",
+    feature = "sets"
 )))]
 fn not_linked<A, B>(_: A) -> B {
     panic!("this function of the library is not linked")

@@ -1,6 +1,6 @@
 //! A second implementation of the reader, whole and in steps, the runs and the
-//! writer of Compound Text, and of the form in resource files, made from the
-//! papers alone, and its comparison with the proved library.
+//! writer of Compound Text, of the form in resource files, and of the table of
+//! sets, made from the papers alone, and its comparison with the proved library.
 
 #![deny(unsafe_code)]
 
@@ -12,6 +12,7 @@ mod ffi;
 mod forms;
 mod listing;
 mod lists;
+mod naming;
 mod oracle;
 mod positions;
 mod random;
@@ -43,7 +44,7 @@ use session::Plan;
 
 const USAGE: &str = "\
 second compare [--long] [--minutes N] [--seed N]
-               [--only check,read,run,next,runs,listed,write,resource]
+               [--only check,read,run,next,runs,listed,write,resource,sets]
 second answer|units|runs|write   lines of hexadecimal octets on standard input
 second step                      lines `place gl gr directions marked texted handed octets`";
 
@@ -117,7 +118,7 @@ fn number(word: &str) -> Result<u64, String> {
 fn only(names: &str) -> Result<Functions, String> {
     let names: Vec<&str> = names.split(',').collect();
     let known = [
-        "check", "read", "run", "next", "runs", "listed", "write", "resource",
+        "check", "read", "run", "next", "runs", "listed", "write", "resource", "sets",
     ];
     if let Some(name) = names.iter().find(|name| !known.contains(name)) {
         return Err(format!("unknown function {name}"));
@@ -131,5 +132,6 @@ fn only(names: &str) -> Result<Functions, String> {
         listed: ffi::LINKED.listed && names.contains(&"listed"),
         write: ffi::LINKED.write && names.contains(&"write"),
         resource: ffi::LINKED.resource && names.contains(&"resource"),
+        sets: ffi::LINKED.sets && names.contains(&"sets"),
     })
 }

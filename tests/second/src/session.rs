@@ -60,6 +60,10 @@ struct Session<L: Library> {
     lists: u64,
     /// The strings for both ways of the resource form.
     resources: u64,
+    /// The numbers of sets whose rows were asked for.
+    rows: u64,
+    /// The forms, sides and octets whose sets were.
+    designations: u64,
     differences: u64,
     /// What has been printed, so that it is printed once.
     printed: Vec<String>,
@@ -80,6 +84,8 @@ impl<L: Library> Session<L> {
             readers: 0,
             lists: 0,
             resources: 0,
+            rows: 0,
+            designations: 0,
             differences: 0,
             printed: Vec::new(),
             started: Instant::now(),
@@ -88,6 +94,8 @@ impl<L: Library> Session<L> {
     }
 
     fn short_part(&mut self) {
+        self.all_rows();
+        self.all_designations();
         self.all_short_strings();
         self.random_strings(200_000);
         self.all_readers();
@@ -97,6 +105,31 @@ impl<L: Library> Session<L> {
         self.all_short_resources();
         self.random_resources(30_000);
         self.resource_limits();
+    }
+
+    /// The row of every number.
+    fn all_rows(&mut self) {
+        for set in 0..=255 {
+            if !self.goes_on() || !self.comparer.functions.sets {
+                return;
+            }
+            self.rows += 1;
+            let compared = self.comparer.set_row(set);
+            self.asked(compared);
+        }
+    }
+
+    /// The set of every form, side and octet, those that are none too.
+    fn all_designations(&mut self) {
+        for number in 0..1 << 24 {
+            if !self.goes_on() || !self.comparer.functions.sets {
+                return;
+            }
+            let [_, form, side, last] = u32::to_be_bytes(number);
+            self.designations += 1;
+            let compared = self.comparer.set_of(form, side, last);
+            self.asked(compared);
+        }
     }
 
     /// All strings of up to two octets, and longer ones of telling octets, alone
@@ -318,6 +351,14 @@ impl<L: Library> Session<L> {
         self.report();
     }
 
+    /// What the call says is the whole input, and there is nothing to shrink.
+    fn asked(&mut self, compared: Compared) {
+        if let Err(difference) = compared {
+            self.differ("the table of sets", &difference);
+        }
+        self.report();
+    }
+
     /// The difference found first is shown only if it does not come again.
     fn smallest_string(
         &self,
@@ -371,7 +412,8 @@ impl<L: Library> Session<L> {
     /// Progress on standard error, every few seconds.
     fn report(&mut self) {
         // The clock is asked rarely, since it takes as long as a short string.
-        let compared = self.strings + self.readers + self.lists + self.resources;
+        let strings = self.strings + self.readers + self.lists + self.resources;
+        let compared = strings + self.rows + self.designations;
         let asked = compared.is_multiple_of(64);
         if asked && self.reported.elapsed() >= BETWEEN_REPORTS {
             self.reported = Instant::now();
@@ -383,8 +425,15 @@ impl<L: Library> Session<L> {
     fn summary(&self) -> String {
         format!(
             "second: {} strings ({} stepped), {} readers made by hand, {} lists, \
-             {} resource strings compared, {} differences",
-            self.strings, self.stepped, self.readers, self.lists, self.resources, self.differences
+             {} resource strings, {} rows of sets, {} designations compared, {} differences",
+            self.strings,
+            self.stepped,
+            self.readers,
+            self.lists,
+            self.resources,
+            self.rows,
+            self.designations,
+            self.differences
         )
     }
 }
@@ -454,6 +503,7 @@ mod tests {
             listed: true,
             write: true,
             resource: true,
+            sets: true,
         };
         let plan = Plan {
             functions: all,
@@ -496,7 +546,10 @@ mod tests {
         assert_eq!(session.resources, 7 * 7 * 7);
         session.random_resources(200);
         session.resource_limits();
+        session.all_rows();
+        session.all_designations();
         assert_eq!(session.differences, 0);
+        assert_eq!((session.rows, session.designations), (256, 1 << 24));
         assert_eq!(session.strings, 12 * 12 * 12 + 2_000);
         assert_eq!(session.stepped, session.strings);
         assert_eq!(session.readers, 2_000);
@@ -616,6 +669,28 @@ mod tests {
         let (smallest, call) = found(Fault::WritesInput, s);
         assert_eq!(smallest.len(), 2);
         assert_eq!(call, "the string among its guards after all calls");
+    }
+
+    /// How often each fault in the table of sets shows, and first where.
+    #[test]
+    fn faults_of_sets_are_found() {
+        let found = |fault| {
+            let mut session = session(fault);
+            session.all_rows();
+            session.all_designations();
+            let first = session.printed[0].lines().next().map(str::to_string);
+            (session.differences, first.expect("a line"))
+        };
+        let (times, first) = found(Fault::EitherSide);
+        // Three sets of 94 and nine of 96 have one side.
+        assert_eq!(times, 12);
+        assert_eq!(first, "difference in ctext_set_of form 1, side 0, octet 49");
+        let (times, first) = found(Fault::SideIsFlag);
+        assert_eq!(times, ENOUGH);
+        assert_eq!(first, "difference in ctext_set_of form 1, side 2, octet 49");
+        let (times, first) = found(Fault::RowOfNone);
+        assert_eq!(times, ENOUGH);
+        assert_eq!(first, "difference in ctext_set_row of 15");
     }
 
     /// Each wrong rule shows in the strings after a prefix, and in random

@@ -56,6 +56,62 @@ pub const DESIGNATIONS: [Designation; 18] = [
     gr(&[0x1B, 0x24, 0x29, 0x43], 14),
 ];
 
+/// The number that stands for no set.
+pub const NO_SET: u8 = 15;
+
+/// A row of the paper's table, in the numbers of the header: the form (1 for 94,
+/// 2 for 96, 3 for 94 by 94), the final octet, whether the set may stand in GL and
+/// in GR, and the octets of a character. All 0 for no set.
+#[derive(Clone, Copy, PartialEq, Eq, Debug, Default)]
+pub struct Row {
+    pub form: u8,
+    pub last: u8,
+    pub gl: u8,
+    pub gr: u8,
+    pub octets: u8,
+}
+
+/// What stands before the final octet of a designation of each form, to GL (0)
+/// and to GR (1).
+const LEADS: [(u8, u8, &[u8]); 5] = [
+    (1, 0, &[0x1B, 0x28]),
+    (1, 1, &[0x1B, 0x29]),
+    (2, 1, &[0x1B, 0x2D]),
+    (3, 0, &[0x1B, 0x24, 0x28]),
+    (3, 1, &[0x1B, 0x24, 0x29]),
+];
+
+/// The octets of a designation by its form, side and final octet, where there is
+/// such a form for the side.
+fn spelling(form: u8, side: u8, last: u8) -> Option<Vec<u8>> {
+    let lead = LEADS.iter().find(|lead| (lead.0, lead.1) == (form, side));
+    lead.map(|(_, _, before)| [before, &[last][..]].concat())
+}
+
+/// The set that a designation names by its form, side and final octet.
+pub fn set_of(form: u8, side: u8, last: u8) -> u8 {
+    let octets = spelling(form, side, last);
+    let found = octets.and_then(|octets| spelled(&octets));
+    found.map_or(NO_SET, |designation| designation.set)
+}
+
+/// The row of a set, read off its designations.
+pub fn row(set: u8) -> Row {
+    let mut row = Row::default();
+    for designation in DESIGNATIONS.iter().filter(|d| d.set == set) {
+        let octets = designation.octets;
+        let lead = LEADS.iter().find(|lead| octets.starts_with(lead.2));
+        row.form = lead.expect("a designation has a form").0;
+        row.last = octets[octets.len() - 1];
+        row.octets = width(set) as u8;
+        match designation.side {
+            Side::Gl => row.gl = 1,
+            Side::Gr => row.gr = 1,
+        }
+    }
+    row
+}
+
 /// The designation spelled by exactly these octets.
 pub fn spelled(octets: &[u8]) -> Option<&'static Designation> {
     DESIGNATIONS.iter().find(|d| d.octets == octets)
@@ -148,31 +204,49 @@ mod tests {
         (14, 3, 0x43, true, true),
     ];
 
-    fn spelling(shape: u8, side: Side, last: u8) -> Vec<u8> {
-        match (shape, side) {
-            (1, Side::Gl) => vec![0x1B, 0x28, last],
-            (1, Side::Gr) => vec![0x1B, 0x29, last],
-            (2, _) => vec![0x1B, 0x2D, last],
-            (_, Side::Gl) => vec![0x1B, 0x24, 0x28, last],
-            (_, Side::Gr) => vec![0x1B, 0x24, 0x29, last],
-        }
-    }
-
     #[test]
     fn designations_are_those_of_the_table() {
         let mut count = 0;
         for (set, shape, last, in_gl, in_gr) in TABLE {
-            for (side, allowed) in [(Side::Gl, in_gl), (Side::Gr, in_gr)] {
+            for (side, number, allowed) in [(Side::Gl, 0, in_gl), (Side::Gr, 1, in_gr)] {
                 assert_eq!(may_stand(set, side), allowed, "set {set}");
                 if allowed {
-                    let octets = spelling(shape, side, last);
+                    let octets = spelling(shape, number, last).expect("a form of the side");
                     let found = spelled(&octets).expect("a designation of the table");
                     assert_eq!((found.side, found.set), (side, set));
+                    assert_eq!(set_of(shape, number, last), set);
                     count += 1;
                 }
             }
         }
         assert_eq!(count, DESIGNATIONS.len());
+    }
+
+    #[test]
+    fn rows_are_those_of_the_table() {
+        for (set, form, last, in_gl, in_gr) in TABLE {
+            let expected = Row {
+                form,
+                last,
+                gl: in_gl.into(),
+                gr: in_gr.into(),
+                octets: if form == 3 { 2 } else { 1 },
+            };
+            assert_eq!(row(set), expected, "set {set}");
+        }
+        assert!((NO_SET..=255).all(|set| row(set) == Row::default()));
+    }
+
+    #[test]
+    fn other_forms_sides_and_octets_name_no_set() {
+        assert_eq!(set_of(1, 1, 0x42), NO_SET);
+        assert_eq!(set_of(2, 0, 0x41), NO_SET);
+        assert_eq!(set_of(2, 1, 0x45), NO_SET);
+        assert_eq!(set_of(3, 0, 0xC1), NO_SET);
+        for number in (0..=255).filter(|number| ![1, 2, 3].contains(number)) {
+            assert_eq!(set_of(number, 0, 0x42), NO_SET);
+        }
+        assert!((2..=255).all(|side| set_of(3, side, 0x42) == NO_SET));
     }
 
     #[test]
