@@ -220,7 +220,8 @@ def page(corpora, forms):
         "same run (the median over the repetitions of the ratio in each). `check`, `read` (into a list) and `write` (checking the units, planning "
         "and writing) are the proved library's, with one list and one work room used again; `run` is the last run asked for by its number, `next` all "
         "units one by one, `next_run` all runs one after the other, `next_runs` all runs by a list of 64 words. The yardstick is "
-        "`bench/yardstick.c`, which answers the number and the place of a refusal alone. directed-segments has extended segments with a text within "
+        "`bench/yardstick.c`, which answers the number and the place of a refusal alone. sets has designations of all eighteen kinds in random order, "
+        "each with one character of its set; sets-alone has nothing but such designations. directed-segments has extended segments with a text within "
         "directions, and some without text there and between them. libX11's functions convert to and from UTF-8; where nothing stands, libX11 does "
         "not convert the corpus, or is not installed.",
         ratios(corpora, "yardstick"),
