@@ -1,6 +1,7 @@
 """Prints the tables of a run of the benchmark, and writes them with a plot: report.py ROOM DOCS
 
-ROOM holds what bench/run measured: table.tsv, forms.tsv, ladder.tsv, stack.tsv and code.txt.
+ROOM holds what bench/run measured: table.tsv, forms.tsv, ladder.tsv, stack.tsv and code.txt, and after-first.tsv and before-first.tsv where it was
+given an archive to compare with, which CTEXT_BEFORE_NAME may name.
 """
 import datetime
 import os
@@ -22,12 +23,16 @@ def rows(name):
     return [line.split("\t") for line in (ROOM / name).read_text().splitlines()]
 
 
+def corpus_name(path):
+    own = Path(path).parent == ROOM / "corpora"
+    return Path(path).stem + ("" if own else " (beside)")
+
+
 class Measured:
     """The figures of one corpus: of each function its time a string, and its ratios to others. Of resource files, the units are octets of the forms."""
 
     def __init__(self, path, strings, octets, units):
-        own = Path(path).parent == ROOM / "corpora"
-        self.name = Path(path).stem + ("" if own else " (beside)")
+        self.name = corpus_name(path)
         self.kind = Path(path).stem
         self.strings, self.octets, self.units = int(strings), int(octets), int(units)
         self.functions = {}
@@ -106,6 +111,33 @@ def targets(corpora, base):
         what = ", ".join(kinds) if kinds else "every corpus"
         lines.append([f"`{function}` to {to}: {what}", number(most, 1), number(worst), name, "yes" if worst <= most else "NO"])
     return table(["Ratio of", "At most", "Largest", "On", "Met"], lines)
+
+
+# ---- the landing before
+
+
+def ratios_to_before():
+    """For each corpus and function the ratios that the two programs measured, the lower first; nothing where there was no landing before to measure."""
+    found = defaultdict(lambda: defaultdict(list))
+    for name in ["after-first.tsv", "before-first.tsv"]:
+        for path, function, ratio in rows(name) if (ROOM / name).exists() else []:
+            found[corpus_name(path)][function] = sorted([*found[corpus_name(path)][function], float(ratio)])
+    return found
+
+
+def beside_before(found):
+    name = os.environ.get("CTEXT_BEFORE_NAME")
+    present = [f for f in FUNCTIONS if any(f in by_function for by_function in found.values())]
+    span = lambda values: " to ".join(dict.fromkeys(map(number, values)))
+    return [
+        "## Beside the landing before",
+        f"Each figure is the ratio of a function's time to that with the archive named by `CTEXT_BEFORE`{f' ({name})' if name else ''}: under 1 it has become "
+        "faster. Both archives are in one program, and in each repetition a function runs with one directly after the other; a ratio is the median of "
+        "those within a repetition, which is steadier than the ratio of the medians or of the least times. Where code stands moves tight loops: every "
+        "function of both begins at a multiple of 64 octets, and there are two programs, each archive being linked first in one. Where their ratios "
+        "differ, both stand. Nothing stands where an archive lacks the function, or where the archives answer differently.",
+        table(["Corpus", *present], [[corpus, *(span(by_function[f]) for f in present)] for corpus, by_function in found.items()]),
+    ]
 
 
 # ---- straight lines
@@ -231,6 +263,9 @@ def page(corpora, forms):
     if forms:
         parts += resource_files(forms)
     parts += ["## What is asked for", targets(corpora + forms, base)]
+    before = ratios_to_before()
+    if before:
+        parts += beside_before(before)
     if found:
         parts += [
             "## Straight lines",
