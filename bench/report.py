@@ -133,7 +133,7 @@ def beside_before(found):
         "## Beside the landing before",
         f"Each figure is the ratio of a function's time to that with the archive named by `CTEXT_BEFORE`{f' ({name})' if name else ''}: under 1 it has become "
         "faster. Both archives are in one program, and in each repetition a function runs with one directly after the other; a ratio is the median of "
-        "those within a repetition, which is steadier than the ratio of the medians or of the least times. Where code stands moves tight loops: every "
+        "those within a repetition, which is steadier than the ratio of the medians or of the least times. Where code stands moves tight loops: each "
         "function of both begins at a multiple of 64 octets, and there are two programs, each archive being linked first in one. Where their ratios "
         "differ, both stand. Nothing stands where an archive lacks the function, or where the archives answer differently.",
         table(["Corpus", *present], [[corpus, *(span(by_function[f]) for f in present)] for corpus, by_function in found.items()]),
@@ -246,7 +246,8 @@ def page(corpora, forms):
         "Written by `bench/run`, which measures anew; `bench/run` itself says what it needs.",
         f"- Date: {datetime.datetime.now(datetime.timezone.utc):%Y-%m-%d %H:%M} UTC, commit {said('git', '-C', str(DOCS), 'rev-parse', '--short', 'HEAD')}\n"
         f"- Machine: {machine()}; load at the end {load}\n"
-        f"- C compiler: {said('gcc', '--version').splitlines()[0]}, -O3 -march=x86-64-v2",
+        f"- C compiler: {said('gcc', '--version').splitlines()[0]}, -O3 -march=x86-64-v2; functions in C, and the archive as a whole, begin at "
+        "multiples of 64 octets",
         "## Times",
         "Each figure is a ratio: the processor time of a function on all strings of a corpus, to that of the yardstick on the same strings in the "
         "same run (the median over the repetitions of the ratio in each). `check`, `read` (into a list) and `write` (checking the units, planning "
