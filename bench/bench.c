@@ -4,58 +4,27 @@
 //   bench ladder FUNCTION CORPUS ..   for each length of the strings of the corpus: the time that the function takes for one
 //
 // Each repetition goes through all corpora and measures every function in turn, and each function directly after the yardstick: a ratio is
-// the median of the ratios within a repetition, so that what slows the whole machine down cancels out. One work room and one list are used
-// again for every string.
+// the median of the ratios within a repetition, so that what slows the whole machine down cancels out.
 #include <stdbool.h>
 #include <stdio.h>
 #include <stdlib.h>
 #include <string.h>
 
-#include "corpus.h"
-#include "library.h"
+#include "calls.h"
 #include "libx11.h"
-#include "times.h"
 #include "yardstick.h"
 
 #ifdef WITH_LIMIT
 #include "limit.h"
 #endif
 
-enum { REPETITIONS = 41 };
-
-static ctext_unit units[CTEXT_MOST_UNITS];
-static uint8_t work[WORK_ROOM], out[CTEXT_MOST_OCTETS];
-
-// ---- the functions, each on string number i of the corpus
-
-static struct corpus corpus;
-
-// What is prepared for each string before the times are taken: its units, how many runs it has, and its text in UTF-8.
-struct prepared {
-    ctext_unit *units;
-    size_t count, runs;
-    ctext_reader end; // the reader that has handed out the last unit
-    char *utf8;
-};
-
-static struct prepared *prepared;
+// ---- the functions beside those of calls.c, each on string number i of the corpus in hand
 
 static size_t run_yardstick(size_t i) { return yardstick(corpus.notes[i].octets, corpus.notes[i].length).place; }
 
 #ifdef WITH_LIMIT
 static size_t run_limit(size_t i) { return limit_table(corpus.notes[i].octets, corpus.notes[i].length).place; }
 #endif
-
-static size_t run_check(size_t i) { return ctext_check(corpus.notes[i].octets, corpus.notes[i].length).count; }
-
-static size_t run_read(size_t i) { return ctext_read(corpus.notes[i].octets, corpus.notes[i].length, units, CTEXT_MOST_UNITS).count; }
-
-static ctext_answer write_note(size_t i)
-{
-    return ctext_write(prepared[i].units, prepared[i].count, corpus.notes[i].octets, corpus.notes[i].length, work, sizeof work, out, sizeof out);
-}
-
-static size_t run_write(size_t i) { return write_note(i).count; }
 
 // A name of so many octets, which each unit of a list has: as many units as the string has octets, over a limit that is looked at after them.
 enum { SHARED_NAME = 255 };
@@ -72,67 +41,16 @@ static size_t run_write_shared(size_t i)
     return ctext_write(shared, corpus.notes[i].length, name, sizeof name, work, sizeof work, out, sizeof out).place;
 }
 
-// The last run, by its number: all that `ctext_run` does at most.
-static size_t run_run(size_t i)
-{
-    size_t last = prepared[i].runs ? prepared[i].runs - 1 : 0;
-    return ctext_run(corpus.notes[i].octets, corpus.notes[i].length, last).end;
-}
-
-// All units, one by one.
-static size_t run_next(size_t i)
-{
-    struct note n = corpus.notes[i];
-    ctext_step step = ctext_next(n.octets, n.length, (ctext_reader){.gr = CTEXT_SET_ISO8859_1_RIGHT});
-    while (step.given) step = ctext_next(n.octets, n.length, step.reader);
-    return step.reader.count;
-}
-
 // One call more, at the end.
 static size_t run_next_at_end(size_t i) { return ctext_next(corpus.notes[i].octets, corpus.notes[i].length, prepared[i].end).answer.place; }
-
-// All runs, one after the other.
-static size_t run_next_run(size_t i)
-{
-    struct note n = corpus.notes[i];
-    size_t runs = 0;
-    ctext_run_step step = ctext_next_run(n.octets, n.length, ctext_open_runs());
-    for (; step.run.answer.number == CTEXT_ACCEPTED; runs++) step = ctext_next_run(n.octets, n.length, step.reader);
-    return runs;
-}
-
-// All runs, by a list of so many words, used again for each call.
-enum { LISTED_RUNS = 64 };
-
-static size_t run_next_runs(size_t i)
-{
-    static uint64_t list[LISTED_RUNS];
-    struct note n = corpus.notes[i];
-    size_t runs = 0;
-    ctext_runs_step step = {.reader = ctext_open_runs()};
-    do {
-        step = ctext_next_runs(n.octets, n.length, step.reader, list, LISTED_RUNS);
-        runs += step.answer.count;
-    } while (step.answer.count > 0);
-    return runs;
-}
 
 static size_t run_x11_read(size_t i) { return x11_read(corpus.notes[i].octets, corpus.notes[i].length); }
 
 static size_t run_x11_write(size_t i) { return x11_write(prepared[i].utf8); }
 
-enum { YARDSTICK, LIMIT, CHECK, READ, WRITE, RUN, NEXT, NEXT_RUN, NEXT_RUNS, X11_READ, X11_WRITE, FUNCTIONS };
-
 static struct function functions[FUNCTIONS] = {
     [YARDSTICK] = {"yardstick", run_yardstick, 0},
     [LIMIT] = {"limit_table", NULL, 0},
-    [CHECK] = {"check", run_check, 0},
-    [READ] = {"read", run_read, 0},
-    [WRITE] = {"write", run_write, 0},
-    [RUN] = {"run", run_run, 0},
-    [NEXT] = {"next", run_next, 0},
-    [NEXT_RUN] = {"next_run", run_next_run, 0},
-    [NEXT_RUNS] = {"next_runs", run_next_runs, 0},
     [X11_READ] = {"libX11 read", run_x11_read, 0},
     [X11_WRITE] = {"libX11 write", run_x11_write, 0},
 };
@@ -149,10 +67,7 @@ static void prepare_read(const char *path, size_t i)
     struct note n = corpus.notes[i];
     ctext_answer a = ctext_read(n.octets, n.length, units, CTEXT_MOST_UNITS);
     require(a.number == 0 && a.count == ctext_check(n.octets, n.length).count, "read gives another answer than check", path, i);
-    prepared[i].count = a.count;
-    prepared[i].units = malloc((a.count + 1) * sizeof *units);
-    if (!prepared[i].units) abort();
-    memcpy(prepared[i].units, units, a.count * sizeof *units);
+    keep_units(i, a.count);
 }
 
 // How many runs the units of a string make: stretches of characters and spaces that follow each other on one side.
@@ -176,8 +91,8 @@ static void prepare_runs(const char *path, size_t i)
     size_t runs = prepared[i].runs = runs_of(n, prepared[i].units, prepared[i].count);
     require(ctext_run(n.octets, n.length, runs).answer.number == CTEXT_BAD_UNIT, "it has more runs", path, i);
     require(!runs || ctext_run(n.octets, n.length, runs - 1).answer.number == 0, "it has fewer runs", path, i);
-    require(!functions[NEXT_RUN].run || run_next_run(i) == runs, "next_run gives another number of runs", path, i);
-    require(!functions[NEXT_RUNS].run || run_next_runs(i) == runs, "next_runs gives another number of runs", path, i);
+    require(!functions[NEXT_RUN].run || functions[NEXT_RUN].run(i) == runs, "next_run gives another number of runs", path, i);
+    require(!functions[NEXT_RUNS].run || functions[NEXT_RUNS].run(i) == runs, "next_runs gives another number of runs", path, i);
 }
 
 static void prepare_next(const char *path, size_t i)
@@ -204,9 +119,7 @@ static void prepare_write(const char *path, size_t i)
 
 static void load(const char *path, bool with_x11)
 {
-    corpus = corpus_load(path);
-    prepared = calloc(corpus.count, sizeof *prepared);
-    if (!prepared) abort();
+    take(path);
     for (size_t i = 0; i < corpus.count; i++) {
         struct note n = corpus.notes[i];
         struct verdict v = yardstick(n.octets, n.length);
@@ -253,8 +166,9 @@ static void turn_to(const struct measured *m)
     memcpy(functions, m->functions, sizeof functions);
 }
 
-static void make_ready(struct measured *m, const char *path)
+static void make_ready(void *kept, const char *path)
 {
+    struct measured *m = kept;
     load(path, true);
     functions[X11_READ].run = x11_is_there() && x11_takes_all() ? run_x11_read : NULL;
     functions[X11_WRITE].run = functions[X11_READ].run ? run_x11_write : NULL;
@@ -266,8 +180,9 @@ static void make_ready(struct measured *m, const char *path)
     memcpy(m->functions, functions, sizeof functions);
 }
 
-static void repeat(struct measured *m, int r)
+static void repeat(void *kept, int r)
 {
+    struct measured *m = kept;
     turn_to(m);
     for (int k = 0; k < FUNCTIONS; k++) {
         if (!functions[k].run) continue;
@@ -282,8 +197,9 @@ static void repeat(struct measured *m, int r)
     }
 }
 
-static void print(struct measured *m)
+static void print(void *kept)
 {
+    struct measured *m = kept;
     turn_to(m);
     size_t count = 0;
     for (size_t i = 0; i < corpus.count; i++) count += prepared[i].count;
@@ -294,18 +210,7 @@ static void print(struct measured *m)
                    median(m->times[k].by_limit, REPETITIONS), median(m->times[k].by_check, REPETITIONS));
 }
 
-// Each repetition goes through all corpora, so that the repetitions of one are spread over the whole time: other work on the machine
-// makes it slower for seconds, and not all functions by as much.
-static void table(size_t count, char **paths)
-{
-    struct measured *all = calloc(count, sizeof *all);
-    if (!all) abort();
-    for (size_t i = 0; i < count; i++) make_ready(&all[i], paths[i]);
-    for (int r = 0; r < REPETITIONS; r++)
-        for (size_t i = 0; i < count; i++) repeat(&all[i], r);
-    for (size_t i = 0; i < count; i++) print(&all[i]);
-    free(all);
-}
+static const struct table table = {sizeof(struct measured), make_ready, repeat, print};
 
 // ---- the ladder
 
@@ -339,16 +244,10 @@ int main(int count, char **words)
 #ifdef WITH_LIMIT
     functions[LIMIT].run = run_limit;
 #endif
-    if (!ctext_check) functions[CHECK].run = NULL;
-    if (!ctext_check || !ctext_read) functions[READ].run = NULL;
-    if (!functions[READ].run || !ctext_write) functions[WRITE].run = NULL;
-    if (!functions[READ].run || !ctext_run) functions[RUN].run = NULL;
-    if (!functions[READ].run || !ctext_next) functions[NEXT].run = NULL;
+    library_calls(functions);
     if (!functions[WRITE].run || !functions[NEXT].run) others[0].run = others[1].run = NULL;
-    if (!functions[RUN].run || !ctext_open_runs || !ctext_next_run) functions[NEXT_RUN].run = NULL;
-    if (!functions[RUN].run || !ctext_open_runs || !ctext_next_runs) functions[NEXT_RUNS].run = NULL;
     if (wants_table) x11_open();
-    if (wants_table) table((size_t)count - 2, words + 2);
+    if (wants_table) fill_table(&table, (size_t)count - 2, words + 2);
     else
         for (int i = 3; i < count; i += 2) ladder(words[i - 1], words[i]);
     return 0;

@@ -165,19 +165,43 @@ static void katakana(struct string *s, size_t length)
     while (s->length < length) put(s, between(0xA1, 0xDF));
 }
 
+static void character(struct string *s, const char *designation)
+{
+    int top = is_left(designation) ? 0 : 0x80;
+    put(s, between(0x30, 0x5F) + top);
+    if (strchr(designation, '$')) put(s, between(0x21, 0x7E) + top);
+}
+
 // A designation, and one to three characters of its set.
 static void designations(struct string *s, size_t length)
 {
-    static const char *const all[] = {"\x1B(B", "\x1B(J", "\x1B)I", "\x1B-A", "\x1B-B", "\x1B-F", "\x1B-L", "\x1B$(A", "\x1B$(B", "\x1B$(C", "\x1B$)C"};
+    static const char *const some[] = {"\x1B(B", "\x1B(J", "\x1B)I", "\x1B-A", "\x1B-B", "\x1B-F", "\x1B-L", "\x1B$(A", "\x1B$(B", "\x1B$(C", "\x1B$)C"};
     while (s->length + 16 < length) {
-        const char *d = ANY(all);
-        int top = is_left(d) ? 0 : 0x80;
+        const char *d = ANY(some);
         put_all(s, d);
-        for (int n = between(1, 3); n > 0; n--) {
-            put(s, between(0x30, 0x5F) + top);
-            if (strchr(d, '$')) put(s, between(0x21, 0x7E) + top);
-        }
+        for (int n = between(1, 3); n > 0; n--) character(s, d);
     }
+    while (s->length < length) put(s, 0x0A);
+}
+
+// Designations of all eighteen kinds, each as often as any other.
+static const char *const every_designation[] = {"\x1B(B",  "\x1B(J",  "\x1B)I",  "\x1B-A",  "\x1B-B",  "\x1B-C",  "\x1B-D",  "\x1B-F",  "\x1B-G",
+                                                "\x1B-H",  "\x1B-L",  "\x1B-M",  "\x1B$(A", "\x1B$(B", "\x1B$(C", "\x1B$)A", "\x1B$)B", "\x1B$)C"};
+
+// Each with one character of its set.
+static void sets(struct string *s, size_t length)
+{
+    while (s->length + 6 <= length) {
+        const char *d = ANY(every_designation);
+        put_all(s, d);
+        character(s, d);
+    }
+    while (s->length < length) put(s, 0x0A);
+}
+
+static void sets_alone(struct string *s, size_t length)
+{
+    while (s->length + 4 <= length) put_all(s, ANY(every_designation));
     while (s->length < length) put(s, 0x0A);
 }
 
@@ -443,5 +467,7 @@ int main(int count, char **words)
     // after all others, which stay what they were for the same seed
     strings("directed-segments", 1, LONGEST, directed_segments);
     ladder("directed-segments", directed_segments);
+    strings("sets", 1, LONGEST, sets);
+    strings("sets-alone", 1, LONGEST, sets_alone);
     return 0;
 }

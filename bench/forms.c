@@ -15,8 +15,6 @@
 #include "plain_form.h"
 #include "times.h"
 
-enum { REPETITIONS = 41 };
-
 static uint8_t form[CTEXT_MOST_FORM], plain[CTEXT_MOST_OCTETS];
 
 // A corpus, and the form of each of its strings.
@@ -94,8 +92,9 @@ struct measured {
     double own[FUNCTIONS][REPETITIONS], by_plain[FUNCTIONS][REPETITIONS];
 };
 
-static void make_ready(struct measured *m, const char *path)
+static void make_ready(void *kept, const char *path)
 {
+    struct measured *m = kept;
     load(path);
     m->path = path;
     m->strings = strings;
@@ -103,8 +102,9 @@ static void make_ready(struct measured *m, const char *path)
     for (int k = 0; k < FUNCTIONS; k++) choose_turns(&m->functions[k], 0, strings.corpus.count);
 }
 
-static void repeat(struct measured *m, int r)
+static void repeat(void *kept, int r)
 {
+    struct measured *m = kept;
     strings = m->strings;
     for (int k = 0; k < FUNCTIONS; k++) {
         double base = slice(&m->functions[k - k % 2], 0, strings.corpus.count);
@@ -113,24 +113,16 @@ static void repeat(struct measured *m, int r)
     }
 }
 
-static void print(struct measured *m)
+static void print(void *kept)
 {
+    struct measured *m = kept;
     const struct corpus *c = &m->strings.corpus;
     for (int k = 0; k < FUNCTIONS; k++)
         printf("%s\t%s\t%zu\t%zu\t%zu\t%.1f\t%.3f\n", m->path, m->functions[k].name, c->count, c->octets, m->strings.octets,
                median(m->own[k], REPETITIONS) / (double)c->count, median(m->by_plain[k], REPETITIONS));
 }
 
-static void table(size_t count, char **paths)
-{
-    struct measured *all = calloc(count, sizeof *all);
-    if (!all) abort();
-    for (size_t i = 0; i < count; i++) make_ready(&all[i], paths[i]);
-    for (int r = 0; r < REPETITIONS; r++)
-        for (size_t i = 0; i < count; i++) repeat(&all[i], r);
-    for (size_t i = 0; i < count; i++) print(&all[i]);
-    free(all);
-}
+static const struct table table = {sizeof(struct measured), make_ready, repeat, print};
 
 // ---- the ladder
 
@@ -151,7 +143,7 @@ int main(int count, char **words)
         return 2;
     }
     if (!ctext_resource_write || !ctext_resource_read) return 0;
-    if (wants_table) table((size_t)count - 2, words + 2);
+    if (wants_table) fill_table(&table, (size_t)count - 2, words + 2);
     else
         for (int i = 3; i < count; i += 2) ladder(words[i - 1], words[i]);
     return 0;

@@ -1,6 +1,7 @@
 """Prints the tables of a run of the benchmark, and writes them with a plot: report.py ROOM DOCS
 
-ROOM holds what bench/run measured: table.tsv, forms.tsv, ladder.tsv, stack.tsv and code.txt.
+ROOM holds what bench/run measured: table.tsv, forms.tsv, ladder.tsv, stack.tsv and code.txt, and after-first.tsv and before-first.tsv where it was
+given an archive to compare with, which CTEXT_BEFORE_NAME may name.
 """
 import datetime
 import os
@@ -22,12 +23,16 @@ def rows(name):
     return [line.split("\t") for line in (ROOM / name).read_text().splitlines()]
 
 
+def corpus_name(path):
+    own = Path(path).parent == ROOM / "corpora"
+    return Path(path).stem + ("" if own else " (beside)")
+
+
 class Measured:
     """The figures of one corpus: of each function its time a string, and its ratios to others. Of resource files, the units are octets of the forms."""
 
     def __init__(self, path, strings, octets, units):
-        own = Path(path).parent == ROOM / "corpora"
-        self.name = Path(path).stem + ("" if own else " (beside)")
+        self.name = corpus_name(path)
         self.kind = Path(path).stem
         self.strings, self.octets, self.units = int(strings), int(octets), int(units)
         self.functions = {}
@@ -106,6 +111,33 @@ def targets(corpora, base):
         what = ", ".join(kinds) if kinds else "every corpus"
         lines.append([f"`{function}` to {to}: {what}", number(most, 1), number(worst), name, "yes" if worst <= most else "NO"])
     return table(["Ratio of", "At most", "Largest", "On", "Met"], lines)
+
+
+# ---- the landing before
+
+
+def ratios_to_before():
+    """For each corpus and function the ratios that the two programs measured, the lower first; nothing where there was no landing before to measure."""
+    found = defaultdict(lambda: defaultdict(list))
+    for name in ["after-first.tsv", "before-first.tsv"]:
+        for path, function, ratio in rows(name) if (ROOM / name).exists() else []:
+            found[corpus_name(path)][function] = sorted([*found[corpus_name(path)][function], float(ratio)])
+    return found
+
+
+def beside_before(found):
+    name = os.environ.get("CTEXT_BEFORE_NAME")
+    present = [f for f in FUNCTIONS if any(f in by_function for by_function in found.values())]
+    span = lambda values: " to ".join(dict.fromkeys(map(number, values)))
+    return [
+        "## Beside the landing before",
+        f"Each figure is the ratio of a function's time to that with the archive named by `CTEXT_BEFORE`{f' ({name})' if name else ''}: under 1 it has become "
+        "faster. Both archives are in one program, and in each repetition a function runs with one directly after the other; a ratio is the median of "
+        "those within a repetition, which is steadier than the ratio of the medians or of the least times. Where code stands moves tight loops: each "
+        "function of both begins at a multiple of 64 octets, and there are two programs, each archive being linked first in one. Where their ratios "
+        "differ, both stand. Nothing stands where an archive lacks the function, or where the archives answer differently.",
+        table(["Corpus", *present], [[corpus, *(span(by_function[f]) for f in present)] for corpus, by_function in found.items()]),
+    ]
 
 
 # ---- straight lines
@@ -214,13 +246,15 @@ def page(corpora, forms):
         "Written by `bench/run`, which measures anew; `bench/run` itself says what it needs.",
         f"- Date: {datetime.datetime.now(datetime.timezone.utc):%Y-%m-%d %H:%M} UTC, commit {said('git', '-C', str(DOCS), 'rev-parse', '--short', 'HEAD')}\n"
         f"- Machine: {machine()}; load at the end {load}\n"
-        f"- C compiler: {said('gcc', '--version').splitlines()[0]}, -O3 -march=x86-64-v2",
+        f"- C compiler: {said('gcc', '--version').splitlines()[0]}, -O3 -march=x86-64-v2; functions in C, and the archive as a whole, begin at "
+        "multiples of 64 octets",
         "## Times",
         "Each figure is a ratio: the processor time of a function on all strings of a corpus, to that of the yardstick on the same strings in the "
         "same run (the median over the repetitions of the ratio in each). `check`, `read` (into a list) and `write` (checking the units, planning "
         "and writing) are the proved library's, with one list and one work room used again; `run` is the last run asked for by its number, `next` all "
         "units one by one, `next_run` all runs one after the other, `next_runs` all runs by a list of 64 words. The yardstick is "
-        "`bench/yardstick.c`, which answers the number and the place of a refusal alone. directed-segments has extended segments with a text within "
+        "`bench/yardstick.c`, which answers the number and the place of a refusal alone. sets has designations of all eighteen kinds in random order, "
+        "each with one character of its set; sets-alone has nothing but such designations. directed-segments has extended segments with a text within "
         "directions, and some without text there and between them. libX11's functions convert to and from UTF-8; where nothing stands, libX11 does "
         "not convert the corpus, or is not installed.",
         ratios(corpora, "yardstick"),
@@ -230,6 +264,9 @@ def page(corpora, forms):
     if forms:
         parts += resource_files(forms)
     parts += ["## What is asked for", targets(corpora + forms, base)]
+    before = ratios_to_before()
+    if before:
+        parts += beside_before(before)
     if found:
         parts += [
             "## Straight lines",

@@ -55,6 +55,19 @@ double median(double *values, size_t count)
     return count % 2 ? values[count / 2] : (values[count / 2 - 1] + values[count / 2]) / 2;
 }
 
+// ---- the table
+
+void fill_table(const struct table *t, size_t count, char **paths)
+{
+    char *all = calloc(count, t->size);
+    if (!all) abort();
+    for (size_t i = 0; i < count; i++) t->make_ready(all + i * t->size, paths[i]);
+    for (int r = 0; r < REPETITIONS; r++)
+        for (size_t i = 0; i < count; i++) t->repeat(all + i * t->size, r);
+    for (size_t i = 0; i < count; i++) t->print(all + i * t->size);
+    free(all);
+}
+
 // ---- the ladder
 
 // Strings of one length, which stand together in the corpus, are a step of the ladder.

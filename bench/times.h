@@ -25,6 +25,20 @@ void choose_turns(struct function *f, size_t first, size_t last);
 // Sorts the values.
 double median(double *values, size_t count);
 
+enum { REPETITIONS = 41 };
+
+// A table: of each corpus something is kept, which is made ready, measured in each repetition, and printed.
+struct table {
+    size_t size;
+    void (*make_ready)(void *kept, const char *path);
+    void (*repeat)(void *kept, int r);
+    void (*print)(void *kept);
+};
+
+// Each repetition goes through all corpora, so that the repetitions of one are spread over the whole time: other work on the machine
+// makes it slower for seconds, and not all functions by as much.
+void fill_table(const struct table *t, size_t count, char **paths);
+
 // Prints for each length of the strings of the corpus, which stand together: the path, the function, the length, the units and the time of a string.
 void climb(struct function f, const struct corpus *c, double (*units_of)(size_t i), const char *path);
 
