@@ -1,19 +1,19 @@
--- The lookup of a designation's set is direct (`lookup-direct`), and it is the search through the table for every form, side and octet
+-- What the code computes instead of reading the table. The lookup of a designation's set is direct (`lookup-direct`), and it is the search through the table for every form, side and octet
 -- (`found-is`). Shown by one test of all 315 pairs of a form and a final octet, which antt computes; what is no such pair finds nothing either
 -- way: the search by the range of the table's final octets and by its forms, the lookup by its own tests and its word of fifteens.
 use Prim.Native.Nat.{ℕ, _+_, _-_, _*_, _/_, _%_, _^_, _<_, _≤_}
 use native.Mathlib.Omega.{arith}
 use lib.Dec.{eqb, ltb}
-use borrow.Author.Tests.{eqb-true, eqb-false, ltb-true, ltb-false, lt-ltb, le-ltb, ne-eqb}
+use borrow.Author.Tests.{eqb-true, eqb-false, ltb-true, ltb-false, lt-ltb, le-ltb, le-leb}
 use mathlib.Core.Path.{_≡_, refl, sym, ap, _∙_}
 use mathlib.Core.Bool.{Bool, true, false, _&&_}
 use Rattle.base.specs.Choice.{pick}
 use Rattle.base.proofs.Bools.{and-left, and-right, test, upTo, up-to, up-to-both}
-use Rattle.charset.specs.Charsets.{mayUse, fitsOf, find, setOf}
-use Rattle.charset.specs.Finals.{namedBy, foundOf}
+use Rattle.charset.specs.Charsets.{rowOf, mayUse, formOf, fitsOf, find, setOf}
+use Rattle.charset.specs.Finals.{namedBy, finalBy, formBy, foundOf}
 use Rattle.charset.specs.Pairs.{formSide, nthForm, atPair, named, Direct}
 use Rattle.charset.specs.declared.Side.{Side, the-variants.GL, the-variants.GR}
-use Rattle.charset.proofs.Laws.{final-range, set-most, none-left, none-right}
+use Rattle.charset.proofs.Laws.{row-past, final-range, set-most, by-rows, none-left, none-right}
 
 -- ---- the test
 
@@ -120,3 +120,15 @@ lookup-direct =
     none : (f : ℕ) (d : Side) (x : ℕ) → ((i : ℕ) → i < 5 → nthForm i ≡ formSide f d → ⊥) → Sort f d → foundOf f d x ≡ 15
     none f d x n (one i h e) = absurd (n i h e)
     none f d x n (other s w) = found-none f d x w
+
+-- ---- the form and the final octet of a set, each by one test of the rows
+
+pub form-rule : (c : ℕ) → formBy c ≡ formOf c
+unfolding formBy formOf pick
+form-rule c =
+    eqb-true _ _ (by-rows (λ n. eqb (formBy n) (formOf n)) refl
+    (λ n h. rw (row-past n h, le-ltb n 3 (omega arith), le-ltb n 12 (omega arith), le-ltb n 15 h)) c)
+
+pub final-rule : (c : ℕ) → finalBy c ≡ rowOf c .last
+unfolding finalBy pick
+final-rule c = eqb-true _ _ (by-rows (λ n. eqb (finalBy n) (rowOf n .last)) refl (λ n h. rw (row-past n h, le-leb 15 n h)) c)

@@ -1,4 +1,4 @@
-// The sets that the final octets of designations name.
+// The sets that the final octets of designations name, and the final octets of sets.
 ghost use mathlib.Core.Path.{_≡_};
 ghost use Rattle.charset.specs.Finals.{namedBy};
 use crate::FORM_94;
@@ -27,6 +27,9 @@ const EITHER_94X94: u64 = 0xFFFF_FFFF_FFFF_EDCF;
 
 // There is no such form.
 const NO_FORM: u64 = 0xFFFF_FFFF_FFFF_FFFF;
+
+// The final octets of the sets, less 40: that of set 0 in the lowest four binary digits. The table of sets says the same (`final-rule`).
+pub const OF_SETS: u64 = 0x0321_DC87_6432_1A92;
 
 // The sets that the final octets of a form and side name.
 pub fn named_by(form: u8, side: Side) -> u64

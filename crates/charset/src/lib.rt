@@ -24,12 +24,21 @@ pub const NO_SET: u8 = 15;
 // The first of the sets of two octets, which are the last of the table.
 pub const FIRST_DOUBLE: u8 = 12;
 
-// The form of a set, 0 where there is no such set.
+// The form of a set, 0 where there is no such set. By comparisons, since the text of a string is told by them; that they say what the table
+// says is one test of its rows (`form-rule`).
 pub fn form_of(set: u8) -> u8
     ensures { λ r. ⌜ r ≡ formOf set ⌝ }
 {
-    let row = approved::row_of(set);
-    row.0
+    if set < 3 {
+        return FORM_94;
+    }
+    if set < FIRST_DOUBLE {
+        return FORM_96;
+    }
+    if set < NO_SET {
+        return FORM_94X94;
+    }
+    0
 }
 
 // Whether a set may stand on a side.
@@ -57,12 +66,14 @@ pub fn set_of(form: u8, side: Side, last: u8) -> u8
     ((sets >> (4 * (last - finals::FIRST))) % 16) as u8
 }
 
-// The final octet of a set's designations, 0 where there is no such set.
+// The final octet of a set's designations, 0 where there is no such set: 4, and the set's four binary digits in a word.
 pub fn final_of(set: u8) -> u8
     ensures { λ r. ⌜ r ≡ rowOf set .last ⌝ }
 {
-    let row = approved::row_of(set);
-    row.1
+    if NO_SET <= set {
+        return 0;
+    }
+    (0x40 + (finals::OF_SETS >> (4 * set)) % 16) as u8
 }
 
 // The octets of a set's characters, 0 where there is no such set.

@@ -1,9 +1,13 @@
--- `charset::form_of` meets its contract: the form stands in the set's row.
-use native.Mathlib.Omega.{arith}
-use Rattle.charset.specs.Charsets.{formOf, charsetOf}
+-- `charset::form_of` meets its contract: its comparisons are `formBy`, which is the table's.
+use Rattle.base.proofs.Ladder.{ladder, after}
+use Rattle.charset.specs.Finals.{formBy}
+use Rattle.charset.proofs.Lookup.{form-rule}
 use Rattle.charset.proofs.form_of.Statement.{statement}
 use Rattle.charset.proofs.form_of.Tie as tie
 
 pub form-of-spec : {M : Type 1} → statement M
-unfolding formOf charsetOf
-form-of-spec = tie.close (tie.spec (search arith) (λ c. rw (c .row-of .ensures)))
+unfolding formBy
+form-of-spec =
+    tie.close
+    (tie.spec (λ c. after (form-rule _) (search ladder)) (λ c. after (form-rule _) (search ladder)) (λ c. after (form-rule _) (search ladder))
+    (λ c. after (form-rule _) (search ladder)))
