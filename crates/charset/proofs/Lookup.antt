@@ -1,16 +1,17 @@
--- What the code computes instead of reading the table. The lookup of a designation's set is direct (`lookup-direct`), and it is the search through the table for every form, side and octet
--- (`found-is`). Shown by one test of all 315 pairs of a form and a final octet, which antt computes; what is no such pair finds nothing either
--- way: the search by the range of the table's final octets and by its forms, the lookup by its own tests and its word of fifteens.
+-- What the code tells without reading the table. The lookup of a designation's set is direct (`lookup-direct`), and it is the search through the
+-- table for every form, side and octet (`found-is`). Shown by one test of all 315 pairs of a form and a final octet, which antt computes; what is
+-- no such pair finds nothing either way: the search by the range of the table's final octets and by its forms, the lookup since it asks for none.
+-- The form and the final octet of a set are those of its row (`form-rule`, `final-rule`), each by one test of the fifteen rows.
 use Prim.Native.Nat.{ℕ, _+_, _-_, _*_, _/_, _%_, _^_, _<_, _≤_}
 use native.Mathlib.Omega.{arith}
-use lib.Dec.{eqb, ltb}
-use borrow.Author.Tests.{eqb-true, eqb-false, ltb-true, ltb-false, lt-ltb, le-ltb, le-leb}
+use lib.Dec.{eqb, leb, ltb}
+use borrow.Author.Tests.{eqb-true, eqb-false, leb-true, ltb-true, ltb-false, lt-ltb, le-ltb, le-leb, ne-eqb}
 use mathlib.Core.Path.{_≡_, refl, sym, ap, _∙_}
 use mathlib.Core.Bool.{Bool, true, false, _&&_}
 use Rattle.base.specs.Choice.{pick}
 use Rattle.base.proofs.Bools.{and-left, and-right, test, upTo, up-to, up-to-both}
 use Rattle.charset.specs.Charsets.{rowOf, mayUse, formOf, fitsOf, find, setOf}
-use Rattle.charset.specs.Finals.{namedBy, finalBy, formBy, foundOf}
+use Rattle.charset.specs.Finals.{afterGL94, afterGR94, afterGR96, after94x94, finalBy, formBy, foundOf}
 use Rattle.charset.specs.Pairs.{formSide, nthForm, atPair, named, Direct}
 use Rattle.charset.specs.declared.Side.{Side, the-variants.GL, the-variants.GR}
 use Rattle.charset.proofs.Laws.{row-past, final-range, set-most, by-rows, none-left, none-right}
@@ -24,7 +25,7 @@ counts : Bool
 counts = eqb (named foundOf) 18
 
 all-pairs : (upTo 5 (λ i. upTo 63 (agrees i)) && counts) ≡ true
-unfolding agrees counts foundOf namedBy setOf find fitsOf mayUse pick
+unfolding agrees counts foundOf afterGL94 afterGR94 afterGR96 after94x94 setOf find fitsOf mayUse pick
 all-pairs = refl
 
 at-pair : (i k : ℕ) → i < 5 → k < 63 → atPair foundOf i k ≡ atPair setOf i k
@@ -48,47 +49,61 @@ search-below f d x l = none-where f d x (λ h. omega (arith, final-range f d x h
 search-above : (f : ℕ) (d : Side) (x : ℕ) → 0x7E < x → setOf f d x ≡ 15
 search-above f d x l = none-where f d x (λ h. omega (arith, final-range f d x h .1))
 
+-- the lookup finds nothing for an octet that is none of 41 to 4D
+abbrev NoFinal : ℕ → Type 0
+NoFinal x = (k : ℕ) → (leb 0x41 k && leb k 0x4D) ≡ true → eqb x k ≡ false
+
+same : (b : Bool) (n : ℕ) → pick b n n ≡ n
+unfolding pick
+same true n = refl
+same false n = refl
+
+found-none : (f : ℕ) (d : Side) (x : ℕ) → NoFinal x → foundOf f d x ≡ 15
+unfolding foundOf afterGL94 afterGR94 afterGR96 after94x94 pick
+found-none f GL x n = rw (n 0x41 refl, n 0x42 refl, n 0x43 refl, n 0x4A refl, same (eqb f 3) 15) (same (eqb f 1) 15)
+found-none f GR x n =
+    rw (
+      n 0x41 refl,
+      n 0x42 refl,
+      n 0x43 refl,
+      n 0x44 refl,
+      n 0x46 refl,
+      n 0x47 refl,
+      n 0x48 refl,
+      n 0x49 refl,
+      n 0x4C refl,
+      n 0x4D refl,
+      same (eqb f 3) 15,
+      same (eqb f 2) 15,
+    ) (same (eqb f 1) 15)
+
 found-below : (f : ℕ) (d : Side) (x : ℕ) → x < 0x40 → foundOf f d x ≡ 15
-unfolding foundOf pick
-found-below f d x l = rw (lt-ltb x 0x40 l)
+found-below f d x l = found-none f d x (λ k e. ne-eqb x k (λ q. omega (arith, leb-true 0x41 k (and-left _ _ e))))
 
 found-above : (f : ℕ) (d : Side) (x : ℕ) → 0x7E < x → foundOf f d x ≡ 15
-unfolding foundOf pick
-found-above f d x l = rw (le-ltb x 0x40 (omega arith), lt-ltb 0x4F x (omega arith))
+found-above f d x l = found-none f d x (λ k e. ne-eqb x k (λ q. omega (arith, leb-true k 0x4D (and-right (leb 0x41 k) _ e))))
 
 -- ---- forms
 
-abbrev fifteens : ℕ
-fifteens = 0xFFFFFFFFFFFFFFFF
-
--- a form and side are one of the five, or there is no such form: then the search finds nothing, and the lookup's word is of fifteens
+-- a form and side are one of the five, or there is no such form, and nothing is found either way
 data Sort (f : ℕ) (d : Side) : Type 0 where
   one : (i : ℕ) → i < 5 → nthForm i ≡ formSide f d → Sort f d
-  other : ((x : ℕ) → 15 ≡ setOf f d x) → namedBy f d ≡ fifteens → Sort f d
+  other : ((x : ℕ) → 15 ≡ setOf f d x) → ((x : ℕ) → foundOf f d x ≡ 15) → Sort f d
 
 form-by : (d : Side) (f k : ℕ) → eqb f k ≡ true → formSide k d ≡ formSide f d
 form-by d f k e = ap (λ y. formSide y d) (sym (eqb-true f k e))
 
 sort : (f : ℕ) (d : Side) → Sort f d
-unfolding namedBy pick
+unfolding foundOf pick
 sort f GL =
     test (eqb f 1) (λ e. one 0 (omega arith) (form-by GL f 1 e))
     (λ a. test (eqb f 3) (λ e. one 3 (omega arith) (form-by GL f 3 e))
-    (λ b. other (λ x. none-left f x (eqb-false f 1 a) (eqb-false f 3 b)) (rw (a, b))))
+    (λ b. other (λ x. none-left f x (eqb-false f 1 a) (eqb-false f 3 b)) (λ x. rw (a, b))))
 sort f GR =
     test (eqb f 1) (λ e. one 1 (omega arith) (form-by GR f 1 e))
     (λ a. test (eqb f 2) (λ e. one 2 (omega arith) (form-by GR f 2 e))
     (λ b. test (eqb f 3) (λ e. one 4 (omega arith) (form-by GR f 3 e))
-    (λ c. other (λ x. none-right f x (eqb-false f 1 a) (eqb-false f 2 b) (eqb-false f 3 c)) (rw (a, b, c)))))
-
--- a word of fifteens has a fifteen at each final octet
-found-none : (f : ℕ) (d : Side) (x : ℕ) → namedBy f d ≡ fifteens → foundOf f d x ≡ 15
-unfolding foundOf pick
-found-none f d x e =
-    test (ltb x 0x40) (λ a. rw a)
-    (λ a. test (ltb 0x4F x) (λ b. rw (a, b))
-    (λ b. rw (a, b, e)
-    (eqb-true _ _ (up-to 16 (λ k. eqb (fifteens / 2 ^ (4 * k) % 16) 15) refl (x - 0x40) (omega (arith, ltb-false x 0x40 a, ltb-false 0x4F x b))))))
+    (λ c. other (λ x. none-right f x (eqb-false f 1 a) (eqb-false f 2 b) (eqb-false f 3 c)) (λ x. rw (a, b, c)))))
 
 -- a form of the five
 found-by : (i : ℕ) → i < 5 → (x : ℕ) → foundOf (nthForm i .form) (nthForm i .side) x ≡ setOf (nthForm i .form) (nthForm i .side) x
@@ -105,7 +120,7 @@ found-is f d x = go (sort f d)
   where
     go : Sort f d → foundOf f d x ≡ setOf f d x
     go (one i h e) = rw e at (found-by i h x)
-    go (other n w) = found-none f d x w ∙ n x
+    go (other n w) = w x ∙ n x
 
 pub lookup-direct : Direct foundOf
 lookup-direct =
@@ -119,7 +134,7 @@ lookup-direct =
   where
     none : (f : ℕ) (d : Side) (x : ℕ) → ((i : ℕ) → i < 5 → nthForm i ≡ formSide f d → ⊥) → Sort f d → foundOf f d x ≡ 15
     none f d x n (one i h e) = absurd (n i h e)
-    none f d x n (other s w) = found-none f d x w
+    none f d x n (other s w) = w x
 
 -- ---- the form and the final octet of a set, each by one test of the rows
 

@@ -1,17 +1,35 @@
--- The sets of designations by their final octets, as the code keeps them: for each form a word of sixteen numbers; and the final octet and the
--- form of a set. They serve the code alone, and are proved to be what the table says (charset/proofs/Lookup), so they have not to be believed.
-use Prim.Native.Nat.{ℕ, _+_, _-_, _*_, _/_, _%_, _^_}
+-- The sets of designations by their final octets, and the form and the final octet of a set, as the code tells them. They serve the code alone, and
+-- are proved to be what the table says (charset/proofs/Lookup), so they have not to be believed.
+use Prim.Native.Nat.{ℕ, _+_, _*_, _/_, _%_, _^_}
 use lib.Dec.{eqb, leb, ltb}
 use Rattle.base.specs.Choice.{pick}
 use Rattle.charset.specs.Charsets.{form-94, form-96, form-94x94, no-set, first-double}
 use Rattle.charset.specs.declared.Side.{Side, the-variants.GL, the-variants.GR}
 
--- the sets of a form and side by their final octets 40 to 4F, four binary digits for each, that of 40 lowest
-unfoldable pub namedBy : ℕ → Side → ℕ
-namedBy f GL = pick (eqb f form-94) 0xFFFFF2FFFFFFF0FF (pick (eqb f form-94x94) 0xFFFFFFFFFFFFEDCF 0xFFFFFFFFFFFFFFFF)
-namedBy f GR =
-    pick (eqb f form-94) 0xFFFFFF1FFFFFFFFF
-    (pick (eqb f form-96) 0xFFBAFFF987F6543F (pick (eqb f form-94x94) 0xFFFFFFFFFFFFEDCF 0xFFFFFFFFFFFFFFFF))
+-- the sets that final octets name after 1B 28, after 1B 29, after 1B 2D, and after 1B 24 28 and 1B 24 29
+
+unfoldable pub afterGL94 : ℕ → ℕ
+afterGL94 x = pick (eqb x 0x42) 0 (pick (eqb x 0x4A) 2 no-set)
+
+unfoldable pub afterGR94 : ℕ → ℕ
+afterGR94 x = pick (eqb x 0x49) 1 no-set
+
+unfoldable pub afterGR96 : ℕ → ℕ
+afterGR96 x =
+    pick (eqb x 0x41) 3
+    (pick (eqb x 0x42) 4
+    (pick (eqb x 0x43) 5
+    (pick (eqb x 0x44) 6
+    (pick (eqb x 0x46) 7 (pick (eqb x 0x47) 8 (pick (eqb x 0x48) 9 (pick (eqb x 0x4C) 10 (pick (eqb x 0x4D) 11 no-set))))))))
+
+unfoldable pub after94x94 : ℕ → ℕ
+after94x94 x = pick (eqb x 0x41) 12 (pick (eqb x 0x42) 13 (pick (eqb x 0x43) 14 no-set))
+
+-- the set of a form, side and final octet
+unfoldable pub foundOf : ℕ → Side → ℕ → ℕ
+foundOf f GL x = pick (eqb f form-94) (afterGL94 x) (pick (eqb f form-94x94) (after94x94 x) no-set)
+foundOf f GR x =
+    pick (eqb f form-94) (afterGR94 x) (pick (eqb f form-96) (afterGR96 x) (pick (eqb f form-94x94) (after94x94 x) no-set))
 
 -- the final octet of a set, by four binary digits of a word
 unfoldable pub finalBy : ℕ → ℕ
@@ -20,7 +38,3 @@ finalBy c = pick (leb no-set c) 0 (0x40 + 0x321DC8764321A92 / 2 ^ (4 * c) % 16)
 -- the form of a set, by its number
 unfoldable pub formBy : ℕ → ℕ
 formBy c = pick (ltb c 3) form-94 (pick (ltb c first-double) form-96 (pick (ltb c no-set) form-94x94 0))
-
--- the set of a final octet
-unfoldable pub foundOf : ℕ → Side → ℕ → ℕ
-foundOf f d x = pick (ltb x 0x40) no-set (pick (ltb 0x4F x) no-set (namedBy f d / 2 ^ (4 * (x - 0x40)) % 16))

@@ -52,18 +52,23 @@ pub fn may_use(side: Side, set: u8) -> bool
     }
 }
 
-// The set that a designation names by its form, side and final octet: its four binary digits in the word of the form and side.
+// The set that a designation names by its form, side and final octet.
 pub fn set_of(form: u8, side: Side, last: u8) -> u8
     ensures { λ r. ⌜ r ≡ setOf form side last ⌝ }
 {
-    if last < finals::FIRST {
-        return NO_SET;
+    match side {
+        Side::GL => match form {
+            FORM_94 => finals::gl_94(last),
+            FORM_94X94 => finals::either_94x94(last),
+            _ => NO_SET,
+        },
+        Side::GR => match form {
+            FORM_94 => finals::gr_94(last),
+            FORM_96 => finals::gr_96(last),
+            FORM_94X94 => finals::either_94x94(last),
+            _ => NO_SET,
+        },
     }
-    if finals::LAST < last {
-        return NO_SET;
-    }
-    let sets = finals::named_by(form, side);
-    ((sets >> (4 * (last - finals::FIRST))) % 16) as u8
 }
 
 // The final octet of a set's designations, 0 where there is no such set: 4, and the set's four binary digits in a word.

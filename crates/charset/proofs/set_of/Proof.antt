@@ -1,4 +1,4 @@
--- `charset::set_of` meets its contract: it answers `foundOf`, which is what the search through the table finds.
+-- `charset::set_of` meets its contract: it answers `foundOf`, form by form on each side, which is what the search through the table finds.
 use native.Mathlib.Omega.{arith}
 use Rattle.base.proofs.Ladder.{ladder, after}
 use Rattle.charset.specs.Finals.{foundOf}
@@ -10,12 +10,11 @@ pub set-of-spec : {M : Type 1} → statement M
 unfolding foundOf
 set-of-spec =
     tie.close
-    (tie.spec
-    (λ c. after (found-is _ _ _) (search ladder))
-    (λ c. after (found-is _ _ _) (search ladder))
-    (search arith)
-    (search arith)
-    (search arith)
-    (search arith)
-    (search arith)
-    (λ c. after (found-is _ _ _) (rw (← c .named-by .ensures) (search ladder))))
+    (tie.spec (search arith) (search arith) (search arith) (search arith) (search arith) (search arith) (search arith)
+    (λ c. after (found-is _ _ _) (rw (c .before .before .enum-told .given .1) (search ladder)))
+    (λ c. after (found-is _ _ _) (rw (c .before .before .enum-told .given .1) (search ladder)))
+    (λ c. after (found-is _ _ _) (rw (c .before .enum-told .given .1) (search ladder)))
+    (λ c. after (found-is _ _ _) (rw (c .before .before .enum-told2 .given .1) (search ladder)))
+    (λ c. after (found-is _ _ _) (rw (c .before .before .enum-told2 .given .1) (search ladder)))
+    (λ c. after (found-is _ _ _) (rw (c .before .before .enum-told2 .given .1) (search ladder)))
+    (λ c. after (found-is _ _ _) (rw (c .before .enum-told2 .given .1) (search ladder))))
