@@ -2,14 +2,14 @@
 -- table for every form, side and octet (`found-is`). Shown by one test of all 315 pairs of a form and a final octet, which antt computes; what is
 -- no such pair finds nothing either way: the search by the range of the table's final octets and by its forms, the lookup since it asks for none.
 -- The form and the final octet of a set are those of its row (`form-rule`, `final-rule`), each by one test of the fifteen rows.
-use Prim.Native.Nat.{ℕ, _+_, _-_, _*_, _/_, _%_, _^_, _<_, _≤_}
+use Prim.Native.Nat.{ℕ, _+_, _-_, _<_}
 use native.Mathlib.Omega.{arith}
 use lib.Dec.{eqb, leb, ltb}
-use borrow.Author.Tests.{eqb-true, eqb-false, leb-true, ltb-true, ltb-false, lt-ltb, le-ltb, le-leb, ne-eqb}
+use borrow.Author.Tests.{eqb-true, eqb-false, leb-true, ltb-true, ltb-false, le-ltb, le-leb, ne-eqb}
 use mathlib.Core.Path.{_≡_, refl, sym, ap, _∙_}
 use mathlib.Core.Bool.{Bool, true, false, _&&_}
 use Rattle.base.specs.Choice.{pick}
-use Rattle.base.proofs.Bools.{and-left, and-right, test, upTo, up-to, up-to-both}
+use Rattle.base.proofs.Bools.{and-left, and-right, test, upTo, up-to-both}
 use Rattle.charset.specs.Charsets.{rowOf, mayUse, formOf, fitsOf, find, setOf}
 use Rattle.charset.specs.Finals.{afterGL94, afterGR94, afterGR96, after94x94, finalBy, formBy, foundOf}
 use Rattle.charset.specs.Pairs.{formSide, nthForm, atPair, named, Direct}

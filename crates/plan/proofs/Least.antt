@@ -1,6 +1,6 @@
 -- The least costs from all numbers by one rule: the lesser of two stretches of costs with surcharges, since no cost rises by more than a
 -- designation's price.
-use Rattle.element.proofs.Names.{_≡_, refl, sym, ap, ap₂, _∙_, subst, Bool, true, false, cond, _||_, _&&_, List, ⊎-elim, ℕ, _+_, _-_, _*_, _≤_}
+use Rattle.element.proofs.Names.{_≡_, refl, sym, ap, ap₂, _∙_, subst, Bool, true, false, cond, _||_, List, ⊎-elim, ℕ, _+_, _-_, _*_, _≤_}
 use Rattle.element.proofs.Names.{_<_, min, arith, length, getD, leb, ltb, eqb, eqb-true, eqb-false, eq-eqb, ne-eqb, leb-true, leb-false, le-leb, ltb-true}
 use Rattle.element.proofs.Names.{lt-ltb, test, cond-by, up-to}
 use Rattle.base.proofs.Bools.{or-cases, implies, implies-elim, upTo, up-to-where}

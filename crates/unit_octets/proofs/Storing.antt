@@ -1,9 +1,8 @@
 -- Octets stored one after the other, and that they are those of designations and units.
-use Rattle.element.proofs.Names.{_≡_, refl, sym, ap, ap₂, _∙_, subst, Bool, true, false, cond, _&&_, not, false≢true, List, [], _∷_, _++_, ℕ, suc}
+use Rattle.element.proofs.Names.{_≡_, refl, sym, ap, ap₂, _∙_, subst, Bool, true, false, List, [], _∷_, _++_, ℕ}
 use Rattle.element.proofs.Names.{_+_, _-_, _*_, _/_, _%_, _≤_, _<_, arith, add-one, ltb, leb, eqb, eq-eqb, ltb-true, ltb-false, lt-ltb, le-ltb, le-leb}
 use Rattle.element.proofs.Names.{lt-leb, eqb-true, ne-eqb, length, getD, set, take, drop, length-append, length-take, length-drop, sets, test, pick-last}
-use Rattle.element.proofs.Names.{pick-by, and-left, and-right, up-to, pick, Side, GL, GR, form-96, form-94x94, rowOf, formOf, on}
-use borrow.Author.Tests.{not-true}
+use Rattle.element.proofs.Names.{pick-by, pick, Side, GL, form-96, form-94x94, rowOf, formOf, on}
 use lib.Seq.{length-sets, take-suc, take-all, take-take, getD-drop}
 use Rattle.base.proofs.Stores.{sets-append}
 use Rattle.charset.specs.Charsets.{widthOfForm}
