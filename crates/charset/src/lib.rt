@@ -24,8 +24,8 @@ pub const NO_SET: u8 = 15;
 // The first of the sets of two octets, which are the last of the table.
 pub const FIRST_DOUBLE: u8 = 12;
 
-// The form of a set, 0 where there is no such set. By comparisons, since the text of a string is told by them; that they say what the table
-// says is one test of its rows (`form-rule`).
+// The form of a set, 0 where there is no such set. By comparisons and not from its row, since `check` asks it at each stretch of text; that
+// they say what the table says is one test of its rows (`form-rule`).
 pub fn form_of(set: u8) -> u8
     ensures { λ r. ⌜ r ≡ formOf set ⌝ }
 {

@@ -276,7 +276,7 @@ places-tied c h =
       price = search from-tests;
     }
 
--- and no other set has a place: there are as many places as sets that may use the side
+-- and the set at each place may stand on that side
 all-placed : (upTo 5 (λ g. allowed GL (getD setsInGL g 0)) && upTo 13 (λ r. allowed GR (getD setsInGR r 0))) ≡ true
 unfolding allowed mayUse
 all-placed = refl
