@@ -73,7 +73,7 @@ allowed d c = mayUse d (rowOf c)
 unfoldable pub formOf : ℕ → ℕ
 formOf c = rowOf c .form
 
--- the octets of a character of a set of this form, 0 where there is no such form
+-- the octets of a character of a set of this form: two of 94 by 94, one of 94 and of 96, and none of form 0, which is no set's
 unfoldable pub widthOfForm : ℕ → ℕ
 widthOfForm f = pick (eqb f 0) 0 (pick (eqb f form-94x94) 2 1)
 
