@@ -61,6 +61,21 @@ answerOf count (found-at at p st es) = answerOf (count + 1) es
 unfoldable pub checkOf : List ℕ → Answer
 checkOf s = pick (ltb limit.octets (length s)) (refusedAt refusal.too-long 0) (answerOf 0 (elementsOf s))
 
+-- where a reading stops, and the state there
+pub record Stop : Type 0 where
+  pub place : ℕ
+  pub state : State
+
+abbrev pub stop : ℕ → State → Stop
+stop at st = record { place = at; state = st }
+
+-- elements under a state stop at their end, or at the start of the refused one
+unfoldable pub stopOf : State → Elements → Stop
+stopOf st (end-at at) = stop at st
+stopOf st (refused-at at n o) = stop at st
+stopOf st (silent-at at k next es) = stopOf next es
+stopOf st (found-at at p next es) = stopOf next es
+
 -- no element is refused
 unfoldable pub noneRefused : Elements → Bool
 noneRefused (end-at at) = true
