@@ -1,11 +1,13 @@
 -- The ladder's rules for the first octet of an element: down the tests of what it starts, and on to the functions of `text`, whose answers are
 -- what a GL or GR octet starts.
 use Rattle.element.proofs.Names.{ℕ, _+_, _%_, _<_, _≤_, arith, _≡_, refl, _∙_, ap, Bool, true, false, List, [], _∷_, eqb, length, getD}
-use Rattle.element.proofs.Names.{eqb-true, lt-ltb, le-ltb, ne-eqb, pick, from, test, form-96, form-94x94, formOf, Side, GL, GR, get, Sets, Shape}
+use Rattle.element.proofs.Names.{eqb-true, lt-ltb, le-ltb, ne-eqb, pick, from, test, form-96, form-94x94, formOf, Side, GL, GR, get, Sets, Shape, Refuses}
 use Rattle.base.specs.Refusal as refusal
+use lib.ListN.{take, drop, length-drop}
+use lib.Seq.{drop-drop, take-all}
+use Prim.Native.Nat.{_-_}
 use Rattle.base.proofs.Ladder.{octet, ended}
 use Rattle.state.proofs.Steps.{steps}
-use Rattle.state.specs.Elements.{refused}
 use Rattle.text.specs.Text.{graphicOf}
 use Rattle.text.specs.Functions.{characterOf, textOf}
 use Rattle.element.specs.Element.{shapeOf}
@@ -17,6 +19,11 @@ module _ (s : List ℕ) (at : ℕ) (sets : Sets) (r : Shape) where
 
   pub on-shape-end : length s ≤ at → r ≡ shapeOf [] sets → r ≡ shapeOf (from at s) sets
   on-shape-end h e = ended (λ (t : List ℕ). shapeOf t sets) s at r h e
+
+-- the octets from a place on, lent as a part of the string
+pub rest : (s : List ℕ) (at k : ℕ) → from k (take (length s - at) (drop at s)) ≡ from (at + k) s
+unfolding from
+rest s at k = ap (drop k) (take-all (length s - at) (drop at s) (rw (length-drop at s) (omega arith))) ∙ drop-drop k at s
 
 module _ (b : ℕ) (t : List ℕ) (s : Sets) where
   pushed : (q : Bool) (x y : Start) → pick q (begunBy x b t s) (begunBy y b t s) ≡ begunBy (pick q x y) b t s
@@ -32,7 +39,7 @@ module _ (b : ℕ) (t : List ℕ) (s : Sets) where
       ∙ pushed (graphicOf (b % 128)) _ unused))
 
   -- 7F
-  pub on-delete : b ≡ 0x7F → refused refusal.unused ≡ shapeOf (b ∷ t) s
+  pub on-delete : b ≡ 0x7F → Refuses refusal.unused 0 ≡ shapeOf (b ∷ t) s
   unfolding shapeOf startOf leftStart begunBy pick
   on-delete e = rw e
 

@@ -17,7 +17,7 @@ unfoldable pub shapeOf : List ℕ → Sets → Shape
 shapeOf [] s = Ends
 shapeOf (b ∷ t) s = begunBy (startIn s b) b t s
 
--- a unit whose step by the direction rule is known
+-- a unit whose step by the direction rule is known; what the rule refuses is refused at the start of the element (rule N2)
 unfoldable pub steppedOf : Part → State → Step → Element
 steppedOf p st (Goes d) = Found p (directedTo d st)
 steppedOf p st (Stops n) = Refused n 0

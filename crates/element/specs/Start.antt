@@ -11,10 +11,10 @@ use Rattle.charset.specs.Charsets.{form-96, form-94x94, formOf}
 use Rattle.charset.specs.declared.Side.{Side, the-variants.GL, the-variants.GR}
 use Rattle.control.specs.Escape.{escapeOf}
 use Rattle.control.specs.Mark.{csiOf}
-use Rattle.state.specs.Elements.{unit, refused}
+use Rattle.state.specs.Elements.{unit}
 use Rattle.state.specs.State.{get}
 use Rattle.state.specs.declared.Sets.{Sets}
-use Rattle.state.specs.declared.elements.Shape.{Shape}
+use Rattle.state.specs.declared.elements.Shape.{Shape, the-variants.Refuses}
 use Rattle.text.specs.Text.{graphicOf, oneOctetOf, secondOctetOf, spaceOf}
 
 -- the classes: `one` and `two` are a character of one octet and the first octet of one of two, of the set on a side
@@ -56,4 +56,4 @@ begunBy newline b t s = unit kind.newline 0 0 1
 begunBy space b t s = spaceOf
 begunBy (one d) b t s = oneOctetOf (get d s) b
 begunBy (two d) b t s = secondOctetOf (get d s) b t
-begunBy unused b t s = refused refusal.unused
+begunBy unused b t s = Refuses refusal.unused 0

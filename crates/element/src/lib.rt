@@ -21,8 +21,8 @@ pub fn shape(s: &[u8], at: usize, sets: Sets) -> Shape
     }
     let b = s[at];
     match b {
-        0x1B => control::escape::escape(s, at + 1),
-        0x9B => control::mark::csi(s, at + 1),
+        0x1B => control::escape::escape(&s[at..]),
+        0x9B => control::mark::csi(&s[at..]),
         0x09 => bare(kind::TAB, 1),
         0x0A => bare(kind::NEWLINE, 1),
         0x7F => Shape::Refuses(refusal::UNUSED, 0),

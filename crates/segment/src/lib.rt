@@ -1,19 +1,24 @@
-// Extended segments.
+// Extended segments. `t` is the octets from the start of an element on, so that a place in it is what a refusal tells.
 ghost use mathlib.Core.Path.{_≡_};
 ghost use Prim.Native.Nat.{_≤_, _<_};
 ghost use lib.ListN.{length};
 ghost use Rattle.base.specs.Choice.{from};
-ghost use Rattle.segment.specs.Segment.{nameOctetOf, nameOf, textWidthOf, contentOf, bodyOf, lengthsOf, extendedOf};
+ghost use Rattle.segment.specs.declared.Name.the-variants.{Ends};
+ghost use Rattle.segment.specs.Segment.{nameOctetOf, nameOf, textWidthOf, wholeOf, contentOf, bodyOf, lengthsOf, extendedOf};
 use base::kind;
 use base::refusal;
 use state::directions::counts_as_text;
 use state::elements::Part;
 use state::elements::Shape;
 
-// Where a name ends: the place of its 02, or of the first octet that is no name's (the length where there is no 02).
+// Where a name ends.
 pub enum Name {
+    // before the 02 at this place
     Ends(usize),
+    // it is bad by the octet at this place
     Bad(usize),
+    // there is no 02, and each octet may be a name's
+    Endless,
 }
 
 pub fn name_octet(b: u8) -> bool
@@ -53,7 +58,7 @@ pub fn name_end(s: &[u8]) -> Name
             return Name::Bad(i);
         }
     }
-    Name::Bad(i)
+    Name::Endless
 }
 
 // The octets of a character of the text.
@@ -68,41 +73,47 @@ pub fn text_width(d: u8) -> usize
     }
 }
 
-// A segment of n octets that are all there, by its name.
-pub fn content(d: u8, n: usize, name: Name) -> Shape
-    ensures { λ r. ⌜ r ≡ contentOf d n name ⌝ }
+// Whether a text of so many octets has whole characters.
+pub fn whole(d: u8, text: usize) -> bool
+    ensures { λ r. ⌜ r ≡ wholeOf d text ⌝ }
 {
-    let Name::Ends(k) = name else {
-        return Shape::Refuses(refusal::BAD_SEGMENT, 0);
-    };
-    let w = text_width(d);
-    if k < n {
-        let size = n - k - 1;
-        if size % w == 0 {
-            let text = counts_as_text(kind::SEGMENT, size);
-            return Shape::Gives(Part {
-                skip: 6,
-                octets: n,
-                code: d as u16,
-                kind: kind::SEGMENT,
-                set: 0,
-                text: text,
-            });
-        }
+    text % text_width(d) == 0
+}
+
+// A segment of n octets whose name ends before the 02 at a place.
+fn named(d: u8, n: usize, k: usize) -> Shape
+    requires { ⌜ (k < n) × (n ≤ 65535) ⌝ }
+    ensures { λ r. ⌜ r ≡ contentOf d n (Ends k) ⌝ }
+{
+    let size = n - k - 1;
+    if whole(d, size) {
+        let text = counts_as_text(kind::SEGMENT, size);
+        return Shape::Gives(Part {
+            skip: 6,
+            octets: n,
+            code: d as u16,
+            kind: kind::SEGMENT,
+            set: 0,
+            text: text,
+        });
     }
-    Shape::Refuses(refusal::BAD_SEGMENT, 0)
+    Shape::Refuses(refusal::BAD_SEGMENT, 5 + n)
 }
 
 // The n octets of a segment.
-fn body(s: &[u8], at: usize, d: u8, n: usize) -> Shape
-    requires { ⌜ at ≤ length (now s) ⌝ }
-    ensures { λ r. ⌜ r ≡ bodyOf d n (from at (now (s .entry))) ⌝ }
+fn body(t: &[u8], d: u8, n: usize) -> Shape
+    requires { ⌜ (6 ≤ length (now t)) × (n ≤ 65535) ⌝ }
+    ensures { λ r. ⌜ r ≡ bodyOf d n (from 6 (now (t .entry))) ⌝ }
 {
-    if n <= s.len() - at {
-        let name = name_end(&s[at..at + n]);
-        return content(d, n, name);
+    if t.len() - 6 < n {
+        return Shape::Refuses(refusal::CUT, t.len());
     }
-    Shape::Refuses(refusal::CUT, 0)
+    let name = name_end(&t[6..6 + n]);
+    match name {
+        Name::Ends(k) => named(d, n, k),
+        Name::Bad(k) => Shape::Refuses(refusal::BAD_SEGMENT, 6 + k),
+        Name::Endless => Shape::Refuses(refusal::BAD_SEGMENT, 5 + n),
+    }
 }
 
 fn wide(b: u8) -> usize
@@ -111,47 +122,46 @@ fn wide(b: u8) -> usize
     b as usize
 }
 
-// The octets after 1B 25 2F d: M, L and the n octets.
-pub fn lengths(s: &[u8], at: usize, d: u8) -> Shape
-    ensures { λ r. ⌜ r ≡ lengthsOf d (from at (now (s .entry))) ⌝ }
+// After 1B 25 2F d: M, L and the n octets.
+pub fn lengths(t: &[u8], d: u8) -> Shape
+    ensures { λ r. ⌜ r ≡ lengthsOf d (from 4 (now (t .entry))) ⌝ }
 {
-    if s.len() <= at {
-        return Shape::Refuses(refusal::CUT, 0);
+    if t.len() <= 4 {
+        return Shape::Refuses(refusal::CUT, 4);
     }
-    let m = s[at];
+    let m = t[4];
     if m < 0x80 {
-        return Shape::Refuses(refusal::BAD_SEGMENT, 0);
+        return Shape::Refuses(refusal::BAD_SEGMENT, 4);
     }
-    if s.len() <= at + 1 {
-        return Shape::Refuses(refusal::CUT, 0);
+    if t.len() <= 5 {
+        return Shape::Refuses(refusal::CUT, 5);
     }
-    let l = s[at + 1];
+    let l = t[5];
     if l < 0x80 {
-        return Shape::Refuses(refusal::BAD_SEGMENT, 0);
+        return Shape::Refuses(refusal::BAD_SEGMENT, 5);
     }
-    body(s, at + 1 + 1, d, wide(m - 128) * 128 + wide(l - 128))
+    body(t, d, wide(m - 128) * 128 + wide(l - 128))
 }
 
-// The octets after 1B 25.
-pub fn extended(s: &[u8], at: usize) -> Shape
-    ensures { λ r. ⌜ r ≡ extendedOf (from at (now (s .entry))) ⌝ }
+// After 1B 25.
+pub fn extended(t: &[u8]) -> Shape
+    ensures { λ r. ⌜ r ≡ extendedOf (from 2 (now (t .entry))) ⌝ }
 {
-    if s.len() <= at {
-        return Shape::Refuses(refusal::CUT, 0);
+    if t.len() <= 2 {
+        return Shape::Refuses(refusal::CUT, 2);
     }
-    let b = s[at];
-    if b == 0x2F {
-        if s.len() <= at + 1 {
-            return Shape::Refuses(refusal::CUT, 0);
+    if t[2] == 0x2F {
+        if t.len() <= 3 {
+            return Shape::Refuses(refusal::CUT, 3);
         }
-        let d = s[at + 1];
+        let d = t[3];
         if d < 0x30 {
-            return Shape::Refuses(refusal::UNKNOWN, 0);
+            return Shape::Refuses(refusal::UNKNOWN, 3);
         }
         if d < 0x35 {
-            return lengths(s, at + 1 + 1, d);
+            return lengths(t, d);
         }
-        return Shape::Refuses(refusal::UNKNOWN, 0);
+        return Shape::Refuses(refusal::UNKNOWN, 3);
     }
-    Shape::Refuses(refusal::UNKNOWN, 0)
+    Shape::Refuses(refusal::UNKNOWN, 2)
 }

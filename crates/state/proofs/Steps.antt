@@ -6,16 +6,16 @@ use lib.ListN.{length, getD}
 use Rattle.base.specs.Choice.{from}
 use Rattle.base.specs.Refusal as refusal
 use Rattle.base.proofs.Ladder.{octet, ended, ladder}
-use Rattle.state.specs.Elements.{next, refused}
-use Rattle.state.specs.declared.elements.Shape.{Shape}
+use Rattle.state.specs.Elements.{next}
+use Rattle.state.specs.declared.elements.Shape.{Shape, the-variants.Refuses}
 
-module _ (s : List ℕ) (at : ℕ) (f : ℕ → List ℕ → Shape) (r : Shape) where
-  pub on-next : at < length s → r ≡ f (getD s at 0) (from (at + 1) s) → r ≡ next (from at s) f
+module _ (s : List ℕ) (at k : ℕ) (f : ℕ → List ℕ → Shape) (r : Shape) where
+  pub on-next : at < length s → r ≡ f (getD s at 0) (from (at + 1) s) → r ≡ next k (from at s) f
   unfolding next
-  on-next h e = octet (λ (t : List ℕ). next t f) s at r h e
+  on-next h e = octet (λ (t : List ℕ). next k t f) s at r h e
 
-  pub on-end : length s ≤ at → r ≡ refused refusal.cut → r ≡ next (from at s) f
+  pub on-end : length s ≤ at → r ≡ Refuses refusal.cut k → r ≡ next k (from at s) f
   unfolding next
-  on-end h e = ended (λ (t : List ℕ). next t f) s at r h e
+  on-end h e = ended (λ (t : List ℕ). next k t f) s at r h e
 
 pub ruleset steps = (on-next, on-end, ladder)

@@ -16,11 +16,10 @@ part kind set code skip octets text =
 abbrev pub unit : ℕ → ℕ → ℕ → ℕ → Shape
 unit kind set code octets = Gives (part kind set code 0 octets (countsAsText kind 0))
 
--- a refusal, whose place is the start of the element (rule N2)
-abbrev pub refused : ℕ → Shape
-refused n = Refuses n 0
+-- `Refuses n o` is a refusal: its number, and how far its octet is from the start of the element (rule N2)
 
--- the next octet of an element, and those after it; where there is none the element is cut (rule E1j)
-unfoldable pub next : List ℕ → (ℕ → List ℕ → Shape) → Shape
-next [] f = refused refusal.cut
-next (b ∷ t) f = f b t
+-- the octet of an element that stands after k others, and those after it; where there is none the element is cut, and the place is that of the
+-- missing octet, which is the string's length (rules E1j, N2)
+unfoldable pub next : ℕ → List ℕ → (ℕ → List ℕ → Shape) → Shape
+next k [] f = Refuses refusal.cut k
+next k (b ∷ t) f = f b t

@@ -6,8 +6,8 @@ use lib.Dec.{eqb, leb, ltb}
 use Rattle.base.specs.Choice.{pick}
 use Rattle.base.specs.Refusal as refusal
 use Rattle.base.specs.Kind as kind
-use Rattle.state.specs.Elements.{unit, refused, next}
-use Rattle.state.specs.declared.elements.Shape.{Shape}
+use Rattle.state.specs.Elements.{unit, next}
+use Rattle.state.specs.declared.elements.Shape.{Shape, the-variants.Refuses}
 
 -- an octet less its top bit that a set of 94 uses, and either octet of a set of 94 by 94: 21 to 7E (rules E1b, E1c)
 unfoldable pub graphicOf : ℕ → Bool
@@ -24,9 +24,9 @@ twoOctetsOf set b d = unit kind.character set (b % 128 * 256 + d % 128) 2
 abbrev pub spaceOf : Shape
 spaceOf = unit kind.space 0 0 1
 
--- the second octet, on the side of the first (rule E1d)
+-- the second octet, on the side of the first; a bad one is refused where it stands (rules E1d, N2)
 unfoldable pub secondOctetOf : ℕ → ℕ → List ℕ → Shape
 secondOctetOf set b t =
-    next t
+    next 1 t
     (λ d _.
-    pick (eqb (d / 128) (b / 128)) (pick (graphicOf (d % 128)) (twoOctetsOf set b d) (refused refusal.unused)) (refused refusal.unused))
+    pick (eqb (d / 128) (b / 128)) (pick (graphicOf (d % 128)) (twoOctetsOf set b d) (Refuses refusal.unused 1)) (Refuses refusal.unused 1))

@@ -65,16 +65,16 @@ pub fn second_octet(s: &[u8], at: usize, set: u8, b: u8) -> Shape
     ensures { λ r. ⌜ r ≡ secondOctetOf set b (from at (now (s .entry))) ⌝ }
 {
     if s.len() <= at {
-        return Shape::Refuses(refusal::CUT, 0);
+        return Shape::Refuses(refusal::CUT, 1);
     }
     let d = s[at];
     if d / 128 == b / 128 {
         if graphic(d % 128) {
             return two_octets(set, b, d);
         }
-        return Shape::Refuses(refusal::UNUSED, 0);
+        return Shape::Refuses(refusal::UNUSED, 1);
     }
-    Shape::Refuses(refusal::UNUSED, 0)
+    Shape::Refuses(refusal::UNUSED, 1)
 }
 
 // A character that begins with b, where at is the place after b.

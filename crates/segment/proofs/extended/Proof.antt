@@ -8,6 +8,5 @@ use Rattle.segment.proofs.extended.Tie as tie
 pub extended-spec : {M : Type 1} → statement M
 unfolding extendedOf
 extended-spec =
-    tie.close (tie.spec (λ c. search steps depth 12) (search arith) (search arith) (λ c. search steps depth 12) (search arith) (search arith)
-    (λ c. search steps depth 12) (search arith) (search arith) (search arith) (λ c. search steps depth 12) (λ c. search steps depth 12)
-    (λ c. search steps depth 12))
+    tie.close (tie.spec (λ c. search steps depth 12) (search arith) (λ c. search steps depth 12) (search arith) (λ c. search steps depth 12)
+    (search arith) (λ c. search steps depth 12) (λ c. search steps depth 12) (λ c. search steps depth 12))

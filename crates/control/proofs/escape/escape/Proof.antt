@@ -8,6 +8,6 @@ use Rattle.control.proofs.escape.escape.Tie as tie
 pub escape-spec : {M : Type 1} → statement M
 unfolding escapeOf
 escape-spec =
-    tie.close (tie.spec (λ c. search steps depth 12) (search arith) (search arith) (search arith) (search arith) (search arith) (search arith) (search arith)
-    (search arith) (search arith) (search arith) (search arith) (λ c. search steps depth 12) (λ c. search steps depth 12) (λ c. search steps depth 12)
-    (λ c. search steps depth 12) (λ c. search steps depth 12) (λ c. search steps depth 12) (λ c. search steps depth 12))
+    tie.close (tie.spec (λ c. search steps depth 12) (search arith) (search arith) (search arith) (search arith) (search arith) (search arith)
+    (λ c. search steps depth 12) (λ c. search steps depth 12) (λ c. search steps depth 12) (λ c. search steps depth 12)
+    (λ c. search steps depth 12) (λ c. search steps depth 12) (λ c. search steps depth 12))

@@ -1,4 +1,4 @@
--- `escape::intermediates` meets its contract. The invariant: the octets from `i` on are answered as those from `at` on are.
+-- `escape::intermediates` meets its contract. The invariant: the octets from `i` on are answered as those from `k` on are.
 use native.Mathlib.Omega.{arith}
 use Prim.Native.Nat.{_-_}
 use mathlib.Core.Path.{_≡_, refl}
@@ -11,10 +11,10 @@ use Rattle.control.proofs.escape.intermediates.Statement.{statement}
 use Rattle.control.proofs.escape.intermediates.Tie as tie
 
 abbrev Inv-loop : tie.InvT-loop
-Inv-loop s at i₀ i = intermediatesOf (from i s) ≡ intermediatesOf (from at s)
+Inv-loop t k i₀ i = intermediatesOf i (from i t) ≡ intermediatesOf k (from k t)
 
 abbrev μ-loop : tie.MeasureT-loop
-μ-loop s at i₀ i = length s - i
+μ-loop t k i₀ i = length t - i
 
 pub intermediates-spec : {M : Type 1} → statement M
 unfolding intermediatesOf

@@ -8,5 +8,5 @@ use Rattle.control.proofs.escape.multi_octet.Tie as tie
 pub multi-octet-spec : {M : Type 1} → statement M
 unfolding multiOctetOf
 multi-octet-spec =
-    tie.close (tie.spec (λ c. search steps depth 12) (search arith) (search arith) (search arith) (search arith) (search arith) (λ c. search steps depth 12)
+    tie.close (tie.spec (λ c. search steps depth 12) (search arith) (search arith) (search arith) (λ c. search steps depth 12)
     (λ c. search steps depth 12) (λ c. search steps depth 12))

@@ -8,5 +8,5 @@ use Rattle.control.proofs.mark.csi.Tie as tie
 pub csi-spec : {M : Type 1} → statement M
 unfolding csiOf
 csi-spec =
-    tie.close (tie.spec (λ c. search steps depth 12) (search arith) (search arith) (search arith) (search arith) (search arith) (search arith)
-    (λ c. search steps depth 12) (λ c. search steps depth 12) (λ c. search steps depth 12) (λ c. search steps depth 12))
+    tie.close (tie.spec (λ c. search steps depth 12) (search arith) (search arith) (search arith) (search arith) (λ c. search steps depth 12)
+    (λ c. search steps depth 12) (λ c. search steps depth 12) (λ c. search steps depth 12))

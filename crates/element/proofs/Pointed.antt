@@ -1,0 +1,279 @@
+-- What a refusal points at (rule N2), of every element. 2 is at the length of the string. 3 to 7 are at an octet of it, inside the element: the octets
+-- before that octet, alone, are nothing or an element that is cut. 8 and 9, by the direction rule, are at the start (`element-pointed`). And an element
+-- that is not refused is the same whatever follows it. Of the shape it is shown for each definition from the leaves up: for a function f of the octets
+-- t that are left after k others, `Tells` says it of what f answers, and `onward` takes it over one octet more.
+use Rattle.element.proofs.Names.{ℕ, zero, suc, _+_, _-_, _<_, _≤_, arith, not-suc-le-zero, _≡_, refl, sym, ap, _∙_, subst, Bool, true, false}
+use Rattle.element.proofs.Names.{List, [], _∷_, _⊎_, inl, inr, ⊎-elim, eqb, leb, ltb, length, take, leb-true, leb-false, le-leb, lt-leb, on-true, on-false}
+use Rattle.element.proofs.Names.{length-take-le, length-take, pick, pick-by, test, no-set, setOf, Side, GL, GR, stepOf, get, next, Sets, State, Part}
+use Rattle.element.proofs.Names.{Shape, Refuses, Designates, Gives, Step, Goes, Stops, Element, End, Refused, Silent, Found}
+use lib.Seq.{take-take}
+use Rattle.base.specs.Refusal as refusal
+use Rattle.text.specs.Text.{secondOctetOf}
+use Rattle.control.specs.Escape.{intermediatesOf, designatesOf, designationOf, multiOctetOf, escapeOf}
+use Rattle.control.specs.Mark.{beginOf, csiOf}
+use Rattle.segment.specs.Segment.{nameOf, wholeOf, segmentPart, contentOf, bodyOf, lengthsOf, extendedOf}
+use Rattle.segment.specs.declared.Name.{Name}
+use Rattle.segment.proofs.Steps.{Within, ends, bad, endless, name-within}
+use Rattle.element.specs.Start.{Start, startIn, begunBy}
+use Rattle.element.specs.Start as start
+use Rattle.element.specs.Element.{shapeOf, steppedOf, directedOf, elementOf}
+use Rattle.element.proofs.Sizes.{Fair, goes, stops, fair, Passed, silent, found}
+use Rattle.state.specs.declared.elements.Shape.the-variants.{Ends}
+
+-- a number of refusal that points at an octet: 3 to 7
+abbrev pub Octet : ℕ → Type 0
+Octet n = (refusal.unused ≤ n) × (n ≤ refusal.bad-segment)
+
+-- the octets of a shape that is not refused
+abbrev pub octetsIn : Shape → ℕ
+octetsIn Ends = 0
+octetsIn (Refuses n o) = 0
+octetsIn (Designates k d c) = k
+octetsIn (Gives p) = p .skip + p .octets
+
+-- ---- the octets t after k others of an element
+
+data Tells (k : ℕ) (f : List ℕ → Shape) (t : List ℕ) : Shape → Type 0 where
+  cut : {o : ℕ} → o ≡ k + length t → Tells k f t (Refuses refusal.cut o)
+  points : {n o : ℕ} (j : ℕ) → Octet n → j < length t → o ≡ k + j → f (take j t) ≡ Refuses refusal.cut o → Tells k f t (Refuses n o)
+  whole : {x : Shape} (j : ℕ) → octetsIn x ≡ k + j → ((i : ℕ) → j ≤ i → f (take i t) ≡ x) → Tells k f t x
+
+-- the same once the octet after these k is read as well: it may be the one that is refused
+data After (k : ℕ) (f : List ℕ → Shape) (t : List ℕ) : Shape → Type 0 where
+  here : {n : ℕ} → Octet n → After k f t (Refuses n k)
+  later : {x : Shape} → Tells (k + 1) f t x → After k f t x
+
+-- f refuses the end as cut, and is g of the first octet and of those after it
+record Step-by (k : ℕ) (f : List ℕ → Shape) (g : ℕ → List ℕ → Shape) : Type 0 where
+  at-end : f [] ≡ Refuses refusal.cut k
+  at-octet : (b : ℕ) (u : List ℕ) → f (b ∷ u) ≡ g b u
+
+module _ (k : ℕ) (f : List ℕ → Shape) (g : ℕ → List ℕ → Shape) (by : Step-by k f g) where
+  over : (b : ℕ) (u : List ℕ) {x : Shape} → After k (g b) u x → Tells k f (b ∷ u) x
+  over b u (here n) = points {o = k} 0 n (omega arith) (omega arith) (by .at-end)
+  over b u (later (cut {o} e)) = cut {o = o} (omega arith)
+  over b u (later (points {o = o} j n h e q)) = points {o = o} (suc j) n (omega arith) (omega arith) (by .at-octet b (take j u) ∙ q)
+  over b u (later {x} (whole j e q)) = whole {x = x} (suc j) (omega arith) more
+    where
+      more : (i : ℕ) → suc j ≤ i → f (take i (b ∷ u)) ≡ x
+      more zero h = absurd (not-suc-le-zero h)
+      more (suc i) h = by .at-octet b (take i u) ∙ q i (omega arith)
+
+  onward : (t : List ℕ) → ((b : ℕ) (u : List ℕ) → After k (g b) u (g b u)) → Tells k f t (f t)
+  onward [] h = subst (Tells k f []) (sym (by .at-end)) (cut {o = k} (omega arith))
+  onward (b ∷ u) h = subst (Tells k f (b ∷ u)) (sym (by .at-octet b u)) (over b u (h b u))
+
+-- ---- octet by octet
+
+module _ {k : ℕ} {u : List ℕ} where
+  either : {x y : List ℕ → Shape} (q : Bool) → (q ≡ true → After k x u (x u)) → (q ≡ false → After k y u (y u))
+      → After k (λ v. pick q (x v) (y v)) u (pick q (x u) (y u))
+  unfolding pick
+  either true h g = h refl
+  either false h g = g refl
+
+  -- the octet itself is refused
+  no : {f : List ℕ → Shape} (n : ℕ) → Octet n → After k f u (Refuses n k)
+  no n h = here h
+
+  -- the element ends with it
+  gives : {p : Part} → p .skip + p .octets ≡ k + 1 → After k (λ v. Gives p) u (Gives p)
+  gives {p} e = later (whole {x = Gives p} 0 (omega arith) (λ i h. refl))
+
+  not-used : {f : List ℕ → Shape} → After k f u (Refuses refusal.unused k)
+  not-used = no refusal.unused (omega arith)
+
+  unknown : {f : List ℕ → Shape} → After k f u (Refuses refusal.unknown k)
+  unknown = no refusal.unknown (omega arith)
+
+second : (set b : ℕ) (t : List ℕ) → Tells 1 (secondOctetOf set b) t (secondOctetOf set b t)
+unfolding secondOctetOf next
+second set b t =
+    onward 1 (secondOctetOf set b) _ (record { at-end = refl; at-octet = λ d u. refl }) t
+    (λ d u. either _ (λ _. either _ (λ _. gives (omega arith)) (λ _. not-used)) (λ _. not-used))
+
+begin : (kind : ℕ) (t : List ℕ) → Tells 2 (beginOf kind) t (beginOf kind t)
+unfolding beginOf next
+begin kind t =
+    onward 2 (beginOf kind) _ (record { at-end = refl; at-octet = λ b u. refl }) t (λ b u. either _ (λ _. gives (omega arith)) (λ _. unknown))
+
+csi : (t : List ℕ) → Tells 1 csiOf t (csiOf t)
+unfolding csiOf next
+csi t =
+    onward 1 csiOf _ (record { at-end = refl; at-octet = λ b u. refl }) t
+    (λ b u.
+    either _ (λ _. gives (omega arith)) (λ _. either _ (λ _. later (begin _ u)) (λ _. either _ (λ _. later (begin _ u)) (λ _. unknown))))
+
+-- ---- designations
+
+-- a final octet
+named : {k : ℕ} {u : List ℕ} (side : Side) (set : ℕ) → After k (λ v. designatesOf k side set) u (designatesOf k side set)
+unfolding designatesOf
+named {k} side set =
+    either _ (λ _. later (whole {x = Designates (k + 1) side set} 0 (omega arith) (λ i h. refl))) (λ _. no refusal.not-approved (omega arith))
+
+intermediates : (k : ℕ) (t : List ℕ) → Tells k (intermediatesOf k) t (intermediatesOf k t)
+unfolding intermediatesOf
+intermediates k [] = cut {o = k} (omega arith)
+intermediates k (b ∷ t) =
+    over k (intermediatesOf k) _ (record { at-end = refl; at-octet = λ b u. refl }) b t
+    (either _ (λ _. unknown)
+    (λ _. either _ (λ _. later (intermediates (k + 1) t))
+    (λ _. either _ (λ _. unknown) (λ _. either _ (λ _. no refusal.not-approved (omega arith)) (λ _. unknown)))))
+
+designation : (k form : ℕ) (side : Side) (t : List ℕ) → Tells k (designationOf k form side) t (designationOf k form side t)
+unfolding designationOf next
+designation k form side t =
+    onward k (designationOf k form side) _ (record { at-end = refl; at-octet = λ b u. refl }) t
+    (λ b u.
+    either _ (λ _. unknown)
+    (λ _. either _ (λ _. later (intermediates (k + 1) u))
+    (λ _. either _ (λ _. unknown) (λ _. either _ (λ _. named side (setOf form side b)) (λ _. unknown)))))
+
+multi-octet : (t : List ℕ) → Tells 2 multiOctetOf t (multiOctetOf t)
+unfolding multiOctetOf next
+multi-octet t =
+    onward 2 multiOctetOf _ (record { at-end = refl; at-octet = λ b u. refl }) t
+    (λ b u. either _ (λ _. later (designation 3 _ _ u)) (λ _. either _ (λ _. later (designation 3 _ _ u)) (λ _. unknown)))
+
+-- ---- extended segments
+
+module _ (d n : ℕ) (t : List ℕ) where
+  -- fewer than n octets
+  short : (j : ℕ) → j < n → j ≤ length t → bodyOf d n (take j t) ≡ Refuses refusal.cut (6 + j)
+  unfolding bodyOf
+  short j h l =
+      let z = length-take-le j t l in
+      sym (on-false _ _ _ _ (lt-leb n (length (take j t)) (omega (arith, z))) (ap (λ (m : ℕ). Refuses refusal.cut (6 + m)) (sym z)))
+
+  module _ (all : n ≤ length t) where
+    -- n octets and more
+    more : (i : ℕ) → n ≤ i → bodyOf d n (take i t) ≡ contentOf d n (nameOf (take n t) 0)
+    unfolding bodyOf
+    more i h =
+        let z : n ≤ length (take i t) = simp length-take (omega arith) in
+        sym (on-true _ _ _ _ (le-leb n (length (take i t)) z) (ap (λ (xs : List ℕ). contentOf d n (nameOf xs 0)) (sym (take-take n i t h))))
+
+-- the last of the n octets, or the L where n is 0
+at-last : (d n : ℕ) (t : List ℕ) → n ≤ length t → After 5 (bodyOf d n) t (Refuses refusal.bad-segment (5 + n))
+at-last d zero t h = no refusal.bad-segment (omega arith)
+at-last d (suc m) t h =
+    let z : 6 + m ≡ 5 + suc m = omega arith in
+    later (points {n = refusal.bad-segment} {o = 5 + suc m} m (omega arith) (omega arith) (omega arith) (short d (suc m) t m (omega arith) (omega arith) ∙ ap (Refuses refusal.cut) z))
+
+module _ (d n : ℕ) (t : List ℕ) (all : n ≤ length t) where
+  content : {name : Name} → Within n name → nameOf (take n t) 0 ≡ name → After 5 (bodyOf d n) t (contentOf d n name)
+  unfolding contentOf
+  content (ends {k} h) e =
+      pick-by (After 5 (bodyOf d n) t) (wholeOf d (n - k - 1))
+      (λ w. later
+      (whole {x = Gives (segmentPart d n (n - k - 1))} n (omega arith)
+      (λ i l. more d n t all i l ∙ ap (contentOf d n) e ∙ sym (on-true _ _ _ _ w refl))))
+      (λ _. at-last d n t all)
+  content (bad {k} h) e = later (points {n = refusal.bad-segment} {o = 6 + k} k (omega arith) (omega arith) refl (short d n t k h (omega arith)))
+  content endless e = at-last d n t all
+
+body : (d n : ℕ) (t : List ℕ) → After 5 (bodyOf d n) t (bodyOf d n t)
+unfolding bodyOf
+body d n t =
+    pick-by (After 5 (bodyOf d n) t) (leb n (length t))
+    (λ e. let h = leb-true n (length t) e in content d n t h (name-within (take n t) 0 n (omega (arith, length-take-le n t h))) refl)
+    (λ _. later (cut {o = 6 + length t} (omega arith)))
+
+lengths : (d : ℕ) (t : List ℕ) → Tells 4 (lengthsOf d) t (lengthsOf d t)
+unfolding lengthsOf next
+lengths d t =
+    onward 4 (lengthsOf d) _ (record { at-end = refl; at-octet = λ m u. refl }) t
+    (λ m u. either _ (λ _. no refusal.bad-segment (omega arith))
+    (λ _. later
+    (onward 5 _ _ (record { at-end = refl; at-octet = λ l v. refl }) u
+    (λ l v. either _ (λ _. no refusal.bad-segment (omega arith)) (λ _. body d _ v)))))
+
+extended : (t : List ℕ) → Tells 2 extendedOf t (extendedOf t)
+unfolding extendedOf next
+extended t =
+    onward 2 extendedOf _ (record { at-end = refl; at-octet = λ b u. refl }) t
+    (λ b u. either _
+    (λ _. later
+    (onward 3 _ _ (record { at-end = refl; at-octet = λ d v. refl }) u
+    (λ d v. either _ (λ _. unknown) (λ _. either _ (λ _. later (lengths d v)) (λ _. unknown)))))
+    (λ _. unknown))
+
+escape : (t : List ℕ) → Tells 1 escapeOf t (escapeOf t)
+unfolding escapeOf next
+escape t =
+    onward 1 escapeOf _ (record { at-end = refl; at-octet = λ b u. refl }) t
+    (λ b u.
+    either _ (λ _. later (designation 2 _ _ u))
+    (λ _. either _ (λ _. later (designation 2 _ _ u))
+    (λ _. either _ (λ _. later (designation 2 _ _ u))
+    (λ _. either _ (λ _. later (multi-octet u))
+    (λ _. either _ (λ _. later (extended u)) (λ _. either _ (λ _. no refusal.version (omega arith)) (λ _. unknown)))))))
+
+-- ---- a shape
+
+begun : (c : Start) (b : ℕ) (t : List ℕ) (s : Sets) → After 0 (λ u. begunBy c b u s) t (begunBy c b t s)
+unfolding begunBy
+begun start.escape b t s = later (escape t)
+begun start.mark b t s = later (csi t)
+begun start.tab b t s = gives (omega arith)
+begun start.newline b t s = gives (omega arith)
+begun start.space b t s = gives (omega arith)
+begun (start.one d) b t s = gives (omega arith)
+begun (start.two d) b t s = later (second (get d s) b t)
+begun start.unused b t s = not-used
+
+data Shaped (t : List ℕ) (s : Sets) : Shape → Type 0 where
+  cut : {o : ℕ} → o ≡ length t → Shaped t s (Refuses refusal.cut o)
+  octet : {n o : ℕ} → Octet n → o < length t → (o ≡ 0) ⊎ (shapeOf (take o t) s ≡ Refuses refusal.cut o) → Shaped t s (Refuses n o)
+  whole : {x : Shape} → 1 ≤ octetsIn x → ((i : ℕ) → octetsIn x ≤ i → shapeOf (take i t) s ≡ x) → Shaped t s x
+
+module _ (b : ℕ) (u : List ℕ) (s : Sets) where
+  after : {x : Shape} → After 0 (λ v. begunBy (startIn s b) b v s) u x → Shaped (b ∷ u) s x
+  unfolding shapeOf
+  after (here n) = octet {o = 0} n (omega arith) (inl refl)
+  after (later (cut {o} e)) = cut {o = o} (omega arith)
+  after (later (points {n} {o} j m h e q)) =
+      let z : o ≡ suc j = omega arith in
+      octet {n = n} {o = o} m (omega arith) (inr (ap (λ (y : ℕ). shapeOf (take y (b ∷ u)) s) z ∙ q))
+  after (later {x} (whole j e q)) = whole {x = x} (omega arith) more
+    where
+      more : (i : ℕ) → octetsIn x ≤ i → shapeOf (take i (b ∷ u)) s ≡ x
+      more zero h = absurd (omega (arith, e, h))
+      more (suc i) h = q i (omega arith)
+
+-- ---- an element
+
+-- what a refusal of the element at the start of octets points at; and that an element which is passed does not depend on what follows it
+pub data Pointed (t : List ℕ) (st : State) : Element → Type 0 where
+  nothing : t ≡ [] → Pointed t st End
+  at-length : {o : ℕ} → o ≡ length t → Pointed t st (Refused refusal.cut o)
+  at-octet : {n o : ℕ} → Octet n → o < length t → (o ≡ 0) ⊎ (elementOf (take o t) st ≡ Refused refusal.cut o) → Pointed t st (Refused n o)
+  at-start : {n : ℕ} → (refusal.direction ≤ n) × (n ≤ refusal.too-deep) → 0 < length t → Pointed t st (Refused n 0)
+  passes : {e : Element} {k : ℕ} {next : State} → Passed e k next → ((i : ℕ) → k ≤ i → elementOf (take i t) st ≡ e) → Pointed t st e
+
+module _ (t : List ℕ) (st : State) where
+  -- a unit, by the direction rule
+  ruled : (p : Part) {x : Step} → Fair (st .directions) x → 0 < length t
+      → ((i : ℕ) → p .skip + p .octets ≤ i → elementOf (take i t) st ≡ steppedOf p st x) → Pointed t st (steppedOf p st x)
+  unfolding steppedOf
+  ruled p (goes h) l q = passes found q
+  ruled p (stops h) l q = at-start h l
+
+  directed : {x : Shape} → Shaped t (st .sets) x → 0 < length t → Pointed t st (directedOf x st)
+  unfolding directedOf
+  directed (cut e) l = at-length e
+  directed (octet n h e) l =
+      at-octet n h (⊎-elim (λ z. inl z) (λ z. inr (ap (λ (x : Shape). directedOf x st) z)) e)
+  directed {x} (whole n q) l = by x n q
+    where
+      by : (x : Shape) → 1 ≤ octetsIn x → ((i : ℕ) → octetsIn x ≤ i → shapeOf (take i t) (st .sets) ≡ x) → Pointed t st (directedOf x st)
+      by Ends n q = absurd (not-suc-le-zero n)
+      by (Refuses r o) n q = absurd (not-suc-le-zero n)
+      by (Designates k d c) n q = passes silent (λ i h. ap (λ (x : Shape). directedOf x st) (q i h))
+      by (Gives p) n q = ruled p (fair (st .directions) (p .text) (p .kind)) l (λ i h. ap (λ (x : Shape). directedOf x st) (q i h))
+
+pub element-pointed : (t : List ℕ) (st : State) → Pointed t st (elementOf t st)
+unfolding shapeOf directedOf
+element-pointed [] st = nothing refl
+element-pointed (b ∷ t) st = directed (b ∷ t) st (after b t (st .sets) (begun (startIn (st .sets) b) b t (st .sets))) (omega arith)
