@@ -277,3 +277,9 @@ pub element-pointed : (t : List ℕ) (st : State) → Pointed t st (elementOf t 
 unfolding shapeOf directedOf
 element-pointed [] st = nothing refl
 element-pointed (b ∷ t) st = directed (b ∷ t) st (after b t (st .sets) (begun (startIn (st .sets) b) b t (st .sets))) (omega arith)
+
+-- no place lies past the octets
+pub of-place : {t : List ℕ} {st : State} {n o : ℕ} → Pointed t st (Refused n o) → o ≤ length t
+of-place (at-length e) = omega arith
+of-place (at-octet n h e) = omega arith
+of-place (at-start n h) = omega arith

@@ -50,7 +50,7 @@ module _ (st : State) (w : List ℕ) where
       → Right st w (steppedOf p st x)
   unfolding steppedOf
   stepped u d t h (Goes next) e f = read u d t h e
-  stepped u d t h (Stops n) e (stops-fairly f) = refused f
+  stepped u d t h (Stops n) e (stops-fairly f) = refused {n = n} (omega (arith, f .0))
 
   pub right : {x : Shape} → Sound (st .sets) w x → Right st w (directedOf x st)
   unfolding directedOf

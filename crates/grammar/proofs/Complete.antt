@@ -2,7 +2,7 @@
 use Rattle.element.proofs.Names.{ℕ, _+_, _*_, _-_, _/_, _%_, _≤_, arith, _≡_, refl, sym, ap, _∙_, Bool, true, false, cond, _&&_, true≢false, List}
 use Rattle.element.proofs.Names.{_∷_, _++_, eqb, leb, ltb, length, length-append, take-append-seam, eqb-true, lt-ltb, le-ltb, le-leb, eq-eqb, pick}
 use Rattle.element.proofs.Names.{and-left, and-right, from-tests, off, test, cond-by, Side, GL, GR, mayUse, allowed, formOf, setOf, on, get, part, next, Sets}
-use Rattle.element.proofs.Names.{Part, Designates, Gives}
+use Rattle.element.proofs.Names.{Part, Shape, Designates, Gives}
 use Rattle.base.proofs.Bools.{Each, each}
 use Rattle.charset.specs.Charsets.{fitsOf, find}
 use Rattle.charset.proofs.Laws.{allowed-below, left-form}
@@ -17,7 +17,7 @@ use Rattle.grammar.specs.Units.{TextUnit, char, space, control, tab, new
 use Rattle.grammar.specs.Units.{wide, top, shown, octets, designation, codeUsed, good}
 use Rattle.grammar.specs.Grammar.{Shows, Legal}
 use Rattle.grammar.specs.Reading.{unitAt}
-use Rattle.grammar.proofs.Segment.{content}
+use Rattle.grammar.proofs.Segment.{Content, right, wrong, content}
 use Rattle.grammar.proofs.Good.{good-segment}
 
 module _ (s : Sets) where
@@ -107,9 +107,12 @@ module _ (s : Sets) where
         n,
         le-leb (length xs) (length (xs ++ t)) (omega (arith, length-append xs t)),
         take-append-seam xs t,
-        content e (length xs) xs 0 (omega arith),
-        h .content,
       )
+      (by-content (content e (length xs) xs 0 (omega arith)) (h .content))
+    where
+      by-content : {b : Bool} {x : Shape} → Content e (length xs) (textOctets xs) b x → b ≡ true → x ≡ Gives (segmentPart e (length xs) (textOctets xs))
+      by-content right g = refl
+      by-content wrong g = off g
 
 -- ---- the part of a unit
 

@@ -1,12 +1,13 @@
 -- The elements of a string from a place on, one at a time: each has an octet at least and no more than are left, its unit's fields that
 -- mean nothing are 0, a refusal has a number above 0, a state that is fit stays fit, and the elements after it are those of the place
 -- after it (`ahead-from`). What is shown of all elements of a string goes by induction on `Ahead`.
-use Rattle.element.proofs.Names.{ℕ, zero, suc, _+_, _-_, _≤_, arith, _≡_, refl, ap, sym, _∙_, List, ltb, length, ltb-false, from, clash, test, tested}
+use Rattle.element.proofs.Names.{ℕ, zero, suc, _+_, _-_, _≤_, arith, _≡_, refl, ap, sym, _∙_, subst, List, ltb, length, ltb-false, from, clash, test, tested}
 use Rattle.element.proofs.Names.{from-end, from-length, fresh, State, Part, Element, End, Refused, Silent, Found}
 use Rattle.base.proofs.Ladder.{from-from}
 use Rattle.element.specs.Element.{elementOf}
 use Rattle.element.specs.Meant.{MeantPart}
 use Rattle.element.proofs.Sizes.{Sized, Fit, Passed, silent, found, element-size, of-refused, of-passed, of-meant}
+use Rattle.element.proofs.Pointed.{Pointed, element-pointed, of-place}
 use Rattle.grammar.specs.Reading.{Elements, end-at, refused-at, silent-at, found-at, size, elements, elementsOf}
 use Rattle.grammar.proofs.Elements.{next-at, at-nothing, elements-end, elements-refused, elements-passed}
 
@@ -34,13 +35,13 @@ module _ (s : List ℕ) (at : ℕ) (st : State) (e : Element) (is : e ≡ elemen
 
   -- the place of a refusal
   pub refused-within : {n o : ℕ} → e ≡ Refused n o → at + o ≤ length s
-  refused-within k =
-      let g = of-refused (rw k at sized) in
-      test (ltb at (length s)) (λ h. omega (tested, g .1))
+  refused-within {n} {o} k =
+      let g : o ≤ length (from at s) = of-place (subst (Pointed (from at s) st) (sym is ∙ k) (element-pointed (from at s) st)) in
+      test (ltb at (length s)) (λ h. omega (tested, g, from-length s at))
       (λ h. clash (cc (ap (λ (t : List ℕ). elementOf t st) (from-end s at (ltb-false _ _ h)), at-nothing st)))
 
   pub refused-number : {n o : ℕ} → e ≡ Refused n o → 1 ≤ n
-  refused-number k = of-refused (rw k at sized) .0
+  refused-number k = of-refused (rw k at sized)
 
   module _ {x : Element} {k : ℕ} {next : State} (v : Passed x k next) (i : e ≡ x) where
     pub step-passed : Step s at st x k next

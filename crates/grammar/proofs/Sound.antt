@@ -20,7 +20,7 @@ use Rattle.grammar.specs.Units.{TextUnit, char, space, control, tab, new
 use Rattle.grammar.specs.Units.{octets, lead, designation, codeUsed, segment, good}
 use Rattle.grammar.specs.Grammar.{Shows, Legal}
 use Rattle.grammar.specs.Reading.{Octets, unitAt}
-use Rattle.grammar.proofs.Segment.{content}
+use Rattle.grammar.proofs.Segment.{Content, right, wrong, content}
 
 -- octets w that start with a unit on a side, which is that of a part, and go on with t
 pub record Shown (s : Sets) (w : List ℕ) (p : Part) (u : TextUnit) (d : Side) (t : List ℕ) : Type 0 where
@@ -72,7 +72,7 @@ code-used form b n u h =
     test (eqb form 2) (λ e. rw (n, e, le-leb 0x20 (b % 128) h, le-leb (b % 128) 0x7F (omega arith))) (λ e. rw (n, e) (rw e at u))
 
 module _ (s : Sets) where
-  no : {w : List ℕ} {n : ℕ} → Sound s w (Refuses (suc n) 0)
+  no : {w : List ℕ} {n o : ℕ} → Sound s w (Refuses (suc n) o)
   no {n = n} = refuses {n = suc n} (omega arith)
 
   by : {w : List ℕ} {x y : Shape} (b : Bool) → (b ≡ true → Sound s w x) → (b ≡ false → Sound s w y) → Sound s w (pick b x y)
@@ -100,32 +100,30 @@ module _ (s : Sets) where
 
   -- ---- designations
 
-  sound-intermediates : {w : List ℕ} (t : List ℕ) → Sound s w (intermediatesOf t)
+  sound-intermediates : {w : List ℕ} (k : ℕ) (t : List ℕ) → Sound s w (intermediatesOf k t)
   unfolding intermediatesOf
-  sound-intermediates [] = no
-  sound-intermediates (b ∷ t) =
-      by _ (λ _. no) (λ _. by _ (λ _. sound-intermediates t) (λ _. by _ (λ _. no) (λ _. by _ (λ _. no) (λ _. no))))
+  sound-intermediates k [] = no
+  sound-intermediates k (b ∷ t) =
+      by _ (λ _. no) (λ _. by _ (λ _. sound-intermediates (k + 1) t) (λ _. by _ (λ _. no) (λ _. by _ (λ _. no) (λ _. no))))
 
-  sound-named : (form : ℕ) (d : Side) (x : ℕ) (t : List ℕ) → Sound s (lead form d (x ∷ t)) (designatesOf form d (setOf form d x))
+  sound-named : (k form : ℕ) (d : Side) (x : ℕ) (t : List ℕ) → k + 1 ≡ cond (eqb form 3) 4 3
+      → Sound s (lead form d (x ∷ t)) (designatesOf k d (setOf form d x))
   unfolding designatesOf
-  sound-named form d x t =
-      by _
-      (λ e. let n = set-named form d x (ltb-true (setOf form d x) 15 e) in
-      by _ (λ k. designates d _ t (change form d x t n true k)) (λ k. designates d _ t (change form d x t n false k)))
-      (λ _. no)
+  sound-named k form d x t h =
+      by _ (λ e. rw h (designates d _ t (change form d x t (set-named form d x (ltb-true (setOf form d x) 15 e)) (eqb form 3) refl))) (λ _. no)
 
-  sound-designation : (form : ℕ) (d : Side) (t : List ℕ) → Sound s (lead form d t) (designationOf form d t)
+  sound-designation : (k form : ℕ) (d : Side) (t : List ℕ) → k + 1 ≡ cond (eqb form 3) 4 3 → Sound s (lead form d t) (designationOf k form d t)
   unfolding designationOf next
-  sound-designation form d [] = no
-  sound-designation form d (x ∷ t) =
+  sound-designation k form d [] h = no
+  sound-designation k form d (x ∷ t) h =
       by _ (λ _. no)
-      (λ _. by _ (λ _. sound-intermediates t) (λ _. by _ (λ _. no) (λ _. by _ (λ _. sound-named form d x t) (λ _. no))))
+      (λ _. by _ (λ _. sound-intermediates (k + 1) t) (λ _. by _ (λ _. no) (λ _. by _ (λ _. sound-named k form d x t h) (λ _. no))))
 
   sound-multi-octet : (t : List ℕ) → Sound s (0x1B ∷ 0x24 ∷ t) (multiOctetOf t)
   unfolding multiOctetOf next
   sound-multi-octet [] = no
   sound-multi-octet (x ∷ t) =
-      is (λ x. 0x1B ∷ 0x24 ∷ x ∷ t) x 0x28 (sound-designation 3 GL t) (is (λ x. 0x1B ∷ 0x24 ∷ x ∷ t) x 0x29 (sound-designation 3 GR t) no)
+      is (λ x. 0x1B ∷ 0x24 ∷ x ∷ t) x 0x28 (sound-designation 3 3 GL t refl) (is (λ x. 0x1B ∷ 0x24 ∷ x ∷ t) x 0x29 (sound-designation 3 3 GR t refl) no)
 
   -- ---- extended segments
 
@@ -159,9 +157,13 @@ module _ (s : Sets) where
     unfolding bodyOf
     sound-body =
         by (leb n (length t))
-        (λ q. let h = leb-true n _ q in
-        rw (content e n (take n t) 0 (omega (arith, length-take-le n t h))) (by (segment e 0 (take n t)) (λ g. held h g) (λ _. no)))
+        (λ q. let h = leb-true n _ q in by-content h (content e n (take n t) 0 (omega (arith, length-take-le n t h))) refl)
         (λ _. no)
+      where
+        by-content : n ≤ length t → {b : Bool} {x : Shape} → Content e n (textOctets (take n t)) b x → segment e 0 (take n t) ≡ b
+            → Sound s (0x1B ∷ 0x25 ∷ 0x2F ∷ e ∷ m ∷ l ∷ t) x
+        by-content h right g = held h g
+        by-content h wrong g = no
 
   sound-lengths : (e : ℕ) (t : List ℕ) → 0x30 ≤ e → e < 0x35 → Octets t → Sound s (0x1B ∷ 0x25 ∷ 0x2F ∷ e ∷ t) (lengthsOf e t)
   unfolding lengthsOf next
@@ -185,9 +187,9 @@ module _ (s : Sets) where
   unfolding escapeOf next
   sound-escape [] o = no
   sound-escape (x ∷ t) o =
-      at 0x28 (sound-designation 1 GL t)
-      (at 0x29 (sound-designation 1 GR t)
-      (at 0x2D (sound-designation 2 GR t)
+      at 0x28 (sound-designation 2 1 GL t refl)
+      (at 0x29 (sound-designation 2 1 GR t refl)
+      (at 0x2D (sound-designation 2 2 GR t refl)
       (at 0x24 (sound-multi-octet t) (at 0x25 (sound-extended t (λ i. o (suc i))) (by _ (λ _. no) (λ _. no))))))
     where
       at : {a b : Shape} (n : ℕ) → Sound s (0x1B ∷ n ∷ t) a → Sound s (0x1B ∷ x ∷ t) b → Sound s (0x1B ∷ x ∷ t) (pick (eqb x n) a b)
