@@ -43,20 +43,13 @@ module _ (s : List ℕ) (at : ℕ) where
 -- ---- the reader's element
 
 module _ (form : ℕ) (side : Side) (last : ℕ) (named : setOf form side last < no-set) where
-  final-octet : (t : List ℕ) (r : Shape) → r ≡ designatesOf form side (setOf form side last) → r ≡ designationOf form side (last ∷ t)
-  unfolding designationOf next
-  final-octet t r e =
+  final-octet : (k : ℕ) (t : List ℕ) → Designates (k + 1) side (setOf form side last) ≡ designationOf k form side (last ∷ t)
+  unfolding designationOf designatesOf next
+  final-octet k t =
       let h = final-range form side last named in
       on-ge last 0x21 _ _ _ (omega arith)
-      (on-ge last 0x24 _ _ _ (omega arith) (on-ge last 0x40 _ _ _ (h .0) (on-lt last 0x7F _ _ _ (h .1) e)))
-
-  three-octets : (form ≡ form-94x94 → ⊥) → (t : List ℕ) → Designates 3 side (setOf form side last) ≡ designationOf form side (last ∷ t)
-  unfolding designatesOf
-  three-octets n t = final-octet t _ (on-lt (setOf form side last) no-set _ _ _ named (on-ne form form-94x94 _ _ _ n refl))
-
-  four-octets : form ≡ form-94x94 → (t : List ℕ) → Designates 4 side (setOf form side last) ≡ designationOf form side (last ∷ t)
-  unfolding designatesOf
-  four-octets n t = final-octet t _ (on-lt (setOf form side last) no-set _ _ _ named (on-eq form form-94x94 _ _ _ n refl))
+      (on-ge last 0x24 _ _ _ (omega arith)
+      (on-ge last 0x40 _ _ _ (h .0) (on-lt last 0x7F _ _ _ (h .1) (on-lt (setOf form side last) no-set _ _ _ named refl))))
 
 -- a designation, where it names a set, is the shape of the octets t
 data Is (t : List ℕ) (s : Sets) : Designation → Type 0 where
@@ -69,20 +62,20 @@ module _ (t : List ℕ) (s : Sets) where
   multi-octet : (c d : ℕ) → Is (0x1B ∷ 0x24 ∷ c ∷ d ∷ t) s (quick.multiOctetAt c d)
   unfolding quick.multiOctetAt shapeOf startOf begunBy escapeOf multiOctetOf next pick
   multi-octet c d =
-      pick-by (Is _ s) (eqb c 0x28) (λ e. rw (eqb-true c 0x28 e) (is {d = quick.byFinalOf 4 form-94x94 GL d} (λ h. four-octets form-94x94 GL d h refl t)))
+      pick-by (Is _ s) (eqb c 0x28) (λ e. rw (eqb-true c 0x28 e) (is {d = quick.byFinalOf 4 form-94x94 GL d} (λ h. final-octet form-94x94 GL d h 3 t)))
       (λ _. pick-by (Is _ s) (eqb c 0x29) (λ e. rw (eqb-true c 0x29 e)
-      (is {d = quick.byFinalOf 4 form-94x94 GR d} (λ h. four-octets form-94x94 GR d h refl t))) (λ _. no))
+      (is {d = quick.byFinalOf 4 form-94x94 GR d} (λ h. final-octet form-94x94 GR d h 3 t))) (λ _. no))
 
   sequence : (b c d : ℕ) → Is (0x1B ∷ b ∷ c ∷ d ∷ t) s (quick.sequenceOf b c d)
   unfolding quick.sequenceOf shapeOf startOf begunBy escapeOf next pick
   sequence b c d =
       pick-by (Is _ s) (eqb b 0x24) (λ e. rw (eqb-true b 0x24 e) (multi-octet c d))
       (λ _. pick-by (Is _ s) (eqb b 0x28) (λ e. rw (eqb-true b 0x28 e)
-      (is {d = quick.byFinalOf 3 form-94 GL c} (λ h. three-octets form-94 GL c h (λ q. omega arith) (d ∷ t))))
+      (is {d = quick.byFinalOf 3 form-94 GL c} (λ h. final-octet form-94 GL c h 2 (d ∷ t))))
       (λ _. pick-by (Is _ s) (eqb b 0x29) (λ e. rw (eqb-true b 0x29 e)
-      (is {d = quick.byFinalOf 3 form-94 GR c} (λ h. three-octets form-94 GR c h (λ q. omega arith) (d ∷ t))))
+      (is {d = quick.byFinalOf 3 form-94 GR c} (λ h. final-octet form-94 GR c h 2 (d ∷ t))))
       (λ _. pick-by (Is _ s) (eqb b 0x2D) (λ e. rw (eqb-true b 0x2D e)
-      (is {d = quick.byFinalOf 3 form-96 GR c} (λ h. three-octets form-96 GR c h (λ q. omega arith) (d ∷ t)))) (λ _. no))))
+      (is {d = quick.byFinalOf 3 form-96 GR c} (λ h. final-octet form-96 GR c h 2 (d ∷ t)))) (λ _. no))))
 
 shape : (t : List ℕ) (s : Sets) → Is t s (quick.designationAt t)
 unfolding quick.designationAt

@@ -1,18 +1,17 @@
 -- The refusals of a record, case by case: by its kind, of a character, of a segment.
-use Rattle.element.proofs.Names.{ℕ, _+_, _-_, _≤_, _<_, arith, _≡_, refl, ap, _∙_, Bool, true, false, cond, List, some, leb, length, take, drop}
+use Rattle.element.proofs.Names.{ℕ, _+_, _-_, _≤_, _<_, arith, _≡_, refl, ap, sym, subst, _∙_, Bool, true, false, cond, List, some, leb, length, take, drop}
 use Rattle.element.proofs.Names.{length-take, length-drop, ne-eqb, le-leb, lt-leb, le-ltb, lt-ltb, clash, test, on-gt, pick, UnitRecord, no-set, formOf}
-use Rattle.element.proofs.Names.{stepOf, Directions, Step, Stops, Part, Shape, Gives}
+use Rattle.element.proofs.Names.{stepOf, Directions, Step, Stops, Part, Shape, Refuses, Gives}
 use Rattle.base.proofs.Bools.{_&_, each}
 use Rattle.base.proofs.Ladder.{on-le}
 use Rattle.base.specs.Kind as kind
 use Rattle.base.specs.Refusal as refusal
-use Rattle.segment.specs.declared.Name.{Name}
-use Rattle.segment.specs.Segment.{segmentPart, nameOf, contentOf}
+use Rattle.segment.specs.declared.Name.{Name, the-variants.Ends, the-variants.Bad, the-variants.Endless}
+use Rattle.segment.specs.Segment.{segmentPart, nameOf, wholeOf, contentOf}
 use Rattle.state.specs.Directions.{countsAsText}
-use Rattle.state.specs.Elements.{refused}
 use Rattle.grammar.specs.Units.{char, ext, unitOf, textOctets, codeUsed, segment, good}
 use Rattle.grammar.specs.Reading.{direct}
-use Rattle.grammar.proofs.Segment.{content}
+use Rattle.grammar.proofs.Segment.{Content, right, wrong, content}
 use Rattle.grammar.specs.Records.{readable, unitRead}
 use Rattle.shortest.specs.Records.{fault}
 
@@ -86,25 +85,48 @@ module _ (o : List ℕ) (e s n : ℕ) (d : Directions) where
       unfolding good
       part-many m = inside _ (rw (le-leb 0x30 e l, le-leb e 0x34 h, lt-leb (length part) 16383 (omega (arith, count))))
 
-      -- x is what the segment's content is found to be, by where the name in its octets ends
-      module _ (m : n ≤ 16383) (x : Shape) (k : Name) (ek : k ≡ nameOf (take (s + n - s) (drop s o)) 0) (ex : x ≡ contentOf e n k) where
-        by-content : x ≡ pick (segment e 0 part) (Gives (segmentPart e n (textOctets part))) (refused refusal.bad-segment)
+      -- by where the name in the segment's octets ends
+      module _ (m : n ≤ 16383) (name : Name) (is : name ≡ nameOf (take (s + n - s) (drop s o)) 0) where
+        by-content : Content e n (textOctets part) (segment e 0 part) (contentOf e n name)
         by-content =
             let back : s + n - s ≡ n = omega arith in
-            ex ∙ ap (contentOf e n) (ek ∙ ap (λ (y : ℕ). nameOf (take y (drop s o)) 0) back) ∙ content e n part 0 (omega (arith, count))
+            subst (λ (x : Name). Content e n (textOctets part) (segment e 0 part) (contentOf e n x))
+            (sym (is ∙ ap (λ (y : ℕ). nameOf (take y (drop s o)) 0) back)) (content e n part 0 (omega (arith, count)))
 
         judged : (b : Bool) → segment e 0 part ≡ b → cond b (direct d (ext e part)) (Stops refusal.bad-segment) ≡ partFault
         unfolding good
         judged b q = inside _ (rw (le-leb 0x30 e l, le-leb e 0x34 h, le-leb (length part) 16383 (omega (arith, count)), q))
 
-        pub part-found : (p : Part) → x ≡ Gives p → stepOf (p .text) kind.segment d ≡ partFault
-        unfolding pick
-        part-found p q =
-            test (segment e 0 part)
-            (λ b. let f : p ≡ segmentPart e n (textOctets part) = cc (rw b at by-content) in
-            ap (λ (y : Part). stepOf (y .text) kind.segment d) f ∙ judged true b)
-            (λ b. clash (cc (rw b at by-content)))
+        refused : (p : ℕ) → contentOf e n name ≡ Refuses refusal.bad-segment p → Stops refusal.bad-segment ≡ partFault
+        refused p r = by by-content r refl
+          where
+            by : {b : Bool} {x : Shape} → Content e n (textOctets part) b x → x ≡ Refuses refusal.bad-segment p → segment e 0 part ≡ b
+                → Stops refusal.bad-segment ≡ partFault
+            by right q g = clash (cc q)
+            by wrong q g = judged false g
 
-        pub part-bad : ((p : Part) → x ≡ Gives p → ⊥) → Stops refusal.bad-segment ≡ partFault
-        unfolding pick
-        part-bad never = test (segment e 0 part) (λ b. absurd (never _ (rw b at by-content))) (judged false)
+        -- a name that ends, and a text of whole characters or not
+        module _ {k : ℕ} (i : name ≡ Ends k) where
+          pub part-found : wholeOf e (n - k - 1) ≡ true → stepOf (countsAsText kind.segment (n - k - 1)) kind.segment d ≡ partFault
+          unfolding contentOf pick
+          part-found w = by by-content (rw (i, w)) refl
+            where
+              by : {b : Bool} {x : Shape} → Content e n (textOctets part) b x → x ≡ Gives (segmentPart e n (n - k - 1)) → segment e 0 part ≡ b
+                  → stepOf (countsAsText kind.segment (n - k - 1)) kind.segment d ≡ partFault
+              by right q g =
+                  let f : segmentPart e n (n - k - 1) ≡ segmentPart e n (textOctets part) = cc q in
+                  ap (λ (y : Part). stepOf (y .text) kind.segment d) f ∙ judged true g
+              by wrong q g = clash (cc q)
+
+          pub part-ragged : wholeOf e (n - k - 1) ≡ false → Stops refusal.bad-segment ≡ partFault
+          unfolding contentOf pick
+          part-ragged w = refused (5 + n) (rw (i, w))
+
+        pub part-bad : ((k : ℕ) → name ≡ Ends k → ⊥) → Stops refusal.bad-segment ≡ partFault
+        unfolding contentOf
+        part-bad never = by name refl
+          where
+            by : (x : Name) → name ≡ x → Stops refusal.bad-segment ≡ partFault
+            by (Ends k) q = absurd (never k q)
+            by (Bad k) q = refused (6 + k) (rw q)
+            by Endless q = refused (5 + n) (rw q)

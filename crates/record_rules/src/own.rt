@@ -16,12 +16,12 @@ use charset::FORM_94X94;
 use charset::FORM_96;
 use charset::NO_SET;
 use charset::form_of;
-use segment::content;
+use segment::Name;
 use segment::name_end;
+use segment::whole;
 use state::directions::Directions;
 use state::directions::Step;
 use state::directions::counts_as_text;
-use state::elements::Shape;
 
 // A code of one octet that a set of 94 uses.
 fn graphic(code: u16) -> bool
@@ -87,9 +87,13 @@ pub fn segment(d: u16, start: usize, n: usize, segments: &[u8], directions: Dire
         return Step::Stops(refusal::BAD_SEGMENT);
     }
     let name = name_end(&segments[start..start + n]);
-    let shape = content(d as u8, n, name);
-    let Shape::Gives(part) = shape else {
+    let Name::Ends(k) = name else {
         return Step::Stops(refusal::BAD_SEGMENT);
     };
-    directions.step(part.text, kind::SEGMENT)
+    let size = n - k - 1;
+    if whole(d as u8, size) {
+        let text = counts_as_text(kind::SEGMENT, size);
+        return directions.step(text, kind::SEGMENT);
+    }
+    Step::Stops(refusal::BAD_SEGMENT)
 }

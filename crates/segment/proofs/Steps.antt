@@ -54,12 +54,13 @@ name-within (b ∷ t) k n h =
     pick-by (Within n) (eqb b 2) (λ _. pick-by (Within n) (eqb k 0) (λ _. bad (omega arith)) (λ _. ends (omega arith)))
     (λ _. pick-by (Within n) (nameOctetOf b) (λ _. name-within t (k + 1) n (omega arith)) (λ _. bad (omega arith)))
 
-module _ (s : List ℕ) (n : ℕ) (name : Name) (h : n ≤ length s - 6) (is : name ≡ nameOf (take (6 + n - 6) (drop 6 s)) 0) where
+-- of n octets that are lent as a part of s
+module _ (s : List ℕ) (at n : ℕ) (name : Name) (h : n ≤ length s - at) (is : name ≡ nameOf (take (at + n - at) (drop at s)) 0) where
   within : Within n name
   within =
-      let e : nameOf (take (6 + n - 6) (drop 6 s)) 0 ≡ nameOf (take n (drop 6 s)) 0 = rw (add-sub-cancel-left 6 n) in
-      let z : length (take n (drop 6 s)) ≡ n = length-take-le n (drop 6 s) (rw (length-drop 6 s) h) in
-      subst (Within n) (sym (is ∙ e)) (name-within (take n (drop 6 s)) 0 n (omega (arith, z)))
+      let e : nameOf (take (at + n - at) (drop at s)) 0 ≡ nameOf (take n (drop at s)) 0 = rw (add-sub-cancel-left at n) in
+      let z : length (take n (drop at s)) ≡ n = length-take-le n (drop at s) (rw (length-drop at s) h) in
+      subst (Within n) (sym (is ∙ e)) (name-within (take n (drop at s)) 0 n (omega (arith, z)))
 
   pub ends-within : {k : ℕ} → name ≡ Ends k → k < n
   ends-within e = by (subst (Within n) e within)

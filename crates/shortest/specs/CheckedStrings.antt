@@ -82,14 +82,38 @@ refusals =
     ∷ refusedString (0x9B ∷ 0x31 ∷ 0x5D ∷ 0x9B ∷ 0x5D ∷ 0x41 ∷ []) refusal.direction 5
     ∷ refusedString (segmentWithText ++ beginMark) refusal.direction 10
     ∷ refusedString (beginMark ++ revertMark ++ segmentWithText) refusal.direction 5
-    ∷ refusedString (beginMark ++ revertMark ++ badSegment) refusal.bad-segment 5
-    ∷ refusedString badSegment refusal.bad-segment 0
-    ∷ refusedString (0x1B ∷ 0x24 ∷ 0x42 ∷ []) refusal.unknown 0
-    ∷ refusedString (0x1B ∷ 0x28 ∷ []) refusal.cut 0
-    ∷ refusedString (0x1B ∷ 0x29 ∷ 0x42 ∷ []) refusal.not-approved 0
-    ∷ refusedString (0x1B ∷ 0x28 ∷ 0x21 ∷ 0x42 ∷ []) refusal.not-approved 0
+    ∷ refusedString (beginMark ++ revertMark ++ badSegment) refusal.bad-segment 14
+    ∷ refusedString badSegment refusal.bad-segment 9
+    ∷ refusedString (0x1B ∷ 0x24 ∷ 0x42 ∷ []) refusal.unknown 2
+    ∷ refusedString (0x1B ∷ 0x28 ∷ []) refusal.cut 2
+    ∷ refusedString (0x1B ∷ 0x29 ∷ 0x42 ∷ []) refusal.not-approved 2
+    ∷ refusedString (0x1B ∷ 0x28 ∷ 0x21 ∷ 0x42 ∷ []) refusal.not-approved 3
     ∷ refusedString (0x1B ∷ 0x24 ∷ 0x28 ∷ 0x42 ∷ 0x20 ∷ []) refusal.unused 4
-    ∷ refusedString (0x1B ∷ 0x24 ∷ 0x28 ∷ 0x42 ∷ 0x30 ∷ []) refusal.cut 4
+    ∷ refusedString (0x1B ∷ 0x24 ∷ 0x28 ∷ 0x42 ∷ 0x30 ∷ []) refusal.cut 5
+    ∷ []
+
+-- what each refusal points at, case by case (rule N2): a segment after 1B 25 2F d, where `61` may be in a name and `20` may not
+abbrev segment : ℕ → List ℕ → List ℕ
+segment d t = 0x1B ∷ 0x25 ∷ 0x2F ∷ d ∷ t
+
+abbrev pub places : List RefusedString
+places =
+    refusedString (0x1B ∷ 0x24 ∷ 0x28 ∷ 0x42 ∷ 0x30 ∷ 0xA1 ∷ []) refusal.unused 5
+    ∷ refusedString (0x1B ∷ 0x41 ∷ []) refusal.unknown 1
+    ∷ refusedString (0x1B ∷ 0x28 ∷ 0x24 ∷ 0x42 ∷ []) refusal.unknown 2
+    ∷ refusedString (0x1B ∷ 0x28 ∷ 0x21 ∷ 0x20 ∷ 0x3F ∷ []) refusal.unknown 4
+    ∷ refusedString (segment 0x35 []) refusal.unknown 3
+    ∷ refusedString (0x9B ∷ 0x31 ∷ 0x31 ∷ []) refusal.unknown 2
+    ∷ refusedString (0x1B ∷ 0x24 ∷ 0x29 ∷ 0x21 ∷ 0x20 ∷ 0x42 ∷ []) refusal.not-approved 5
+    ∷ refusedString (0x41 ∷ 0x1B ∷ 0x23 ∷ []) refusal.version 2
+    ∷ refusedString (segment 0x31 (0x7F ∷ 0x7F ∷ [])) refusal.bad-segment 4
+    ∷ refusedString (segment 0x31 (0x80 ∷ 0x7F ∷ [])) refusal.bad-segment 5
+    ∷ refusedString (segment 0x31 (0x80 ∷ 0x80 ∷ [])) refusal.bad-segment 5
+    ∷ refusedString (segment 0x31 (0x80 ∷ 0x82 ∷ 0x61 ∷ 0x61 ∷ 0x41 ∷ [])) refusal.bad-segment 7
+    ∷ refusedString (segment 0x31 (0x80 ∷ 0x83 ∷ 0x61 ∷ 0x20 ∷ 0x61 ∷ [])) refusal.bad-segment 7
+    ∷ refusedString (segment 0x32 (0x80 ∷ 0x84 ∷ 0x61 ∷ 0x20 ∷ 0x02 ∷ 0xFF ∷ [])) refusal.bad-segment 7
+    ∷ refusedString (segment 0x32 (0x80 ∷ 0x82 ∷ 0x02 ∷ 0xFF ∷ [])) refusal.bad-segment 6
+    ∷ refusedString (segment 0x31 (0x80 ∷ 0x84 ∷ 0x20 ∷ 0x02 ∷ [])) refusal.cut 8
     ∷ []
 
 -- what the definitions say of an example: the string's answer, its reading, and its units' writing

@@ -1,6 +1,7 @@
 -- `record_rules::own::segment` meets its contract, refusal by refusal.
-use Rattle.element.proofs.Names.{arith, _∙_, ⊎-elim}
-use Rattle.record_rules.proofs.Refusals.{part-outside, part-low, part-high, part-many, part-found, part-bad}
+use Rattle.element.proofs.Names.{arith, sym, _∙_, ⊎-elim}
+use Rattle.segment.proofs.Steps.{ends-within}
+use Rattle.record_rules.proofs.Refusals.{part-outside, part-low, part-high, part-many, part-found, part-ragged, part-bad}
 use Rattle.record_rules.proofs.own.segment.Statement.{statement}
 use Rattle.record_rules.proofs.own.segment.Tie as tie
 
@@ -19,12 +20,33 @@ segment-spec =
     (search arith)
     (search arith)
     (search arith)
-    (search arith)
-    (search arith)
-    (λ c. let few = c .before .before .before .before in
+    (λ c. let few = c .before .before .before in
     part-bad (few .before .before .before .before .before .before .args .segments .now) _ _ _ _ (few .before .before .before .before .if1 .left)
     (few .before .before .before .if2 .left) (few .before .before .if3 .left) (few .before .if4 .left) (few .if5 .left)
-    (c .before .content .result) _ (c .before .before .name-end .ensures) (c .before .content .ensures)
-    (λ p q. ⊎-elim (λ z. omega (arith, z)) (⊎-elim (λ z. omega (arith, z)) (λ z. omega (arith, z))) (rw q at (c .match .keys2))))
+    _ (c .before .name-end .ensures)
+    (λ k q. ⊎-elim (λ z. omega (arith, z)) (λ z. omega (arith, z)) (rw q at (c .match .keys2))))
+    (λ c. let all = c .before .before .before in
+    let few = all .before .before in
+    let h = ends-within (few .before .before .before .before .before .before .args .segments .now) _ _ _ (few .before .before .before .if2 .left)
+    (all .name-end .ensures) (c .before .name .given .1) in
+    omega (arith, h))
+    (λ c. let all = c .before .before .before in
+    let few = all .before .before in
+    let h = ends-within (few .before .before .before .before .before .before .args .segments .now) _ _ _ (few .before .before .before .if2 .left)
+    (all .name-end .ensures) (c .before .name .given .1) in
+    omega (arith, h))
     (search arith)
-    (λ c. c .step .ensures ∙ search part-found))
+    (search arith)
+    (search arith)
+    (search arith)
+    (λ c. let all = c .before .before .before .before .before .before .before in
+    let few = all .before .before in
+    rw (c .before .counts-as-text .ensures) at (c .step .ensures) ∙
+    part-found (few .before .before .before .before .before .before .args .segments .now) _ _ _ _ (few .before .before .before .before .if1 .left)
+    (few .before .before .before .if2 .left) (few .before .before .if3 .left) (few .before .if4 .left) (few .if5 .left) _ (all .name-end .ensures)
+    (c .before .before .before .before .before .name .given .1) (sym (c .before .before .before .whole .ensures) ∙ c .before .before .if6 .taken))
+    (λ c. let all = c .before .before .before .before .before in
+    let few = all .before .before in
+    part-ragged (few .before .before .before .before .before .before .args .segments .now) _ _ _ _ (few .before .before .before .before .if1 .left)
+    (few .before .before .before .if2 .left) (few .before .before .if3 .left) (few .before .if4 .left) (few .if5 .left) _ (all .name-end .ensures)
+    (c .before .before .before .name .given .1) (sym (c .before .whole .ensures) ∙ c .if6 .left)))
