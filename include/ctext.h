@@ -28,7 +28,7 @@
 #include <stddef.h>
 #include <stdint.h>
 
-#define CTEXT_VERSION "2.1"
+#define CTEXT_VERSION "3.0"
 
 /* The most octets of a string, units of a list, octets of an extended
    segment, and directions open at once. */
