@@ -106,7 +106,8 @@ static void print_note(const uint8_t *note, size_t n)
 
 /* A reader hands out the units one by one, also those of a refused note that
    stand before the offending element. Its end is told by given alone: beside a
-   unit the answer is all 0, which would be taken for accepted. */
+   unit the answer is all 0, which would be taken for accepted. After a refusal the
+   reader stands where the offending element starts, and the answer has the octet. */
 static void print_steps(const uint8_t *note, size_t n)
 {
     ctext_step step = ctext_next(note, n, ctext_open());
@@ -119,7 +120,8 @@ static void print_steps(const uint8_t *note, size_t n)
     if (step.answer.number == CTEXT_ACCEPTED)
         printf(" the end\n");
     else
-        printf(" refused %d at %zu\n", step.answer.number, step.answer.place);
+        printf(" refused %d at %zu, in the element from %zu on\n", step.answer.number, step.answer.place,
+               step.reader.place);
 }
 
 static void show(const char *name, const uint8_t *note, size_t n)

@@ -28,7 +28,7 @@
 #include <stddef.h>
 #include <stdint.h>
 
-#define CTEXT_VERSION "2.1"
+#define CTEXT_VERSION "3.0"
 
 /* The most octets of a string, units of a list, octets of an extended
    segment, and directions open at once. */
@@ -55,9 +55,9 @@ extern "C" {
 
 /* number  CTEXT_ACCEPTED, or why the input is refused (below)
    place   accepted: the input's length, in octets or units;
-           refused: where the offending element starts in the string, the
-           offending octet of a resource form, or the index of the offending
-           unit; 0 for 1, 10, 12, and for a run or a reader that does not exist
+           refused: the offending octet of the string (below) or of a resource
+           form, or the index of the offending unit; 0 for 1, 10, 12, and for a
+           run or a reader that does not exist
    count   accepted: the units read, the octets written or shown, or the runs
            stored; refused: 0, but under CTEXT_NO_ROOM the records or octets
            needed */
@@ -85,6 +85,24 @@ enum ctext_refusal {
     CTEXT_BAD_FORM = 13             /* backslash that begins no escape, raw newline or raw 00
                                        in a resource form */
 };
+
+/* The place of a refusal of a string, in octets from 0, by its number:
+   2     the string's length
+   3     the octet that is not used there: the first of its element, or the second
+         of a character of two octets
+   4     the first octet with which the sequence is unknown
+   5     the final octet of the designation
+   6     the 23
+   7     of an extended segment 1B 25 2F d M L and n octets, the first of these that
+         there is: M or L, where it is under 80; the first bad octet of the name
+         (without an 02 all n octets are name); the 02 of an empty name; the last of
+         the n octets, or L where n is 0, where there is no 02 or where the text's
+         length is wrong
+   8, 9  where the element starts
+   A place of 3 to 7 lies inside the string, and inside the offending element. The
+   octets before it, taken alone, are accepted, or only cut: CTEXT_CUT at their
+   length. Where the offending element starts, ctext_next says. In 1.x and 2.x the
+   place was that start for all of these; the numbers are the same. */
 
 /* The direction rule, of strings and of lists: where there is a direction mark,
    all text stands within directions. Text is characters, spaces, and extended
@@ -213,8 +231,8 @@ uint8_t ctext_set_of(uint8_t form, uint8_t side, uint8_t final_octet);
 /* ---- Reading a whole string -------------------------------------------- */
 
 /* Whether the n octets at s are accepted: 0, n and the number of units. Else
-   CTEXT_TOO_LONG, or the refusal of the first offending element. Reads s,
-   touches nothing. */
+   CTEXT_TOO_LONG, or the refusal of the first offending element, whose place is
+   the offending octet (Answers, above). Reads s, touches nothing. */
 ctext_answer ctext_check(const uint8_t *s, size_t n);
 
 /* The units of the n octets at s. The caller lends room records at units; n
@@ -402,8 +420,12 @@ typedef struct ctext_reader {
 } ctext_reader;
 
 /* given 1: unit is the next unit, and reader stands after it; answer is all 0.
-   given 0: there is none, answer says why, and reader stands where it stood
-   (marked and texted written as 0 or 1); unit is all 0.
+   given 0: there is none, answer says why, and unit is all 0. At the end, and for
+   2 to 9, reader stands past the designations after the last unit: at the string's
+   end, or at the start of the element that is refused, so that reader.place is
+   that start and answer.place the offending octet, and its sets are those in force
+   there. (In 1.x and 2.x it stayed after the last unit.) For 1 and 11 it stands
+   where it stood. All else of it is as it was, marked and texted written as 0 or 1.
    The end is told by given alone: beside a unit the answer's number is 0 too,
    which is CTEXT_ACCEPTED. */
 typedef struct ctext_step {
@@ -430,8 +452,7 @@ ctext_reader ctext_open(void);
        .. step.answer says why there is no further unit ..
 
    That costs what reading the string once does. At its end a reader stays
-   where it is: each further call passes the designations after the last unit
-   again, or looks at the offending element again.
+   where it is, and each further call looks at the offending element again.
 
    A reader made by hand is read on by the rules from where it stands, and its
    count goes on from its own; one whose place lies past the string, with a set

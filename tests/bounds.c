@@ -3,10 +3,11 @@
 
    All strings of up to three elements out of a table are read, shown, stepped
    over and written, and all of up to five octets out of another are put into
-   their resource form and read as one. What the direction rule says of extended
-   segments is tried on a table of strings, lists and readers, and the table of
-   sets is held against one of its own. What is lent is filled with a pattern or
-   left as malloc gives it, and what must stay is looked at afterwards. */
+   their resource form and read as one. The places of refusals, and where a reader
+   then stands, are those of a table of strings. What the direction rule says of
+   extended segments is tried on a table of strings, lists and readers, and the
+   table of sets is held against one of its own. What is lent is filled with a
+   pattern or left as malloc gives it, and what must stay is looked at afterwards. */
 
 #include <stdio.h>
 #include <stdlib.h>
@@ -32,7 +33,7 @@ static const char *const ELEMENTS[] = {
 /* What escapes are made of and for, and others; resource forms are tried over it. */
 static const uint8_t LETTERS[] = { '\\', 'n', '0', 0x0A, 0x00, 'A', 0xE9 };
 
-static unsigned long failures, strings, accepted, forms, designations;
+static unsigned long failures, strings, accepted, forms, designations, places;
 
 static void expect(int holds, const char *what, const uint8_t *s, size_t n)
 {
@@ -81,6 +82,11 @@ static int same_answer(ctext_answer a, ctext_answer b)
     return a.number == b.number && a.place == b.place && a.count == b.count;
 }
 
+static int is_answer(ctext_answer a, unsigned number, size_t place, size_t count)
+{
+    return a.number == number && a.place == place && a.count == count;
+}
+
 static int same_unit(const ctext_unit *a, const ctext_unit *b)
 {
     return a->kind == b->kind && a->set == b->set && a->code == b->code && a->start == b->start
@@ -97,10 +103,40 @@ static int untouched(const void *memory, size_t octets)
     return 1;
 }
 
+static int same_reader(ctext_reader a, ctext_reader b)
+{
+    return a.levels == b.levels && a.place == b.place && a.count == b.count && a.gl == b.gl
+        && a.gr == b.gr && a.depth == b.depth && a.marked == b.marked && a.texted == b.texted;
+}
+
+/* Whether the octets before a place, taken alone, are accepted, or only cut. */
+static int only_cut(const uint8_t *s, size_t place)
+{
+    ctext_answer a = ctext_check(s, place);
+    return a.place == place && (a.number == CTEXT_ACCEPTED || a.number == CTEXT_CUT);
+}
+
+/* Where a reader of so many units stands that gives no further one: at the end, or
+   at the start of an element that is refused, in which the place of the refusal
+   lies. What is before the element is accepted. */
+static void standing(const uint8_t *s, size_t n, ctext_reader r, size_t given, ctext_answer check)
+{
+    int holds = r.place == check.place && check.place < n; /* 8 and 9 */
+    if (check.number == CTEXT_ACCEPTED)
+        holds = r.place == n && check.place == n;
+    else if (check.number == CTEXT_CUT)
+        holds = r.place < n && check.place == n;
+    else if (check.number <= CTEXT_BAD_SEGMENT)
+        holds = r.place <= check.place && check.place < n && only_cut(s, check.place);
+    expect(holds, "where a reader stands at its end, and the place", s, n);
+    expect(r.count == given && r.place <= n && is_answer(ctext_check(s, r.place), CTEXT_ACCEPTED, r.place, given),
+           "what is before the place where a reader stands", s, n);
+}
+
 /* The units of ctext_next are those of ctext_read, and so is the answer. */
 static void steps(const uint8_t *s, size_t n, const ctext_unit *units, ctext_answer check)
 {
-    ctext_step step = ctext_next(s, n, ctext_open());
+    ctext_step step = ctext_next(s, n, ctext_open()), again;
     size_t given = 0;
     while (step.given && given < n) {
         if (check.number == CTEXT_ACCEPTED && given < check.count)
@@ -110,8 +146,10 @@ static void steps(const uint8_t *s, size_t n, const ctext_unit *units, ctext_ans
     }
     expect(!step.given && same_answer(step.answer, check), "the answer of a step", s, n);
     expect(check.number != CTEXT_ACCEPTED || given == check.count, "the number of steps", s, n);
-    step = ctext_next(s, n, step.reader);
-    expect(!step.given && same_answer(step.answer, check), "the answer repeated", s, n);
+    standing(s, n, step.reader, given, check);
+    again = ctext_next(s, n, step.reader);
+    expect(!again.given && same_answer(again.answer, check) && same_reader(again.reader, step.reader),
+           "the answer repeated", s, n);
 }
 
 static int same_run(ctext_run_bounds a, ctext_run_bounds b)
@@ -209,8 +247,8 @@ static void runs(const uint8_t *s, size_t n, const ctext_unit *units, ctext_answ
         if (run.answer.number != CTEXT_ACCEPTED) {
             expect(run.start == run.end && run.set == 0 && run.width == 0 && run.direction == 0,
                    "the part beside a refusal", s, n);
-            expect(run.answer.number
-                       == (check.number == CTEXT_ACCEPTED ? CTEXT_BAD_UNIT : check.number),
+            expect(check.number == CTEXT_ACCEPTED ? is_answer(run.answer, CTEXT_BAD_UNIT, 0, 0)
+                                                  : same_answer(run.answer, check),
                    "the refusal of a run", s, n);
             break;
         }
@@ -374,11 +412,6 @@ static void try_elements(unsigned most, const uint8_t *before, size_t n)
 
 /* ctext_resource_write or ctext_resource_read. */
 typedef ctext_answer resource_way(const uint8_t *s, size_t n, uint8_t *out, size_t o);
-
-static int is_answer(ctext_answer a, unsigned number, size_t place, size_t count)
-{
-    return a.number == number && a.place == place && a.count == count;
-}
 
 /* One call, into output of exactly so many octets, which the caller frees. What
    the answer does not count stays. */
@@ -611,6 +644,174 @@ static void try_run_readers(void)
     free(s);
 }
 
+/* ---- The places of refusals ---------------------------------------------- */
+
+/* Strings in hexadecimal, with the number and the place of their refusal, where the
+   refused element starts, and the units before it. */
+static const struct { const char *octets; uint8_t number; size_t place, element, units; } PLACED[] = {
+    /* those that the rules name */
+    { "1B 24 42", 4, 2, 0, 0 }, { "1B 28", 2, 2, 0, 0 }, { "1B 29 42", 5, 2, 0, 0 },
+    { "1B 28 21 42", 5, 3, 0, 0 }, { "1B 24 28 42 30", 2, 5, 4, 0 },
+    { "1B 25 2F 32 80 84 61 62 02 FF", 7, 9, 0, 0 },
+    /* 2: the length */
+    { "1B", 2, 1, 0, 0 }, { "1B 24", 2, 2, 0, 0 }, { "1B 24 29", 2, 3, 0, 0 }, { "1B 2D 23 20", 2, 4, 0, 0 },
+    { "1B 24 28 42 30 21 30", 2, 7, 6, 1 }, { "1B 24 29 43 C0 B1 C0", 2, 7, 6, 1 }, { "9B", 2, 1, 0, 0 },
+    { "9B 31", 2, 2, 0, 0 }, { "1B 25", 2, 2, 0, 0 }, { "1B 25 2F", 2, 3, 0, 0 }, { "1B 25 2F 30", 2, 4, 0, 0 },
+    { "1B 25 2F 30 80", 2, 5, 0, 0 }, { "1B 25 2F 30 80 81", 2, 6, 0, 0 },
+    { "1B 25 2F 32 80 84 2A 3F 02", 2, 9, 0, 0 },
+    /* 3: the first octet */
+    { "00", 3, 0, 0, 0 }, { "07", 3, 0, 0, 0 }, { "7F", 3, 0, 0, 0 }, { "80", 3, 0, 0, 0 }, { "9F", 3, 0, 0, 0 },
+    { "41 0D", 3, 1, 1, 1 }, { "1B 24 28 42 20", 3, 4, 4, 0 }, { "1B 24 28 42 7F", 3, 4, 4, 0 },
+    { "1B 29 49 A0", 3, 3, 3, 0 }, { "1B 29 49 FF", 3, 3, 3, 0 }, { "1B 24 29 41 A0", 3, 4, 4, 0 },
+    { "1B 24 29 41 B0 A1 FF", 3, 6, 6, 1 },
+    /* 3: the second octet of a character */
+    { "1B 24 28 42 30 07", 3, 5, 4, 0 }, { "1B 24 28 42 30 20", 3, 5, 4, 0 }, { "1B 24 28 42 30 7F", 3, 5, 4, 0 },
+    { "1B 24 28 42 30 1B", 3, 5, 4, 0 }, { "1B 24 28 42 30 9B", 3, 5, 4, 0 }, { "1B 24 28 42 30 A1", 3, 5, 4, 0 },
+    { "1B 24 28 42 30 21 7E 09", 3, 7, 6, 1 }, { "1B 24 29 43 C0 31", 3, 5, 4, 0 },
+    { "1B 24 29 43 C0 A0", 3, 5, 4, 0 }, { "1B 24 29 43 C0 FF", 3, 5, 4, 0 }, { "1B 24 29 43 FE 1B", 3, 5, 4, 0 },
+    /* 4: the first octet with which the sequence is unknown */
+    { "1B 41", 4, 1, 0, 0 }, { "1B 1B 28 42", 4, 1, 0, 0 }, { "1B 20", 4, 1, 0, 0 }, { "1B 24 2D", 4, 2, 0, 0 },
+    { "1B 24 1B", 4, 2, 0, 0 }, { "1B 25 47", 4, 2, 0, 0 }, { "1B 25 2F 35", 4, 3, 0, 0 },
+    { "1B 25 2F 2F", 4, 3, 0, 0 }, { "1B 28 20 42", 4, 2, 0, 0 }, { "1B 28 24 42", 4, 2, 0, 0 },
+    { "1B 2D 2F", 4, 2, 0, 0 }, { "1B 29 30", 4, 2, 0, 0 }, { "1B 28 7F", 4, 2, 0, 0 }, { "1B 28 C2", 4, 2, 0, 0 },
+    { "1B 28 21 30", 4, 3, 0, 0 }, { "1B 28 22 20 2F 1B", 4, 5, 0, 0 }, { "1B 24 28 24", 4, 3, 0, 0 },
+    { "1B 24 29 23 3F", 4, 4, 0, 0 }, { "9B 30", 4, 1, 0, 0 }, { "9B 33 5D", 4, 1, 0, 0 }, { "9B 9B", 4, 1, 0, 0 },
+    { "9B 31 31", 4, 2, 0, 0 }, { "9B 32 5B", 4, 2, 0, 0 },
+    /* 5: the final octet; 6: the 23 */
+    { "1B 28 41", 5, 2, 0, 0 }, { "1B 29 4A", 5, 2, 0, 0 }, { "1B 2D 62", 5, 2, 0, 0 }, { "1B 24 28 44", 5, 3, 0, 0 },
+    { "1B 24 29 40", 5, 3, 0, 0 }, { "1B 29 23 49", 5, 3, 0, 0 }, { "1B 24 28 21 20 2F 42", 5, 6, 0, 0 },
+    { "1B 23", 6, 1, 0, 0 }, { "1B 23 20 30", 6, 1, 0, 0 }, { "41 1B 23", 6, 2, 1, 1 },
+    /* 7: M, also before a low L; L; L where n is 0 */
+    { "1B 25 2F 31 7F", 7, 4, 0, 0 }, { "1B 25 2F 31 00 00", 7, 4, 0, 0 }, { "1B 25 2F 31 80 7F", 7, 5, 0, 0 },
+    { "1B 25 2F 31 80 80", 7, 5, 0, 0 },
+    /* 7: a bad octet of the name, also without an 02 and where the text's length is wrong too */
+    { "1B 25 2F 31 80 83 61 20 02", 7, 7, 0, 0 }, { "1B 25 2F 31 80 82 A0 02", 7, 6, 0, 0 },
+    { "1B 25 2F 31 80 83 2A 3F 62", 7, 6, 0, 0 }, { "1B 25 2F 31 80 83 61 62 7F", 7, 8, 0, 0 },
+    { "1B 25 2F 32 80 84 61 3F 02 FF", 7, 7, 0, 0 },
+    /* 7: the 02 of an empty name, also where the text's length is wrong too */
+    { "1B 25 2F 31 80 81 02", 7, 6, 0, 0 }, { "1B 25 2F 31 80 82 02 02", 7, 6, 0, 0 },
+    { "1B 25 2F 32 80 82 02 FF", 7, 6, 0, 0 },
+    /* 7: the last of the n octets, without an 02 and where the text's length is wrong */
+    { "1B 25 2F 31 80 81 61", 7, 6, 0, 0 }, { "1B 25 2F 30 80 82 61 FF", 7, 7, 0, 0 },
+    { "1B 25 2F 32 80 83 61 02 FF", 7, 8, 0, 0 }, { "1B 25 2F 33 80 84 61 02 FF FF", 7, 9, 0, 0 },
+    { "1B 25 2F 34 80 88 61 02 02 02 02 02 02 02", 7, 13, 0, 0 },
+    /* 8: the start; 9 is in try_depth */
+    { "41 9B 31 5D", 8, 1, 1, 1 }, { "9B 5D", 8, 0, 0, 0 }, { "9B 31 5D 9B 5D 41", 8, 5, 5, 2 },
+    { "9B 31 5D 9B 5D 1B 24 28 42 30 21", 8, 9, 9, 2 },
+    { "9B 31 5D 9B 5D 1B 25 2F 31 80 83 61 02 FF", 8, 5, 5, 2 }
+};
+
+/* The octets of a row, or of those that stand before or after it. */
+static size_t octets_of(const char *hexadecimal, uint8_t *octets)
+{
+    size_t n = 0;
+    char *rest;
+    for (; *hexadecimal != '\0'; hexadecimal = rest)
+        octets[n++] = (uint8_t)strtoul(hexadecimal, &rest, 16);
+    return n;
+}
+
+/* Runs by a reader that takes the string for accepted: those before the refused
+   element, and then its refusal. */
+static void placed_runs(const uint8_t *s, size_t n, ctext_answer wanted)
+{
+    ctext_run_reader unchecked = ctext_open_runs();
+    ctext_run_step step;
+    ctext_runs_step all;
+    unchecked.checked = 1;
+    step = ctext_next_run(s, n, unchecked);
+    while (step.run.answer.number == CTEXT_ACCEPTED)
+        step = ctext_next_run(s, n, step.reader);
+    expect(same_answer(step.run.answer, wanted), "the place of a run in order", s, n);
+    all = listed(s, n, unchecked, 2);
+    while (all.answer.number == CTEXT_ACCEPTED && all.answer.count > 0)
+        all = listed(s, n, all.reader, 2);
+    expect(same_answer(all.answer, wanted), "the place of a list of runs", s, n);
+}
+
+/* Each function that hands back the string's refusal, and where the reader stands. */
+static void placed_at(const uint8_t *octets, size_t n, ctext_answer wanted, size_t element, size_t units)
+{
+    uint8_t *s = lend_copy(octets, n);
+    ctext_unit *list = (ctext_unit *)lend(n * sizeof *list);
+    ctext_step step = ctext_next(s, n, ctext_open());
+    expect(same_answer(ctext_check(s, n), wanted), "the place of a check", s, n);
+    expect(same_answer(ctext_read(s, n, list, n), wanted), "the place of a list", s, n);
+    expect(same_answer(ctext_run(s, n, 0).answer, wanted), "the place of a run", s, n);
+    expect(same_answer(ctext_next_run(s, n, ctext_open_runs()).run.answer, wanted), "the place of a first run", s, n);
+    expect(same_answer(listed(s, n, ctext_open_runs(), 2).answer, wanted), "the place of first runs", s, n);
+    placed_runs(s, n, wanted);
+    printed(s, n, NULL, wanted);
+    while (step.given)
+        step = ctext_next(s, n, step.reader);
+    expect(same_answer(step.answer, wanted), "the place of a step", s, n);
+    expect(step.reader.place == element && step.reader.count == units, "where the element starts", s, n);
+    places++;
+    free(list);
+    free(s);
+}
+
+/* Each row by itself and after a tab and two designations; and where it is not the
+   end that cuts it, also with a letter after it. */
+static void try_places(void)
+{
+    uint8_t octets[64];
+    size_t i, around, before, n;
+    for (i = 0; i < sizeof PLACED / sizeof PLACED[0]; i++)
+        for (around = 0; around < (PLACED[i].number == CTEXT_CUT ? 2 : 4); around++) {
+            ctext_answer wanted = { 0, 0, PLACED[i].number };
+            before = around % 2 == 0 ? 0 : octets_of("09 1B 28 4A 1B 2D 42", octets);
+            n = before + octets_of(PLACED[i].octets, octets + before);
+            n += around < 2 ? 0 : octets_of("41", octets + n);
+            wanted.place = before + PLACED[i].place;
+            placed_at(octets, n, wanted, before + PLACED[i].element, around % 2 + PLACED[i].units);
+        }
+}
+
+/* Where the reader stands, and with which sets and directions, after designations:
+   at the end, and before an element that is refused. */
+static void try_standing(void)
+{
+    static const struct { const char *octets; ctext_answer answer; ctext_reader reader; } STANDING[] = {
+        { "41 1B 28 4A 1B 2D 42", { 7, 1, 0 }, { 0, 7, 1, CTEXT_SET_JISX0201_LEFT, CTEXT_SET_ISO8859_2_RIGHT, 0, 0, 1 } },
+        { "41 1B 28 4A 1B 2D 42 07", { 7, 0, 3 }, { 0, 7, 1, CTEXT_SET_JISX0201_LEFT, CTEXT_SET_ISO8859_2_RIGHT, 0, 0, 1 } },
+        { "41 1B 28 4A 1B 24 42", { 6, 0, 4 }, { 0, 4, 1, CTEXT_SET_JISX0201_LEFT, CTEXT_SET_ISO8859_1_RIGHT, 0, 0, 1 } },
+        { "1B 24 28 41 1B 29 49 20", { 7, 0, 3 }, { 0, 7, 0, CTEXT_SET_GB2312, CTEXT_SET_JISX0201_RIGHT, 0, 0, 0 } },
+        { "1B 24 29 43 1B 24 28 42 30 07", { 9, 0, 3 }, { 0, 8, 0, CTEXT_SET_JISX0208, CTEXT_SET_KSC5601, 0, 0, 0 } },
+        { "9B 32 5D 1B 2D 48 1B", { 7, 0, 2 }, { 1, 6, 1, CTEXT_SET_ASCII, CTEXT_SET_ISO8859_8_RIGHT, 1, 1, 0 } },
+        { "9B 31 5D 9B 5D 1B 28 4A 41", { 8, 0, 8 }, { 0, 8, 2, CTEXT_SET_JISX0201_LEFT, CTEXT_SET_ISO8859_1_RIGHT, 0, 1, 0 } }
+    };
+    size_t i;
+    for (i = 0; i < sizeof STANDING / sizeof STANDING[0]; i++) {
+        uint8_t octets[16], *s;
+        size_t n = octets_of(STANDING[i].octets, octets);
+        ctext_step step;
+        s = lend_copy(octets, n);
+        for (step = ctext_next(s, n, ctext_open()); step.given; step = ctext_next(s, n, step.reader))
+            continue;
+        step.reader.levels &= ((uint64_t)1 << step.reader.depth) - 1; /* no other digit means anything */
+        expect(same_answer(step.answer, STANDING[i].answer) && same_reader(step.reader, STANDING[i].reader),
+               "a reader past designations", s, n);
+        free(s);
+    }
+}
+
+/* A string that is too long, and a reader that cannot be, leave the reader as it was. */
+static void try_staying(void)
+{
+    uint8_t *s = (uint8_t *)lend(CTEXT_MOST_OCTETS + 1);
+    ctext_reader r = ctext_open();
+    ctext_step step;
+    memset(s, 0x20, CTEXT_MOST_OCTETS + 1);
+    memcpy(s, "\x1B\x28\x4A", 3);
+    step = ctext_next(s, CTEXT_MOST_OCTETS + 1, r);
+    expect(is_answer(step.answer, CTEXT_TOO_LONG, 0, 0) && same_reader(step.reader, r), "a reader of too long a string", s, 3);
+    r.depth = CTEXT_MOST_OPEN + 1;
+    step = ctext_next(s, 3, r);
+    expect(is_answer(step.answer, CTEXT_BAD_UNIT, 0, 0) && same_reader(step.reader, r), "a reader that cannot be", s, 3);
+    free(s);
+}
+
 /* Sixteen directions open, and a seventeenth. */
 static void try_depth(void)
 {
@@ -623,6 +824,7 @@ static void try_depth(void)
     expect(a.number == CTEXT_ACCEPTED && a.count == CTEXT_MOST_OPEN, "sixteen open", s, 3);
     a = ctext_check(s, sizeof s);
     expect(a.number == CTEXT_TOO_DEEP && a.place == sizeof s - 3, "seventeen open", s, 3);
+    placed_at(s, sizeof s, a, sizeof s - 3, CTEXT_MOST_OPEN);
 }
 
 /* As many runs as there can be, all in one call, and the rest after some of them;
@@ -774,6 +976,13 @@ static int is_text(char letter)
     return strchr("A_sdm", letter) != NULL;
 }
 
+/* The octet of a bad segment that is refused: the last of its text, the 02 of an
+   empty name, and the last of a name without 02. */
+static size_t fault_of(char letter)
+{
+    return letter == 'x' ? 8 : letter == 'y' ? 6 : 7;
+}
+
 /* The units before what is refused, and what the reader knows after each. */
 static void directed_steps(const directed *d, const char *letters, size_t good, ctext_answer wanted)
 {
@@ -789,6 +998,7 @@ static void directed_steps(const directed *d, const char *letters, size_t good, 
         step = ctext_next(s, n, step.reader);
     }
     expect(!step.given && same_answer(step.answer, wanted), "a step by the direction rule", s, n);
+    expect(step.reader.place == d->places[good], "where a reader stands by the direction rule", s, n);
     free(s);
 }
 
@@ -824,6 +1034,8 @@ static void try_directed(void)
         size_t n = d.places[d.count], good = refused ? DIRECTED[i].index : d.count;
         ctext_answer string = { d.places[good], refused ? 0 : d.count, DIRECTED[i].number };
         ctext_answer list = { good, refused ? 0 : n, DIRECTED[i].number };
+        if (DIRECTED[i].number == CTEXT_BAD_SEGMENT)
+            string.place += fault_of(DIRECTED[i].letters[good]);
         expect(same_answer(ctext_check(d.octets, n), string), "a string by the direction rule", d.octets, n);
         try_string(d.octets, n);
         directed_steps(&d, DIRECTED[i].letters, good, string);
@@ -874,7 +1086,7 @@ static unsigned refused_from(const struct part *p, ctext_reader r)
 /* A step over the element, by a reader made by hand. */
 static void step_from(const struct part *p, uint8_t marked, uint8_t depth, uint8_t texted)
 {
-    size_t n = strlen(p->octets);
+    size_t n = strlen(p->octets), place;
     uint8_t *s = lend_copy((const uint8_t *)p->octets, n);
     ctext_reader r = ctext_open();
     ctext_unit unit = unit_of(p, 0);
@@ -885,7 +1097,8 @@ static void step_from(const struct part *p, uint8_t marked, uint8_t depth, uint8
     r.texted = texted;
     number = refused_from(p, r);
     step = ctext_next(s, n, r);
-    expect(step.given == (number == 0) && is_answer(step.answer, number, 0, 0), "a step of a reader made by hand", s, n);
+    place = number == CTEXT_BAD_SEGMENT ? fault_of(p->letter) : 0;
+    expect(step.given == (number == 0) && is_answer(step.answer, number, place, 0), "a step of a reader made by hand", s, n);
     expect(number != 0 || same_unit(&step.unit, &unit), "a unit of a reader made by hand", s, n);
     expect(step.reader.place == (number == 0 ? n : 0), "where a reader made by hand stands", s, n);
     expect(step.reader.texted == (texted != 0 || (number == 0 && is_text(p->letter))), "text read by hand", s, n);
@@ -1027,7 +1240,7 @@ static void designated(const struct lead *l, uint8_t octet)
     s[n++] = l->side == CTEXT_GL ? 0x21 : 0xA1;
     step = ctext_next(s, n, ctext_open());
     if (set == CTEXT_NO_SET) {
-        expect(is_answer(step.answer, CTEXT_NOT_APPROVED, 0, 0), "a designation of no set", s, n);
+        expect(is_answer(step.answer, CTEXT_NOT_APPROVED, strlen(l->octets), 0), "a designation of no set", s, n);
         return;
     }
     designations++;
@@ -1059,6 +1272,9 @@ int main(int argc, char **argv)
     try_readers();
     try_program();
     try_run_readers();
+    try_places();
+    try_standing();
+    try_staying();
     try_depth();
     try_directed();
     try_directed_spoiled();
@@ -1068,7 +1284,7 @@ int main(int argc, char **argv)
     try_set_rows();
     try_set_of();
     try_designations();
-    printf("bounds: %lu strings, %lu accepted, %lu resource forms, %lu designations, %lu failures\n", strings,
-           accepted, forms, designations, failures);
+    printf("bounds: %lu strings, %lu accepted, %lu resource forms, %lu designations, %lu places, %lu failures\n",
+           strings, accepted, forms, designations, places, failures);
     return failures != 0;
 }

@@ -75,6 +75,36 @@ ctext_answer shortest_form(const note *n, const uint8_t **octets);
 /* The direction in force where the reader stands, one of enum ctext_direction. */
 unsigned direction_of(ctext_reader reader);
 
+/* ---- dump.c ------------------------------------------------------------- */
+
+/* The lines of the note that have the element's start and the place, 16 octets
+   each, and those around the place: in hexadecimal, with `>' before the start and
+   the place within brackets, and as ASCII. A place at the note's end is shown as
+   [--], and lines that are left out as `..'. */
+void out_dump(const note *n, size_t element, size_t place);
+
+/* ---- The words of a refusal ---------------------------------------------- */
+
+/* A note that one of its elements is refused for: the answer, 2 to 9, and the
+   reader at the start of that element. */
+typedef struct refusal {
+    const note *note;
+    ctext_answer answer;
+    ctext_reader reader;
+} refusal;
+
+/* reason.c: what is wrong with the octet at the place, a line or two. */
+void say_reason(const refusal *r);
+
+/* sequence.c: the same for CTEXT_CUT, CTEXT_UNKNOWN and CTEXT_NOT_APPROVED. */
+void say_cut(const refusal *r);
+void say_unknown(const refusal *r);
+void say_not_approved(const refusal *r);
+
+/* segment.c: the same for CTEXT_BAD_SEGMENT, and of a segment that is cut. */
+void say_segment(const refusal *r);
+void say_segment_cut(const refusal *r);
+
 /* ---- The verbs, one file for each --------------------------------------- */
 
 /* What the command does for standard input where no verb is given. */
