@@ -1,8 +1,8 @@
 -- A designation that is found by its octets is the reader's element: where its set is one of the fifteen, the final octet is one that the
 -- table has, and the octets before it lead to its form.
 use Rattle.element.proofs.Names.{ℕ, _+_, _-_, _<_, _≤_, arith, _≡_, refl, ap, sym, _∙_, subst, List, [], _∷_, eqb, length, getD, eqb-true, pick}
-use Rattle.element.proofs.Names.{pick-by, from, on-eq, on-ne, on-lt, on-ge, from-octet, from-length, form-96, form-94x94, no-set, setOf, Side, GL, GR, next}
-use Rattle.element.proofs.Names.{designatedOf, Sets, State, Shape, Designates, Silent}
+use Rattle.element.proofs.Names.{pick-by, from, on-lt, on-ge, from-octet, from-length, form-96, form-94x94, no-set, setOf, Side, GL, GR, next, designatedOf}
+use Rattle.element.proofs.Names.{Sets, State, Shape, Designates, Silent}
 use Rattle.charset.specs.Charsets.{form-94}
 use Rattle.charset.proofs.Laws.{final-range}
 use Rattle.control.specs.Escape.{designatesOf, designationOf, multiOctetOf, escapeOf}

@@ -3,10 +3,10 @@
 -- that is not refused is the same whatever follows it. Of the shape it is shown for each definition from the leaves up: for a function f of the octets
 -- t that are left after k others, `Tells` says it of what f answers, and `onward` takes it over one octet more.
 use Rattle.element.proofs.Names.{ℕ, zero, suc, _+_, _-_, _<_, _≤_, arith, not-suc-le-zero, _≡_, refl, sym, ap, _∙_, subst, Bool, true, false}
-use Rattle.element.proofs.Names.{List, [], _∷_, _⊎_, inl, inr, ⊎-elim, eqb, leb, ltb, length, take, leb-true, leb-false, le-leb, lt-leb, on-true, on-false}
-use Rattle.element.proofs.Names.{length-take-le, length-take, pick, pick-by, test, no-set, setOf, Side, GL, GR, stepOf, get, next, Sets, State, Part}
-use Rattle.element.proofs.Names.{Shape, Refuses, Designates, Gives, Step, Goes, Stops, Element, End, Refused, Silent, Found}
-use lib.Seq.{take-take}
+use Rattle.element.proofs.Names.{List, [], _∷_, _⊎_, inl, inr, ⊎-elim, leb, length, take, leb-true, le-leb, lt-leb, on-true, on-false}
+use Rattle.element.proofs.Names.{length-take-le, length-take, pick, pick-by, setOf, Side, get, next, Sets, State, Part, Shape, Refuses, Designates}
+use Rattle.element.proofs.Names.{Gives, Step, Element, End, Refused}
+use lib.Seq.{take-all, take-take}
 use Rattle.base.specs.Refusal as refusal
 use Rattle.text.specs.Text.{secondOctetOf}
 use Rattle.control.specs.Escape.{intermediatesOf, designatesOf, designationOf, multiOctetOf, escapeOf}
@@ -283,3 +283,33 @@ pub of-place : {t : List ℕ} {st : State} {n o : ℕ} → Pointed t st (Refused
 of-place (at-length e) = omega arith
 of-place (at-octet n h e) = omega arith
 of-place (at-start n h) = omega arith
+
+-- an element that is passed is the same with fewer octets after it
+pub of-passed : {t : List ℕ} {st : State} {e : Element} {k : ℕ} {next : State} → Passed e k next → Pointed t st e → (i : ℕ) → k ≤ i
+    → elementOf (take i t) st ≡ e
+of-passed silent (passes silent q) = q
+of-passed found (passes found q) = q
+
+-- the octets before the place of a refusal are nothing, or an element that is cut
+pub of-before : {t : List ℕ} {st : State} {n o : ℕ} → elementOf t st ≡ Refused n o → Pointed t st (Refused n o)
+    → (o ≡ 0) ⊎ (elementOf (take o t) st ≡ Refused refusal.cut o)
+of-before {t} {st} {o = o} is (at-length e) =
+    inr (ap (λ (u : List ℕ). elementOf u st) (take-all o t (omega arith)) ∙ is)
+of-before is (at-octet n h e) = e
+of-before is (at-start n h) = inl refl
+
+-- by the number: 2, 3 to 7, 8 and 9
+pub of-cut : {t : List ℕ} {st : State} {o : ℕ} → Pointed t st (Refused refusal.cut o) → o ≡ length t
+of-cut (at-length e) = e
+of-cut (at-octet n h e) = absurd (omega (arith, n .0))
+of-cut (at-start n h) = absurd (omega (arith, n .0))
+
+pub of-octet : {t : List ℕ} {st : State} {n o : ℕ} → Octet n → Pointed t st (Refused n o) → o < length t
+of-octet k (at-length e) = absurd (omega (arith, k .0))
+of-octet k (at-octet n h e) = h
+of-octet k (at-start n h) = absurd (omega (arith, k .1, n .0))
+
+pub of-direction : {t : List ℕ} {st : State} {n o : ℕ} → refusal.direction ≤ n → Pointed t st (Refused n o) → o ≡ 0
+of-direction k (at-length e) = absurd (omega (arith, k))
+of-direction k (at-octet n h e) = absurd (omega (arith, k, n .1))
+of-direction k (at-start n h) = refl

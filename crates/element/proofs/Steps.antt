@@ -1,7 +1,8 @@
 -- The ladder's rules for the first octet of an element: down the tests of what it starts, and on to the functions of `text`, whose answers are
 -- what a GL or GR octet starts.
 use Rattle.element.proofs.Names.{ℕ, _+_, _%_, _<_, _≤_, arith, _≡_, refl, _∙_, ap, Bool, true, false, List, [], _∷_, eqb, length, getD}
-use Rattle.element.proofs.Names.{eqb-true, lt-ltb, le-ltb, ne-eqb, pick, from, test, form-96, form-94x94, formOf, Side, GL, GR, get, Sets, Shape, Refuses}
+use Rattle.element.proofs.Names.{eqb-true, lt-ltb, le-ltb, ne-eqb, pick, from, test, form-96, form-94x94, formOf, Side, GL, GR, get, Sets, Shape}
+use Rattle.element.proofs.Names.{Refuses}
 use Rattle.base.specs.Refusal as refusal
 use lib.ListN.{take, drop, length-drop}
 use lib.Seq.{drop-drop, take-all}

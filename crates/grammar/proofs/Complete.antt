@@ -1,8 +1,8 @@
 -- Each element of the grammar is one that the reader's definition takes.
 use Rattle.element.proofs.Names.{ℕ, _+_, _*_, _-_, _/_, _%_, _≤_, arith, _≡_, refl, sym, ap, _∙_, Bool, true, false, cond, _&&_, true≢false, List}
 use Rattle.element.proofs.Names.{_∷_, _++_, eqb, leb, ltb, length, length-append, take-append-seam, eqb-true, lt-ltb, le-ltb, le-leb, eq-eqb, pick}
-use Rattle.element.proofs.Names.{and-left, and-right, from-tests, off, test, cond-by, Side, GL, GR, mayUse, allowed, formOf, setOf, on, get, part, next, Sets}
-use Rattle.element.proofs.Names.{Part, Shape, Designates, Gives}
+use Rattle.element.proofs.Names.{and-left, and-right, from-tests, off, test, cond-by, Side, GL, GR, mayUse, allowed, formOf, setOf, on, get, part, next}
+use Rattle.element.proofs.Names.{Sets, Part, Shape, Designates, Gives}
 use Rattle.base.proofs.Bools.{Each, each}
 use Rattle.charset.specs.Charsets.{fitsOf, find}
 use Rattle.charset.proofs.Laws.{allowed-below, left-form}
@@ -13,7 +13,8 @@ use Rattle.control.specs.Mark.{beginOf, csiOf}
 use Rattle.element.specs.Element.{shapeOf}
 use Rattle.element.specs.Start.{usedIn, leftStart, startOf, begunBy}
 use Rattle.element.proofs.Starts.{On, graphic-low, all-used, graphic-used, starts-one, starts-two}
-use Rattle.grammar.specs.Units.{TextUnit, char, space, control, tab, newline, ltr, rtl, revert, ext, kindOf, controlOctets, textOctets, counts, unitOf}
+use Rattle.grammar.specs.Units.{TextUnit, char, space, control, tab, newline, ltr, rtl, revert, ext, kindOf, controlOctets, textOctets, counts}
+use Rattle.grammar.specs.Units.{unitOf}
 use Rattle.grammar.specs.Units.{wide, top, shown, octets, designation, codeUsed, good}
 use Rattle.grammar.specs.Grammar.{Shows, Legal}
 use Rattle.grammar.specs.Reading.{unitAt}

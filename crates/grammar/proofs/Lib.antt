@@ -7,3 +7,5 @@ pub mod Good
 pub mod Complete
 pub mod Agrees
 pub mod Before
+pub mod Numbers
+pub mod Pointed

@@ -1,8 +1,8 @@
 -- The elements of a string from a place on, one at a time: each has an octet at least and no more than are left, its unit's fields that
 -- mean nothing are 0, a refusal has a number above 0, a state that is fit stays fit, and the elements after it are those of the place
 -- after it (`ahead-from`). What is shown of all elements of a string goes by induction on `Ahead`.
-use Rattle.element.proofs.Names.{ℕ, zero, suc, _+_, _-_, _≤_, arith, _≡_, refl, ap, sym, _∙_, subst, List, ltb, length, ltb-false, from, clash, test, tested}
-use Rattle.element.proofs.Names.{from-end, from-length, fresh, State, Part, Element, End, Refused, Silent, Found}
+use Rattle.element.proofs.Names.{ℕ, zero, suc, _+_, _-_, _≤_, arith, _≡_, refl, ap, sym, _∙_, subst, List, ltb, length, ltb-false, from, clash, test}
+use Rattle.element.proofs.Names.{tested, from-end, from-length, fresh, State, Part, Element, End, Refused, Silent, Found}
 use Rattle.base.proofs.Ladder.{from-from}
 use Rattle.element.specs.Element.{elementOf}
 use Rattle.element.specs.Meant.{MeantPart}

@@ -1,6 +1,6 @@
 -- The n octets of a segment: what the reader says of a name and the text after it, octet by octet, is what the grammar says of them.
-use Rattle.element.proofs.Names.{ℕ, suc, _+_, _-_, _≤_, arith, add-one, _≡_, refl, List, [], _∷_, eqb, length, eqb-true, le-leb, pick, test, tested}
-use Rattle.element.proofs.Names.{Bool, true, false, _&&_, leb, _%_, Shape, Refuses, Gives}
+use Rattle.element.proofs.Names.{ℕ, suc, _+_, _-_, _≤_, arith, add-one, _≡_, List, [], _∷_, eqb, length, eqb-true, le-leb, pick, test, tested, Bool}
+use Rattle.element.proofs.Names.{true, false, _&&_, leb, _%_, Shape, Refuses, Gives}
 use Rattle.base.specs.Refusal as refusal
 use Rattle.segment.specs.Segment.{segmentPart, nameOctetOf, nameOf, textWidthOf, wholeOf, contentOf}
 use Rattle.segment.specs.declared.Name.the-variants.{Ends}

@@ -2,3 +2,4 @@ pub mod Units
 pub mod Grammar
 pub mod Reading
 pub mod Records
+pub mod Unplaced

@@ -1,7 +1,7 @@
 -- The refusals of a record, case by case: by its kind, of a character, of a segment.
-use Rattle.element.proofs.Names.{ℕ, _+_, _-_, _≤_, _<_, arith, _≡_, refl, ap, sym, subst, _∙_, Bool, true, false, cond, List, some, leb, length, take, drop}
-use Rattle.element.proofs.Names.{length-take, length-drop, ne-eqb, le-leb, lt-leb, le-ltb, lt-ltb, clash, test, on-gt, pick, UnitRecord, no-set, formOf}
-use Rattle.element.proofs.Names.{stepOf, Directions, Step, Stops, Part, Shape, Refuses, Gives}
+use Rattle.element.proofs.Names.{ℕ, _+_, _-_, _≤_, _<_, arith, _≡_, refl, ap, sym, subst, _∙_, Bool, true, false, cond, List, some, leb, length}
+use Rattle.element.proofs.Names.{take, drop, length-take, length-drop, ne-eqb, le-leb, lt-leb, le-ltb, lt-ltb, clash, test, on-gt, pick, UnitRecord, no-set}
+use Rattle.element.proofs.Names.{formOf, stepOf, Directions, Step, Stops, Part, Shape, Refuses, Gives}
 use Rattle.base.proofs.Bools.{_&_, each}
 use Rattle.base.proofs.Ladder.{on-le}
 use Rattle.base.specs.Kind as kind

@@ -9,7 +9,7 @@ use Rattle.control.specs.Mark.{beginOf, csiOf}
 use Rattle.element.specs.Element.{shapeOf, steppedOf, directedOf}
 use Rattle.element.specs.Start.{usedIn, characterStart, leftStart, startOf, begunBy}
 use Rattle.grammar.specs.Reading.{onward, elements, answerOf, checkOf}
-use Rattle.segment.specs.Segment.{nameOctetOf, nameOf, textWidthOf, contentOf, bodyOf, lengthsOf, extendedOf}
+use Rattle.segment.specs.Segment.{nameOctetOf, nameOf, textWidthOf, wholeOf, contentOf, bodyOf, lengthsOf, extendedOf}
 use Rattle.state.specs.Directions.{inForceOf}
 use Rattle.text.specs.Text.{graphicOf, secondOctetOf}
 use Rattle.pieces.specs.Pieces.{sideKindOf, pieceKindOf, pieceOf, sameRunOf, joined, piecesFrom, piecesOf, setIn}
@@ -56,6 +56,7 @@ rows =
     -- a refused string has none: its refusal comes before 11
     ∷ row (0x41 ∷ 0x9B ∷ 0x31 ∷ 0x5D ∷ []) 0 (noRun (refusedAt refusal.direction 1))
     ∷ row (0x41 ∷ 0x9B ∷ 0x31 ∷ 0x5D ∷ []) 7 (noRun (refusedAt refusal.direction 1))
+    ∷ row (0x41 ∷ 0x1B ∷ 0x29 ∷ 0x42 ∷ []) 0 (noRun (refusedAt refusal.not-approved 3))
     ∷ []
 
 abbrev found : List Row → List Bounds
@@ -67,7 +68,7 @@ expected [] = []
 expected (r ∷ rs) = r .given ∷ expected rs
 
 pub table : found rows ≡ expected rows
-unfolding pick mayUse formOf fitsOf find setOf put next graphicOf secondOctetOf nameOctetOf nameOf textWidthOf contentOf bodyOf lengthsOf extendedOf
+unfolding pick mayUse formOf fitsOf find setOf put next graphicOf secondOctetOf nameOctetOf nameOf textWidthOf wholeOf contentOf bodyOf lengthsOf extendedOf
     beginOf csiOf designatesOf designationOf multiOctetOf escapeOf writtenOf deeperOf begunOf revertedOf stepOf inForceOf usedIn characterStart
     leftStart startOf begunBy shapeOf steppedOf directedOf onward elements answerOf checkOf sideKindOf pieceKindOf pieceOf sameRunOf joined piecesFrom
     piecesOf setIn runsIn runsOf widthOf shownOf nthRunOf runAt
