@@ -60,7 +60,7 @@ module _ (s : RefT (List ℕ)) (short : length (now s) ≤ limit.octets) where
   -- a reader, from which the next unit is that of the elements
   record Stands (r : Reader) (at : ℕ) (st : State) (es : Elements) : Type 0 where
     may : mayStand (length (now s)) (r .place) (r .state) ≡ true
-    gives : nextOf (now s) (r .place) (r .state) ≡ outcomeOf es
+    gives : nextOf (now s) (r .place) (r .state) ≡ outcomeOf st es
     fit : Fit st
 
   ended-refused : (n place count : ℕ) → 1 ≤ n → endedOf n place count ≡ refusedAt n place

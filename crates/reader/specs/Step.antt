@@ -57,7 +57,7 @@ endedOf number place count =
 -- not passed and the answer repeats (rule U7)
 unfoldable pub afterOf : ℕ → ℕ → State → Outcome → Stepped
 afterOf place count st (Gives u next to) = stepped (Given u) next (countedOf count) to
-afterOf place count st (Stops number at) = stepped (Ended (endedOf number at count)) place count st
+afterOf place count st (Stops number at start to) = stepped (Ended (endedOf number at count)) place count st
 
 -- a step from any place, count and state: 1 for the string comes first (rule U8), then 11 for a reader that may not stand so (rule U9)
 unfoldable pub stepAt : List ℕ → ℕ → ℕ → State → Stepped

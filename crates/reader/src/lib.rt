@@ -97,7 +97,7 @@ fn after(place: usize, count: usize, state: State, o: Outcome) -> Stepped
             state: to,
             item: Item::Given(unit),
         },
-        Outcome::Stops(number, at) => stays(place, count, state, ended(number, at, count)),
+        Outcome::Stops(number, at, start, to) => stays(place, count, state, ended(number, at, count)),
     }
 }
 
