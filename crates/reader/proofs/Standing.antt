@@ -2,14 +2,14 @@
 -- element that is refused, in the state there, however often it is asked again (`stands-at-stop`). So of a refused string the element's
 -- start is not lost: the element at the reader's place, under its state, is refused with the string's number, and the octet that offends
 -- there is that of the string's answer (`stands-at-element`). By `opened-hands`, and induction on the elements.
-use Rattle.element.proofs.Names.{ℕ, _+_, _≤_, _<_, arith, _≡_, refl, ap, sym, _∙_, List, length, le-ltb, now, from, clash, pick, fresh, State, Element}
+use Rattle.element.proofs.Names.{ℕ, _+_, _≤_, _<_, _≡_, refl, sym, _∙_, List, length, le-ltb, now, from, clash, pick, State, Element}
 use Rattle.element.proofs.Names.{End, Refused, Silent, Found}
 use denote.Ref.{RefT}
 use Rattle.base.specs.Limit as limit
 use Rattle.base.specs.Refusal as refusal
 use Rattle.element.specs.Element.{elementOf}
 use Rattle.element.proofs.Sizes.{silent, found}
-use Rattle.grammar.specs.Reading.{Elements, refused-at, elementsOf, answerOf, checkOf, stopOf}
+use Rattle.grammar.specs.Reading.{Elements, refused-at, answerOf, checkOf, stopOf}
 use Rattle.grammar.proofs.Places.{ahead, at-end, at-refused, at-passed, Ahead, ends, stops, passes, reads, from-start}
 use Rattle.units.specs.Records.{recordsOf}
 use Rattle.reader.specs.Reader.{opened, readerAfter, atStop, AtRefused}

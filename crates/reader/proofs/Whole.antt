@@ -9,7 +9,7 @@ use Rattle.base.specs.Refusal as refusal
 use Rattle.element.proofs.Sizes.{Fit}
 use Rattle.grammar.specs.Reading.{Elements, size, elementsOf, answerOf, checkOf, stopOf}
 use Rattle.grammar.proofs.Places.{Ahead, ends, stops, passes, reads, from-start}
-use Rattle.units.specs.Records.{recordOf, recordsFrom, recordsOf}
+use Rattle.units.specs.Records.{recordsFrom, recordsOf}
 use Rattle.units.specs.Next.{outcomeOf, nextOf}
 use Rattle.units.specs.declared.Outcome.{Outcome}
 use Rattle.units.specs.declared.Outcome.the-variants.{Gives, Stops}
