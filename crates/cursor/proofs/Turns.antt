@@ -38,7 +38,7 @@ found-is (same-found {d = d}) = (d, refl)
 
 module _ (s : List ℕ) where
   alike : {at : ℕ} {st to : State} {es : Elements} → Ahead s at st es → Like st to → 1 ≤ length (recordsFrom es) → (c : Cursor)
-      → Turns (outcomeTurn c (outcomeOf (ahead s at to))) (outcomeOf es)
+      → Turns (outcomeTurn c (outcomeOf to (ahead s at to))) (outcomeOf st es)
   unfolding recordsFrom outcomeOf outcomeTurn
   alike (ends e) l h c = absurd (omega arith)
   alike (stops f e) l h c = absurd (omega arith)
@@ -51,7 +51,7 @@ module _ (s : List ℕ) where
 
 module _ (s : List ℕ) (short : length s ≤ limit.octets) where
   by-element : {at : ℕ} {st to : State} {es : Elements} → Ahead s at st es → Like st to → 1 ≤ length (recordsFrom es)
-      → Turns (elementTurn s (cursor at to)) (outcomeOf es)
+      → Turns (elementTurn s (cursor at to)) (outcomeOf st es)
   unfolding elementTurn nextOf pick
   by-element {at} {st} a like h = rw (le-ltb limit.octets (length s) short) (alike s a like h (cursor at (freed (st .sets))))
 
@@ -94,7 +94,7 @@ module _ (s : List ℕ) (short : length s ≤ limit.octets) where
   quick at {st} like = quick-turn at st (freed (st .sets)) (same-sets like) (elementTurn s (cursor at (freed (st .sets)))) (from at s)
 
   text-turns : {at : ℕ} {st to : State} {es : Elements} → Ahead s at st es → Like st to → 1 ≤ length (recordsFrom es)
-      → Turns (textTurn s (cursor at to)) (outcomeOf es)
+      → Turns (textTurn s (cursor at to)) (outcomeOf st es)
   unfolding recordsFrom outcomeOf
   text-turns (ends e) l h = absurd (omega arith)
   text-turns (stops f e) l h = absurd (omega arith)
@@ -129,16 +129,16 @@ module _ (s : List ℕ) (short : length s ≤ limit.octets) where
     same : Like st to
     is : c ≡ cursor at to
     some : 1 ≤ length (recordsFrom es)
-    gives : outcomeOf es ≡ o
+    gives : outcomeOf st es ≡ o
 
   here : {at : ℕ} {st to : State} {es : Elements} → Ahead s at st es → Like st to → 1 ≤ length (recordsFrom es)
-      → Onward (cursor at to) (outcomeOf es)
+      → Onward (cursor at to) (outcomeOf st es)
   here {at} {st} {to} {es} a l h =
       record { at = at; st = st; to = to; es = es; from-there = a; same = l; is = refl; some = h; gives = refl }
 
   placed-on : {at : ℕ} {st to : State} {es : Elements} → Ahead s at st es → Like st to → 1 ≤ length (recordsFrom es) → (d : Designation)
       → Silent (d .octets) (designatedOf (d .side) (d .set) st) ≡ elementOf (from at s) st
-      → Onward (cursor (at + d .octets) (designatedOf (d .side) (d .set) to)) (outcomeOf es)
+      → Onward (cursor (at + d .octets) (designatedOf (d .side) (d .set) to)) (outcomeOf st es)
   unfolding recordsFrom outcomeOf octetsIn stateIn
   placed-on (ends e) l h d i = absurd (omega arith)
   placed-on (stops f e) l h d i = absurd (omega arith)
@@ -154,13 +154,13 @@ module _ (s : List ℕ) (short : length s ≤ limit.octets) where
 
   placed-by : {at : ℕ} {st to : State} {es : Elements} → Ahead s at st es → Like st to → 1 ≤ length (recordsFrom es)
       → (d : Designation) → d ≡ designationAt (from at s) → (b : Bool) → ltb (d .set) no-set ≡ b
-      → Onward (pick b (cursor (at + d .octets) (designatedOf (d .side) (d .set) to)) (cursor at to)) (outcomeOf es)
+      → Onward (pick b (cursor (at + d .octets) (designatedOf (d .side) (d .set) to)) (cursor at to)) (outcomeOf st es)
   unfolding pick
   placed-by {at} {st} a l h d e true k = placed-on a l h d (designation-silent (from at s) st d e (ltb-true (d .set) no-set k))
   placed-by a l h d e false k = here a l h
 
   passed-on : {at : ℕ} {st to : State} {es : Elements} → Ahead s at st es → Like st to → 1 ≤ length (recordsFrom es)
-      → Onward (passedOf s (cursor at to)) (outcomeOf es)
+      → Onward (passedOf s (cursor at to)) (outcomeOf st es)
   unfolding passedOf placedOf
   passed-on {at} a l h = placed-by a l h (designationAt (from at s)) refl (ltb (designationAt (from at s) .set) no-set) refl
 
@@ -183,5 +183,5 @@ module _ (s : List ℕ) (short : length s ≤ limit.octets) where
   advance-by (b ∷ t) n = either (eqb b 0x1B) (turns-on (twice (twice n))) (turns-on n)
 
   pub advance-ahead : {at : ℕ} {st to : State} {es : Elements} → Ahead s at st es → Like st to → 1 ≤ length (recordsFrom es)
-      → Turns (advanceOf s (cursor at to)) (outcomeOf es)
+      → Turns (advanceOf s (cursor at to)) (outcomeOf st es)
   advance-ahead {at} a l h = advance-by (from at s) (here a l h)

@@ -48,7 +48,7 @@ turn u c = record { unit = u; cursor = c }
 -- the next unit and the cursor after it; where there is none, nothing and the same cursor
 unfoldable pub outcomeTurn : Cursor → Outcome → Turn
 outcomeTurn c (Gives u place st) = turn u (cursor place st)
-outcomeTurn c (Stops n place) = turn blank c
+outcomeTurn c (Stops n place start to) = turn blank c
 
 unfoldable pub elementTurn : List ℕ → Cursor → Turn
 elementTurn s c = outcomeTurn c (nextOf s (c .place) (stateIn c))

@@ -83,7 +83,7 @@ fn by_element(s: &[u8], c: Cursor) -> Turn
                 unit: unit,
             }
         }
-        Outcome::Stops(number, place) => Turn {
+        Outcome::Stops(number, place, start, to) => Turn {
             cursor: c,
             unit: Unit::BLANK,
         },

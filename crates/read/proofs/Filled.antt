@@ -37,7 +37,7 @@ given (turns {to = to} l) = (to, (refl, l))
 module _ (s : List ℕ) (short : length s ≤ limit.octets) where
   -- a cursor from which the next unit, if there is one, is that of the elements
   fills : {at : ℕ} {st : State} {es : Elements} → Ahead s at st es → (c : Cursor)
-      → (1 ≤ length (recordsFrom es) → Turns (advanceOf s c) (outcomeOf es))
+      → (1 ≤ length (recordsFrom es) → Turns (advanceOf s c) (outcomeOf st es))
       → (ys : List UnitRecord) → length (recordsFrom es) ≤ length ys
       → filledTo s (length (recordsFrom es)) c ys ≡ recordsFrom es ++ drop (length (recordsFrom es)) ys
   unfolding recordsFrom outcomeOf

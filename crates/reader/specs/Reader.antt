@@ -1,14 +1,18 @@
 -- A reader that keeps hold of the string: what it hands out, and the whole reader afterwards.
-use Prim.Native.Nat.{ℕ, zero, suc}
+use Prim.Native.Nat.{ℕ, zero, suc, _+_}
+use mathlib.Core.Path.{_≡_}
 use mathlib.Core.List.{List, [], _∷_}
 use lib.Dec.{ltb}
 use lib.ListN.{length}
 use denote.Ref.{RefT, now}
-use Rattle.base.specs.Choice.{pick}
+use Rattle.base.specs.Choice.{pick, from}
 use Rattle.base.specs.Limit as limit
 use Rattle.base.specs.declared.Answer.{Answer}
 use Rattle.base.specs.declared.Unit.{Unit as UnitRecord}
 use Rattle.state.specs.State.{fresh}
+use Rattle.state.specs.declared.elements.Element.the-variants.{Refused}
+use Rattle.element.specs.Element.{elementOf}
+use Rattle.grammar.specs.Reading.{elementsOf, stopOf}
 use Rattle.units.specs.Records.{recordsOf}
 use Rattle.reader.specs.Step.{stepAt}
 use Rattle.reader.specs.declared.Item.{Item}
@@ -35,6 +39,18 @@ moved r = record { octets = r .octets; place = readerStep r .place; count = read
 unfoldable pub readerAfter : ℕ → Reader → Reader
 readerAfter zero r = r
 readerAfter (suc k) r = moved (readerAfter k r)
+
+-- the reader that has handed out all units of a string, and the answer: it stands where the reading stops (rule U7)
+abbrev pub atStop : RefT (List ℕ) → Reader
+atStop s =
+    let z = stopOf fresh (elementsOf (now s)) in
+    record { octets = s; place = z .place; count = length (recordsOf (now s)); state = z .state }
+
+-- a reader stands at the start of an element that is refused with the number of an answer, by the octet at the answer's place
+pub record AtRefused (r : Reader) (a : Answer) : Type 0 where
+  pub offset : ℕ
+  pub refuses : elementOf (from (r .place) (now (r .octets))) (r .state) ≡ Refused (a .number) offset
+  pub offends : r .place + offset ≡ a .place
 
 -- item k of units that are handed out one after the other, with the answer from then on
 unfoldable pub itemOf : ℕ → List UnitRecord → Answer → Item

@@ -53,15 +53,16 @@ unfoldable pub endedOf : ℕ → ℕ → ℕ → Answer
 endedOf number place count =
     pick (eqb number refusal.accepted) (answer refusal.accepted place count) (refusedAt number place)
 
--- a unit, and the reader stands after it; or the answer, and it stays where it stood after its last unit, so designations before the end are
--- not passed and the answer repeats (rule U7)
-unfoldable pub afterOf : ℕ → ℕ → State → Outcome → Stepped
-afterOf place count st (Gives u next to) = stepped (Given u) next (countedOf count) to
-afterOf place count st (Stops number at) = stepped (Ended (endedOf number at count)) place count st
+-- a unit, and the reader stands after it; or the answer, and it stands where the reading stops, at the end or at the start of the refused
+-- element: designations before it are passed, the count stays, and the answer repeats (rule U7)
+unfoldable pub afterOf : ℕ → Outcome → Stepped
+afterOf count (Gives u next to) = stepped (Given u) next (countedOf count) to
+afterOf count (Stops number at start to) = stepped (Ended (endedOf number at count)) start count to
 
--- a step from any place, count and state: 1 for the string comes first (rule U8), then 11 for a reader that may not stand so (rule U9)
+-- a step from any place, count and state: 1 for the string comes first (rule U8), then 11 for a reader that may not stand so (rule U9), and
+-- with either it stays
 unfoldable pub stepAt : List ℕ → ℕ → ℕ → State → Stepped
 stepAt s place count st =
     pick (ltb limit.octets (length s)) (stepped (Ended (refusedAt refusal.too-long 0)) place count st)
-    (pick (mayStand (length s) place st) (afterOf place count st (nextOf s place st))
+    (pick (mayStand (length s) place st) (afterOf count (nextOf s place st))
     (stepped (Ended (refusedAt refusal.bad-unit 0)) place count st))

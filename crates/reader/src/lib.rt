@@ -74,8 +74,8 @@ fn ended(number: u8, place: usize, count: usize) -> Answer
     Answer::refused(number, place)
 }
 
-// An answer, and the reader stays.
-fn stays(place: usize, count: usize, state: State, answer: Answer) -> Stepped
+// An answer, and where the reader stands with it.
+fn stands(place: usize, count: usize, state: State, answer: Answer) -> Stepped
     ensures { λ r. ⌜ r ≡ stepped (Ended answer) place count state ⌝ }
 {
     Stepped {
@@ -86,9 +86,9 @@ fn stays(place: usize, count: usize, state: State, answer: Answer) -> Stepped
     }
 }
 
-// The step to the next unit; where there is none, the reader stays.
-fn after(place: usize, count: usize, state: State, o: Outcome) -> Stepped
-    ensures { λ r. ⌜ r ≡ afterOf place count state o ⌝ }
+// The step to the next unit; where there is none, to where the reading stops.
+fn after(count: usize, o: Outcome) -> Stepped
+    ensures { λ r. ⌜ r ≡ afterOf count o ⌝ }
 {
     match o {
         Outcome::Gives(unit, next, to) => Stepped {
@@ -97,7 +97,7 @@ fn after(place: usize, count: usize, state: State, o: Outcome) -> Stepped
             state: to,
             item: Item::Given(unit),
         },
-        Outcome::Stops(number, at) => stays(place, count, state, ended(number, at, count)),
+        Outcome::Stops(number, at, start, to) => stands(start, count, to, ended(number, at, count)),
     }
 }
 
@@ -106,13 +106,13 @@ pub fn step(s: &[u8], place: usize, count: usize, state: State) -> Stepped
     ensures { λ r. ⌜ r ≡ stepAt (now (s .entry)) place count state ⌝ }
 {
     if limit::OCTETS < s.len() {
-        return stays(place, count, state, Answer::refused(refusal::TOO_LONG, 0));
+        return stands(place, count, state, Answer::refused(refusal::TOO_LONG, 0));
     }
     if may_stand(s.len(), place, state) {
         let o = units::next_unit(s, place, state);
-        return after(place, count, state, o);
+        return after(count, o);
     }
-    stays(place, count, state, Answer::refused(refusal::BAD_UNIT, 0))
+    stands(place, count, state, Answer::refused(refusal::BAD_UNIT, 0))
 }
 
 // A reader at the start of a string.

@@ -31,7 +31,7 @@ pub record Next (s : List ℕ) (o : Outcome) (l : List UnitRecord) : Type 0 wher
   pub comes : Comes s place to rest
 
 next-of : (s : List ℕ) {at : ℕ} {st : State} {es : Elements} → Ahead s at st es → 1 ≤ length (recordsFrom es)
-    → Next s (outcomeOf es) (recordsFrom es)
+    → Next s (outcomeOf st es) (recordsFrom es)
 unfolding recordsFrom outcomeOf
 next-of s (ends e) k = absurd (omega arith)
 next-of s (stops f e) k = absurd (omega arith)

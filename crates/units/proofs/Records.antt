@@ -79,9 +79,9 @@ records-count s z =
 
 -- the next unit of a string that is not too long
 pub next-ahead : (s : List ℕ) → length s ≤ limit.octets → {at : ℕ} {st : State} {es : Elements} → Ahead s at st es
-    → nextOf s at st ≡ outcomeOf es
+    → nextOf s at st ≡ outcomeOf st es
 unfolding nextOf pick
-next-ahead s short a = rw (le-ltb limit.octets (length s) short) (ap outcomeOf (ahead-is s a))
+next-ahead s short {st = st} a = rw (le-ltb limit.octets (length s) short) (ap (outcomeOf st) (ahead-is s a))
 
 -- each has an octet at least
 pub few-records : (s : List ℕ) {at : ℕ} {st : State} {es : Elements} → Ahead s at st es → at ≤ length s → at + length (recordsFrom es) ≤ length s

@@ -11,21 +11,21 @@ use Rattle.units.specs.declared.Outcome.{Outcome, the-variants.Gives, th
 
 -- what the elements from a place on give
 abbrev pub outcome : List ℕ → ℕ → State → Outcome
-outcome s at st = outcomeOf (ahead s at st)
+outcome s at st = outcomeOf st (ahead s at st)
 
 module _ (s : List ℕ) (at : ℕ) (st : State) (e : Element) (is : e ≡ elementOf (from at s) st) where
-  pub gives-end : e ≡ End → Stops refusal.accepted at ≡ outcome s at st
+  pub gives-end : e ≡ End → Stops refusal.accepted at at st ≡ outcome s at st
   unfolding outcomeOf
-  gives-end i = sym (ap outcomeOf (at-end s at st e is i))
+  gives-end i = sym (ap (outcomeOf st) (at-end s at st e is i))
 
-  pub gives-refused : {n o : ℕ} → e ≡ Refused n o → Stops n (at + o) ≡ outcome s at st
+  pub gives-refused : {n o : ℕ} → e ≡ Refused n o → Stops n (at + o) at st ≡ outcome s at st
   unfolding outcomeOf
-  gives-refused i = sym (ap outcomeOf (at-refused s at st e is i))
+  gives-refused i = sym (ap (outcomeOf st) (at-refused s at st e is i))
 
   pub gives-silent : {k : ℕ} {next : State} → e ≡ Silent k next → outcome s (at + k) next ≡ outcome s at st
   unfolding outcomeOf
-  gives-silent i = sym (ap outcomeOf (at-passed s at st e is silent i))
+  gives-silent i = sym (ap (outcomeOf st) (at-passed s at st e is silent i))
 
   pub gives-found : {p : Part} {next : State} {r : UnitRecord} → e ≡ Found p next → r ≡ recordOf p at → Gives r (at + size p) next ≡ outcome s at st
   unfolding outcomeOf
-  gives-found i q = rw q (sym (ap outcomeOf (at-passed s at st e is found i)))
+  gives-found i q = rw q (sym (ap (outcomeOf st) (at-passed s at st e is found i)))

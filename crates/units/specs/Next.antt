@@ -11,14 +11,14 @@ use Rattle.grammar.specs.Reading.{Elements, end-at, refused-at, silent-at, foun
 use Rattle.units.specs.Records.{recordOf}
 use Rattle.units.specs.declared.Outcome.{Outcome, the-variants.Gives, the-variants.Stops}
 
--- the first unit of elements, with the place and the state after it; or the number and the place of the end or of the refusal that comes
--- first
-unfoldable pub outcomeOf : Elements → Outcome
-outcomeOf (end-at at) = Stops refusal.accepted at
-outcomeOf (refused-at at n o) = Stops n (at + o)
-outcomeOf (silent-at at k st es) = outcomeOf es
-outcomeOf (found-at at p st es) = Gives (recordOf p at) (at + size p) st
+-- the first unit of elements under a state, with the place and the state after it; or the number and the place of the end or of the refusal
+-- that comes first, and where the reading stops: the end, or the start of the refused element, with the state there
+unfoldable pub outcomeOf : State → Elements → Outcome
+outcomeOf st (end-at at) = Stops refusal.accepted at at st
+outcomeOf st (refused-at at n o) = Stops n (at + o) at st
+outcomeOf st (silent-at at k next es) = outcomeOf next es
+outcomeOf st (found-at at p next es) = Gives (recordOf p at) (at + size p) next
 
--- the same from a place of a string on; of a string over the limit 1 comes first (rule U8)
+-- the same from a place of a string on; of a string over the limit 1 comes first, and nothing is read (rule U8)
 unfoldable pub nextOf : List ℕ → ℕ → State → Outcome
-nextOf s at st = pick (ltb limit.octets (length s)) (Stops refusal.too-long 0) (outcomeOf (elements (from at s) 0 at st))
+nextOf s at st = pick (ltb limit.octets (length s)) (Stops refusal.too-long 0 at st) (outcomeOf st (elements (from at s) 0 at st))

@@ -13,8 +13,9 @@ use state::elements::Part;
 pub enum Outcome {
     // a unit, and the place and the state after it
     Gives(Unit, usize, State),
-    // no further unit: the number and the place of the end, or of the refusal
-    Stops(u8, usize),
+    // no further unit: the number and the place of the end, or of the refusal; and where the reading stops, at the end or at the start of
+    // the refused element, with the state there
+    Stops(u8, usize, usize, State),
 }
 
 // The record of a unit whose element starts at a place.
@@ -37,7 +38,7 @@ pub fn next_unit(s: &[u8], place: usize, state: State) -> Outcome
     ensures { λ r. ⌜ r ≡ nextOf (now (s .entry)) place state ⌝ }
 {
     if limit::OCTETS < s.len() {
-        return Outcome::Stops(refusal::TOO_LONG, 0);
+        return Outcome::Stops(refusal::TOO_LONG, 0, place, state);
     }
     let mut at = place;
     let mut st = state;
@@ -45,11 +46,11 @@ pub fn next_unit(s: &[u8], place: usize, state: State) -> Outcome
         let e = element::element(s, at, st);
         match e {
             Element::End => {
-                return Outcome::Stops(refusal::ACCEPTED, at);
+                return Outcome::Stops(refusal::ACCEPTED, at, at, st);
             }
             Element::Refused(number, offset) => {
                 let stop = at + offset;
-                return Outcome::Stops(number, stop);
+                return Outcome::Stops(number, stop, at, st);
             }
             Element::Silent(octets, next) => {
                 at += octets;

@@ -6,11 +6,11 @@ use Rattle.reader.proofs.after.Tie as tie
 
 returns : tie.Need-returns
 unfolding afterOf
-returns c = rw (c .counted .ensures) (ap (afterOf _ _ _) (sym (c .before .before .o .given .1)))
+returns c = rw (c .counted .ensures) (ap (afterOf _) (sym (c .before .before .o .given .1)))
 
 returns-2 : tie.Need-returns-2
 unfolding afterOf
-returns-2 c = rw (c .stays .ensures, c .before .ended .ensures) (ap (afterOf _ _ _) (sym (c .before .before .before .o2 .given .1)))
+returns-2 c = rw (c .stands .ensures, c .before .ended .ensures) (ap (afterOf _) (sym (c .before .before .before .o2 .given .1)))
 
 pub after-spec : {M : Type 1} → statement M
 after-spec =

@@ -6,17 +6,17 @@ use Rattle.reader.proofs.step.Tie as tie
 
 returns : tie.Need-returns
 unfolding stepAt
-returns c = rw (c .stays .ensures, c .before .refused .ensures) (search ladder depth 9)
+returns c = rw (c .stands .ensures, c .before .refused .ensures) (search ladder depth 9)
 
 returns-2 : tie.Need-returns-2
 unfolding stepAt
 returns-2 c =
-    let h = c .after .ensures ∙ ap (afterOf _ _ _) (c .before .next-unit .ensures) in
+    let h = c .after .ensures ∙ ap (afterOf _) (c .before .next-unit .ensures) in
     search ladder depth 9
 
 returns-3 : tie.Need-returns-3
 unfolding stepAt
-returns-3 c = rw (c .stays2 .ensures, c .before .refused2 .ensures) (search ladder depth 9)
+returns-3 c = rw (c .stands2 .ensures, c .before .refused2 .ensures) (search ladder depth 9)
 
 pub step-spec : {M : Type 1} → statement M
 step-spec =
