@@ -14,6 +14,7 @@ mod listing;
 mod lists;
 mod naming;
 mod oracle;
+mod places;
 mod positions;
 mod random;
 mod reader;
