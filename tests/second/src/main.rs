@@ -13,6 +13,7 @@ mod forms;
 mod listing;
 mod lists;
 mod naming;
+mod odd;
 mod oracle;
 mod places;
 mod positions;
@@ -33,6 +34,8 @@ mod strings;
 mod tests;
 mod unit;
 mod writer;
+#[cfg(test)]
+mod wrong_places;
 #[cfg(test)]
 mod wrong_rules;
 
