@@ -24,6 +24,18 @@ pub fn every_octet() -> Vec<u8> {
     (0..=255).collect()
 }
 
+/// Before octets at which a sequence or a segment may be refused, alone and
+/// behind other elements.
+const REFUSED: [&[u8]; 7] = [
+    b"\x1B(!",
+    b"\x1B$)#/",
+    b"A\x9B2",
+    b"\x1B%/2\x80",
+    b"\x1B%/2\x80\x82",
+    b"A\x1B%/3\x80\x83",
+    b"\x1B-B\x1B%/2\x80\x83a",
+];
+
 /// Beginnings after which octets mean something else.
 pub fn prefixes() -> Vec<Vec<u8>> {
     let mut all: Vec<Vec<u8>> = DESIGNATIONS.iter().map(|d| d.octets.to_vec()).collect();
@@ -51,19 +63,8 @@ pub fn prefixes() -> Vec<Vec<u8>> {
         &[0x1B, 0x25, 0x2F],
         &[0x1B, 0x25, 0x2F, 0x31],
     ];
-    // Before each of the octets at which a sequence or a segment may be refused,
-    // and behind other elements.
-    let refused: [&[u8]; 7] = [
-        b"\x1B(!",
-        b"\x1B$)#/",
-        b"A\x9B2",
-        b"\x1B%/2\x80",
-        b"\x1B%/2\x80\x82",
-        b"A\x1B%/3\x80\x83",
-        b"\x1B-B\x1B%/2\x80\x83a",
-    ];
     let others = marks.iter().chain(&segments).chain(&directed);
-    let others = others.chain(&sequences).chain(&refused);
+    let others = others.chain(&sequences).chain(&REFUSED);
     all.extend(others.map(|prefix| prefix.to_vec()));
     all
 }

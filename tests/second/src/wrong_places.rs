@@ -88,10 +88,11 @@ impl WrongPlace {
         let n = length(element);
         let (body, last) = (&element[6..6 + n], 5 + n);
         let separator = body.iter().position(|&octet| octet == 0x02);
+        let uneven = |text: usize| text % shape::octets_of_one(element[3]) > 0;
         match (self, separator) {
             (BehindL, _) if n == 0 => 6,
             (SegmentEnd, _) | (NameWithout02, None) => last,
-            (LengthFirst, Some(0)) if (n - 1) % shape::octets_of_one(element[3]) != 0 => last,
+            (LengthFirst, Some(0)) if uneven(n - 1) => last,
             (BehindSegment, _) if right == last => last + 1,
             (AtSeparator, Some(place)) if right == last => 6 + place,
             _ => right,
