@@ -112,7 +112,7 @@ fn faults_of_body(element: &[u8]) -> Vec<usize> {
     if separator == Some(0) {
         faults.push(BODY);
     }
-    if separator.is_none() || text % shape::octets_of_one(element[3]) != 0 {
+    if separator.is_none() || !text.is_multiple_of(shape::octets_of_one(element[3])) {
         faults.push(last);
     }
     faults

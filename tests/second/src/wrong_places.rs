@@ -88,7 +88,7 @@ impl WrongPlace {
         let n = length(element);
         let (body, last) = (&element[6..6 + n], 5 + n);
         let separator = body.iter().position(|&octet| octet == 0x02);
-        let uneven = |text: usize| text % shape::octets_of_one(element[3]) > 0;
+        let uneven = |text: usize| !text.is_multiple_of(shape::octets_of_one(element[3]));
         match (self, separator) {
             (BehindL, _) if n == 0 => 6,
             (SegmentEnd, _) | (NameWithout02, None) => last,
