@@ -2,7 +2,6 @@
 #include "yardstick.h"
 
 #include <stdbool.h>
-#include <string.h>
 
 enum { ACCEPTED, TOO_LONG, CUT, UNUSED, UNKNOWN, NOT_APPROVED, VERSION, BAD_SEGMENT, DIRECTION, TOO_DEEP };
 enum { LONGEST = 65535, DEEPEST = 16 };
@@ -54,62 +53,67 @@ static void __attribute__((constructor)) fill_tables(void)
         for (const char *f = finals[d]; *f; f++) approved[d][(int)*f] = true;
 }
 
+// In the functions below, *at is where an escape goes on, and then its end, or the place of its refusal.
+#define STOP(number, place) return *at = (place), (number)
+
 // The octets after an escape's first two or three, up to its final octet: the number of the refusal, or 0.
 static inline int final_octet(const uint8_t **at, const uint8_t *end, enum designation d)
 {
     const uint8_t *p = *at, *first = p;
     for (;; p++) {
-        if (p == end) return CUT;
+        if (p == end) STOP(CUT, end);
         if (*p < 0x20 || *p > 0x2F) break;
-        if (p == first && (*p < 0x21 || *p > 0x23)) return UNKNOWN;
+        if (p == first && (*p < 0x21 || *p > 0x23)) STOP(UNKNOWN, p);
     }
-    if (*p < 0x40 || *p > 0x7E) return UNKNOWN;
-    if (p != first || !approved[d][*p]) return NOT_APPROVED;
-    *at = p + 1;
-    return ACCEPTED;
+    if (*p < 0x40 || *p > 0x7E) STOP(UNKNOWN, p);
+    if (p != first || !approved[d][*p]) STOP(NOT_APPROVED, p);
+    STOP(ACCEPTED, p + 1);
 }
 
-// The n octets of an extended segment: a name, 02 and a text of so many octets a character. How many octets the text has goes to *text.
-static int segment_octets(const uint8_t *octets, size_t n, unsigned width, unsigned *text)
+// The octets of an extended segment after L, up to the last, which is L itself where there are none: a name, 02 and a text of so many octets
+// a character. How many octets the text has goes to *text.
+static int segment_octets(const uint8_t **at, const uint8_t *last, unsigned width, unsigned *text)
 {
-    const uint8_t *separator = memchr(octets, 2, n);
-    if (!separator || separator == octets) return BAD_SEGMENT;
-    for (const uint8_t *p = octets; p < separator; p++)
-        if (*p < 0x21 || (*p > 0x7E && *p < 0xA1) || *p == 0x2A || *p == 0x3F) return BAD_SEGMENT;
-    *text = (unsigned)(octets + n - separator - 1);
-    return *text % width ? BAD_SEGMENT : ACCEPTED;
+    const uint8_t *p = *at;
+    for (; p <= last && *p != 2; p++)
+        if (*p < 0x21 || (*p > 0x7E && *p < 0xA1) || *p == 0x2A || *p == 0x3F) STOP(BAD_SEGMENT, p);
+    if (p > last) STOP(BAD_SEGMENT, last);
+    if (p == *at) STOP(BAD_SEGMENT, p);
+    *text = (unsigned)(last - p);
+    if (*text % width) STOP(BAD_SEGMENT, last);
+    STOP(ACCEPTED, last + 1);
 }
 
 // An extended segment, from its third octet on.
 static int segment(const uint8_t **at, const uint8_t *end, unsigned *text)
 {
     const uint8_t *p = *at;
-    if (p == end) return CUT;
-    if (*p++ != 0x2F) return UNKNOWN;
-    if (p == end) return CUT;
-    unsigned d = *p++ - 0x30u;
-    if (d > 4) return UNKNOWN;
-    if (p == end) return CUT;
-    unsigned m = *p++;
-    if (m < 0x80) return BAD_SEGMENT;
-    if (p == end) return CUT;
-    unsigned l = *p++;
-    if (l < 0x80) return BAD_SEGMENT;
+    if (p == end) STOP(CUT, end);
+    if (*p != 0x2F) STOP(UNKNOWN, p);
+    if (++p == end) STOP(CUT, end);
+    unsigned d = *p - 0x30u;
+    if (d > 4) STOP(UNKNOWN, p);
+    if (++p == end) STOP(CUT, end);
+    unsigned m = *p;
+    if (m < 0x80) STOP(BAD_SEGMENT, p);
+    if (++p == end) STOP(CUT, end);
+    unsigned l = *p;
+    if (l < 0x80) STOP(BAD_SEGMENT, p);
     size_t n = (m - 128) * 128 + (l - 128);
-    if ((size_t)(end - p) < n) return CUT;
-    *at = p + n;
-    return segment_octets(p, n, d < 2 ? 1 : d, text);
+    if ((size_t)(end - p) <= n) STOP(CUT, end);
+    *at = p + 1;
+    return segment_octets(at, p + n, d < 2 ? 1 : d, text);
 }
 
 static inline bool within(uint8_t octet, uint8_t lowest) { return (uint8_t)(octet - lowest) < 94; }
 
-#define REFUSE(number) return (struct verdict){(uint32_t)(number), (uint32_t)(start - octets)}
+#define REFUSE(number, place) return (struct verdict){(uint32_t)(number), (uint32_t)((place) - octets)}
 
 // Characters of two octets, on the side whose lowest octet is given: written out for each, so that it compares with constants.
 #define PAIRS(lowest)                                                                   \
-    if (end - p < 2) REFUSE(CUT);                                                       \
-    if (!within(p[1], lowest)) REFUSE(UNUSED);                                          \
-    if (marked && !depth) REFUSE(DIRECTION);                                            \
+    if (end - p < 2) REFUSE(CUT, end);                                                  \
+    if (!within(p[1], lowest)) REFUSE(UNUSED, p + 1);                                   \
+    if (marked && !depth) REFUSE(DIRECTION, start);                                     \
     texted = true;                                                                      \
     p += 2;                                                                             \
     while (end - p >= 2 && within(p[0], lowest) && within(p[1], lowest)) p += 2;        \
@@ -118,7 +122,7 @@ static inline bool within(uint8_t octet, uint8_t lowest) { return (uint8_t)(octe
 struct verdict yardstick(const uint8_t *octets, size_t length)
 {
     const uint8_t *p = octets, *start = octets, *end = octets + length;
-    if (length > LONGEST) REFUSE(TOO_LONG);
+    if (length > LONGEST) REFUSE(TOO_LONG, start);
     int left = LEFT_94, right = RIGHT_96, depth = 0, number;
     bool marked = false, texted = false;
     unsigned text;
@@ -127,7 +131,7 @@ struct verdict yardstick(const uint8_t *octets, size_t length)
         start = p;
         switch (class[*p]) {
         case UNIT:
-            if (marked && !depth) REFUSE(DIRECTION);
+            if (marked && !depth) REFUSE(DIRECTION, start);
             texted = true;
             for (p++; p + 4 <= end; p += 4) {
                 uint32_t any = class[p[0]] | class[p[1]] | class[p[2]] | class[p[3]];
@@ -142,47 +146,48 @@ struct verdict yardstick(const uint8_t *octets, size_t length)
         case PAIR_IN_RIGHT: PAIRS(0xA1);
         case ESCAPE: {
             enum designation d;
-            if (++p == end) REFUSE(CUT);
+            if (++p == end) REFUSE(CUT, end);
             switch (*p++) {
             case 0x28: d = LEFT_94; break;
             case 0x29: d = RIGHT_94; break;
             case 0x2D: d = RIGHT_96; break;
             case 0x24:
-                if (p == end) REFUSE(CUT);
-                if (*p != 0x28 && *p != 0x29) REFUSE(UNKNOWN);
+                if (p == end) REFUSE(CUT, end);
+                if (*p != 0x28 && *p != 0x29) REFUSE(UNKNOWN, p);
                 d = *p++ == 0x28 ? LEFT_PAIRS : RIGHT_PAIRS;
                 break;
             case 0x25:
-                if ((number = segment(&p, end, &text))) REFUSE(number);
-                if (text && marked && !depth) REFUSE(DIRECTION);
+                if ((number = segment(&p, end, &text))) REFUSE(number, p);
+                if (text && marked && !depth) REFUSE(DIRECTION, start);
                 if (text) texted = true;
                 continue;
-            case 0x23: REFUSE(VERSION);
-            default: REFUSE(UNKNOWN);
+            case 0x23: REFUSE(VERSION, start + 1);
+            default: REFUSE(UNKNOWN, start + 1);
             }
-            if ((number = final_octet(&p, end, d))) REFUSE(number);
+            if ((number = final_octet(&p, end, d))) REFUSE(number, p);
             if (d <= LEFT_PAIRS) left = d;
             else right = d;
             class = classes[left][right - RIGHT_94];
             break;
         }
         case CSI:
-            if (++p == end) REFUSE(CUT);
+            if (++p == end) REFUSE(CUT, end);
             if (*p == 0x5D) {
-                if (!depth) REFUSE(DIRECTION);
+                if (!depth) REFUSE(DIRECTION, start);
                 depth--;
                 p++;
                 break;
             }
-            if (*p != 0x31 && *p != 0x32) REFUSE(UNKNOWN);
-            if (++p == end) REFUSE(CUT);
-            if (*p++ != 0x5D) REFUSE(UNKNOWN);
-            if (!marked && texted) REFUSE(DIRECTION);
-            if (depth == DEEPEST) REFUSE(TOO_DEEP);
+            if (*p != 0x31 && *p != 0x32) REFUSE(UNKNOWN, p);
+            if (++p == end) REFUSE(CUT, end);
+            if (*p != 0x5D) REFUSE(UNKNOWN, p);
+            if (!marked && texted) REFUSE(DIRECTION, start);
+            if (depth == DEEPEST) REFUSE(TOO_DEEP, start);
+            p++;
             depth++;
             marked = true;
             break;
-        default: REFUSE(UNUSED);
+        default: REFUSE(UNUSED, start);
         }
     }
     return (struct verdict){ACCEPTED, (uint32_t)length};

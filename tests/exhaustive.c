@@ -2,8 +2,9 @@
 //
 // Each part is a prefix with all its continuations by up to DEPTH octets. The parts are the empty string alone, the 256 prefixes of one octet,
 // so that with a DEPTH of 3 these are all strings of up to four octets, and the prefixes below, after which a short string meets states and
-// elements that it cannot reach by itself. The processes take the parts in turn. Compared are number and place; the yardstick counts no units,
-// so of the count only that a refusal has none, and that an accepted string has no more units than octets.
+// elements that it cannot reach by itself. The processes take the parts in turn. Compared are the number and the place, of a refusal the octet
+// that it names; the yardstick counts no units, so of the count only that a refusal has none, and that an accepted string has no more units
+// than octets.
 #define _DEFAULT_SOURCE
 #include <stdatomic.h>
 #include <stdbool.h>
@@ -47,10 +48,12 @@ static const struct prefix prefixes[] = {
     {"inside a designation, before its side", "\x1B$"},
     {"inside a designation, before its final octet", "\x1B$("},
     {"inside a designation, after an intermediate", "\x1B-!"},
+    {"text, inside a designation, after intermediates", "A\x1B$)#/"},
     {"inside a two-octet character", "\x1B$(B0"},
     {"inside a segment, before its length", "\x1B%/2"},
     {"inside a segment, before the second octet of its length", "\x1B%/2\x80"},
     {"inside a segment of three octets, two a character", "\x1B%/2\x80\x83"},
+    {"text, inside a segment of three octets, three a character", "A\x1B%/3\x80\x83"},
     {"inside a segment's name", "\x1B%/1\x80\x83" "a"},
     {"inside a segment's name, three octets a character", "\x1B%/3\x80\x85" "ab"},
     {"inside a segment's text", "\x1B%/1\x80\x84" "a\x02"},

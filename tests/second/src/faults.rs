@@ -12,6 +12,7 @@ use crate::sets::{self, Row};
 use crate::steps::{self, Handed, Position};
 use crate::unit::*;
 use crate::writer;
+use crate::wrong_places::WrongPlace;
 use crate::wrong_rules::WrongRule;
 
 #[derive(Clone, Copy, PartialEq)]
@@ -35,8 +36,12 @@ pub enum Fault {
     Opened,
     /// A refused string hands out no unit.
     NoUnitBeforeRefusal,
-    /// A reader at the end passes the designations before it.
-    EndMovesReader,
+    /// A reader at the end stays behind its last unit, as before request No. 4.
+    EndStaysBehind,
+    /// So does one before an offending element.
+    RefusalStaysBehind,
+    /// A reader stands at the octet that its refusal names.
+    StandsAtOctet,
     /// Past its end a reader answers that there is none.
     EndIsOnce,
     /// The units are counted by the library, since the last opening.
@@ -82,10 +87,36 @@ pub enum Fault {
     SideIsFlag,
     /// A number past the last set has the row of that.
     RowOfNone,
+    /// Every refusal of a string has a wrong place.
+    Places(WrongPlace),
+    /// One of the functions alone refuses at the element's start.
+    PlaceOf(Call),
     /// The check and the steps keep a wrong rule for segments.
     Reads(WrongRule),
     /// The writer keeps one.
     Writes(WrongRule),
+}
+
+/// The functions that hand back the refusal of a string.
+#[derive(Clone, Copy, PartialEq, Debug)]
+pub enum Call {
+    Check,
+    Read,
+    Run,
+    Next,
+    NextRun,
+    NextRuns,
+}
+
+impl Call {
+    pub const ALL: [Call; 6] = [
+        Call::Check,
+        Call::Read,
+        Call::Run,
+        Call::Next,
+        Call::NextRun,
+        Call::NextRuns,
+    ];
 }
 
 pub struct Faulty {
@@ -136,6 +167,7 @@ impl Faulty {
     fn spoil(&self, s: &[u8], from: Position, steps: &[Handed]) -> Handed {
         let (first, last) = (steps[0], steps[steps.len() - 1]);
         let mut handed = first;
+        handed.answer = self.placed(Call::Next, s, first.position.place, first.answer);
         match self.fault {
             Fault::NoUnitBeforeRefusal if !last.answer.is_accepted() => {
                 handed = Handed {
@@ -143,8 +175,12 @@ impl Faulty {
                     ..last
                 };
             }
-            Fault::EndMovesReader if first.given == 0 && first.answer.is_accepted() => {
-                handed.position.place = s.len();
+            Fault::EndStaysBehind if first.given == 0 && first.answer.is_accepted() => {
+                handed.position = from;
+            }
+            Fault::RefusalStaysBehind if !first.answer.is_accepted() => handed.position = from,
+            Fault::StandsAtOctet if !first.answer.is_accepted() => {
+                handed.position.place = handed.answer.place;
             }
             Fault::EndIsOnce if first.given == 0 && self.ended.replace(true) => {
                 handed.answer = Answer::refusal(11, 0);
@@ -159,6 +195,35 @@ impl Faulty {
             _ => {}
         }
         handed
+    }
+
+    /// The answer of a function, with a wrong place if that is the fault.
+    fn placed(&self, call: Call, s: &[u8], start: usize, answer: Answer) -> Answer {
+        let wrong = match self.fault {
+            Fault::Places(wrong) => wrong,
+            Fault::PlaceOf(faulty) if faulty == call => match answer.number {
+                2 => WrongPlace::CutAtStart,
+                _ => WrongPlace::Start,
+            },
+            _ => return answer,
+        };
+        wrong.answer(s, start, answer)
+    }
+
+    /// The same for a string that is read from its start.
+    fn placed_in_string(&self, call: Call, s: &[u8], answer: Answer) -> Answer {
+        let steps = steps::steps(s, Position::OPENED);
+        let start = steps[steps.len() - 1].position.place;
+        self.placed(call, s, start, answer)
+    }
+
+    /// The same for a reader of runs: one that has not checked the string answers
+    /// for the whole of it, others for the element before which they stand.
+    fn placed_in_runs(&self, call: Call, s: &[u8], reader: &RunReader, answer: Answer) -> Answer {
+        match reader.checked {
+            0 => self.placed_in_string(call, s, answer),
+            _ => self.placed(call, s, reader.at.place, answer),
+        }
     }
 
     /// What a faulty way makes of its input.
@@ -182,7 +247,7 @@ impl Library for Faulty {
         if self.fault == Fault::CountOfRefusal && answer.number == 8 {
             answer.count = 1;
         }
-        answer
+        self.placed_in_string(Call::Check, s, answer)
     }
 
     fn read(&self, s: &[u8], list: &mut [Unit], room: usize) -> Answer {
@@ -195,7 +260,7 @@ impl Library for Faulty {
         if answer.is_accepted() && self.fault == Fault::RecordTooMany {
             list[units.len()] = Unit::default();
         }
-        answer
+        self.placed_in_string(Call::Read, s, answer)
     }
 
     fn run(&self, s: &[u8], number: usize) -> Shown {
@@ -203,6 +268,7 @@ impl Library for Faulty {
         if let (Fault::PlaceOfRun, Some((start, _))) = (self.fault, &mut shown.part) {
             *start += usize::from(s[*start] >= 0xA0);
         }
+        shown.answer = self.placed_in_string(Call::Run, s, shown.answer);
         shown
     }
 
@@ -252,6 +318,8 @@ impl Library for Faulty {
                 *length += 1;
             }
         }
+        let answer = step.shown.answer;
+        step.shown.answer = self.placed_in_runs(Call::NextRun, s, &step.reader, answer);
         step
     }
 
@@ -287,6 +355,7 @@ impl Library for Faulty {
             _ => {}
         }
         list[..words.len()].copy_from_slice(&words);
+        let answer = self.placed_in_runs(Call::NextRuns, s, &reader, answer);
         (reader, answer)
     }
 

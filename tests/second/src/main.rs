@@ -13,7 +13,9 @@ mod forms;
 mod listing;
 mod lists;
 mod naming;
+mod odd;
 mod oracle;
+mod places;
 mod positions;
 mod random;
 mod reader;
@@ -32,6 +34,8 @@ mod strings;
 mod tests;
 mod unit;
 mod writer;
+#[cfg(test)]
+mod wrong_places;
 #[cfg(test)]
 mod wrong_rules;
 

@@ -7,7 +7,7 @@ use crate::steps::{self, Position};
 use crate::unit::DEPTH;
 
 /// A string for each kind of element and each reason to refuse one.
-const ELEMENTS: [&[u8]; 19] = [
+const ELEMENTS: [&[u8]; 24] = [
     b"",
     b"\x09",
     b"\x0A",
@@ -26,6 +26,11 @@ const ELEMENTS: [&[u8]; 19] = [
     b"\x1B\x28\x4A",
     b"\x1B\x24\x29\x42",
     b"\x1B\x28",
+    b"\x1B\x24\x42",
+    b"\x1B\x28\x21\x42",
+    b"\x1B\x23",
+    b"\x1B\x25\x2F\x31\x80\x82a\x2A",
+    b"\x1B\x2D\x42\x1B\x25\x2F\x31\x80\x80",
     b"\x00",
 ];
 

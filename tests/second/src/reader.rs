@@ -1,5 +1,6 @@
 //! The reader: elements by shape, then the direction rule, then units.
 
+use crate::places;
 use crate::sets::Sets;
 use crate::shape::{self, Element, Piece};
 use crate::unit::*;
@@ -100,6 +101,11 @@ impl State {
         self.place <= length && self.sets.are_good() && self.marks.open.len() <= DEPTH
     }
 
+    /// The refusal of the element at the state's place.
+    pub fn refusal(&self, s: &[u8], number: u8) -> Answer {
+        Answer::refusal(number, places::place(s, self.place, self.sets, number))
+    }
+
     /// Goes past an element that the direction rule has admitted.
     pub fn pass(&mut self, element: &Element) {
         self.place = element.end;
@@ -113,7 +119,13 @@ impl State {
 /// Reads on from a state to the end or the offending element. Shows every
 /// element before it, with the state after the element, to `take`, and gives
 /// the final answer.
-pub fn read_on(s: &[u8], mut state: State, mut take: impl FnMut(&Element, &State)) -> Answer {
+pub fn read_on(s: &[u8], mut state: State, take: impl FnMut(&Element, &State)) -> Answer {
+    advance(s, &mut state, take)
+}
+
+/// The same, and the state is afterwards that at the end, or that in which the
+/// offending element is met; a string that is not read at all leaves it.
+pub fn advance(s: &[u8], state: &mut State, mut take: impl FnMut(&Element, &State)) -> Answer {
     if s.len() > LIMIT {
         return Answer::refusal(1, 0);
     }
@@ -121,8 +133,8 @@ pub fn read_on(s: &[u8], mut state: State, mut take: impl FnMut(&Element, &State
         return Answer::refusal(11, 0);
     }
     while state.place < s.len() {
-        if let Err(number) = pass_element(s, &mut state, &mut take) {
-            return Answer::refusal(number, state.place);
+        if let Err(number) = pass_element(s, state, &mut take) {
+            return state.refusal(s, number);
         }
     }
     Answer::accepted(s.len(), state.handed)

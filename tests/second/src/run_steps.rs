@@ -221,6 +221,27 @@ mod tests {
         assert_eq!(none[0].reader, RunReader::OPENED);
     }
 
+    /// The answer names the octet, and the reader stands at the element's start.
+    #[test]
+    fn a_refused_reader_stands_before_the_element() {
+        let s = [0x41, 0x1B, 0x28, 0x4A, 0x1B, 0x24, 0x42];
+        let word = RunReader {
+            checked: 1,
+            ..RunReader::OPENED
+        };
+        let steps = run_steps(&s, word);
+        let answers: Vec<Answer> = steps.iter().map(|step| step.shown.answer).collect();
+        assert_eq!(answers, [Answer::accepted(7, 1), Answer::refusal(4, 6)]);
+        let stands = steps[1].reader.at;
+        assert_eq!((stands.place, stands.gl), (4, 2));
+        let lists = run_lists(&s, word, 3);
+        assert_eq!(lists[1].answer, Answer::refusal(4, 6));
+        assert_eq!(lists[1].reader.at, stands);
+        let none = run_steps(&s, RunReader::OPENED);
+        assert_eq!(none[0].shown.answer, Answer::refusal(4, 6));
+        assert_eq!(none[0].reader, RunReader::OPENED);
+    }
+
     #[test]
     fn a_run_is_one_word() {
         let s = [

@@ -489,8 +489,9 @@ fn times<T: PartialEq>(items: &[T], length: usize) -> usize {
 #[cfg(test)]
 mod tests {
     use super::*;
-    use crate::faults::{Fault, Faulty};
+    use crate::faults::{Call, Fault, Faulty};
     use crate::unit::*;
+    use crate::wrong_places::WrongPlace;
     use crate::wrong_rules::WrongRule;
 
     fn session(fault: Fault) -> Session<Faulty> {
@@ -590,8 +591,15 @@ mod tests {
         let (smallest, call) = found(Fault::NoUnitBeforeRefusal, &refused);
         assert_eq!(smallest, [0x20, 0x1B]);
         assert_eq!(call, "ctext_next number 0");
-        let (smallest, call) = found(Fault::EndMovesReader, &s);
+        let (smallest, call) = found(Fault::EndStaysBehind, &s);
         assert_eq!(smallest, [0x1B, 0x2D, 0x42]);
+        assert_eq!(call, "ctext_next number 0");
+        let designated = [0x41, 0x1B, 0x28, 0x4A, 0x09, 0x1B, 0x2D, 0x42, 0x00];
+        let (smallest, call) = found(Fault::RefusalStaysBehind, &designated);
+        assert_eq!(smallest, [0x1B, 0x2D, 0x42, 0x00]);
+        assert_eq!(call, "ctext_next number 0");
+        let (smallest, call) = found(Fault::StandsAtOctet, &refused);
+        assert_eq!(smallest, [0x1B]);
         assert_eq!(call, "ctext_next number 0");
         let (smallest, call) = found(Fault::EndIsOnce, &s);
         assert_eq!(smallest, []);
@@ -736,6 +744,62 @@ mod tests {
         let s = b"\x9B1]A\x9B]\x09\x1B%/1\x80\x84abcd\x0A";
         let bad_after_revert = check(b"\x9B1]\x9B]\x1B%/1d");
         assert_eq!(found(WrongRule::BadToo, s), bad_after_revert);
+    }
+
+    /// Each wrong place shows in the strings after a prefix, in random strings,
+    /// and in readers made by hand.
+    #[test]
+    fn wrong_places_are_found() {
+        for wrong in WrongPlace::ALL {
+            let differences = |compare: fn(&mut Session<Faulty>)| {
+                let mut session = session(Fault::Places(wrong));
+                compare(&mut session);
+                session.differences
+            };
+            let prefixed = differences(|session| {
+                for prefix in strings::prefixes() {
+                    session.all_strings(&prefix, &strings::TELLING, 2);
+                }
+            });
+            let strings = differences(|session| session.random_strings(5_000));
+            let readers = differences(|session| session.random_readers(5_000));
+            let found = [prefixed, strings, readers];
+            assert!(found.iter().all(|&times| times > 5), "{wrong:?} {found:?}");
+        }
+    }
+
+    /// Each function's place is compared, not only that of the check.
+    #[test]
+    fn a_wrong_place_of_one_function_is_found() {
+        for call in Call::ALL {
+            let differences = |compare: fn(&mut Session<Faulty>)| {
+                let mut session = session(Fault::PlaceOf(call));
+                compare(&mut session);
+                session.differences
+            };
+            let strings = differences(|session| session.all_strings(&[0x1B], &strings::FEW, 2));
+            let readers = differences(|session| session.random_readers(2_000));
+            assert!(strings > 5, "{call:?}");
+            let of_readers = matches!(call, Call::Next | Call::NextRun | Call::NextRuns);
+            assert_eq!(readers > 5, of_readers, "{call:?}");
+        }
+    }
+
+    #[test]
+    fn wrong_places_are_shrunk() {
+        let found = |wrong, s: &[u8]| smallest(Fault::Places(wrong), s).0;
+        let s = b"A\x09\x1B$B\x09";
+        assert_eq!(found(WrongPlace::Start, s), b"\x1BB");
+        assert_eq!(found(WrongPlace::CutAtStart, b"A\x1B$("), b"\x1B");
+        assert_eq!(found(WrongPlace::VersionAtEscape, b"A\x1B#0"), b"\x1B#");
+        let s = b"A\x1B(!\x2FB\x09";
+        assert_eq!(found(WrongPlace::Intermediate, s), b"\x1B(!B");
+        let s = b"A\x1B%/1\x81\x7Fa\x02";
+        assert_eq!(found(WrongPlace::MForL, s), b"\x1B%/1\x81\x7F");
+        let s = b"A\x1B%/1\x80\x82\x2Aa\x02";
+        let no_02 = b"\x1B%/1\x80\x82\x2Aa";
+        assert_eq!(found(WrongPlace::NameWithout02, s), no_02);
+        assert_eq!(found(WrongPlace::SegmentEnd, s), no_02);
     }
 
     /// A writer that keeps the rule from before request No. 2.

@@ -81,6 +81,11 @@ const LEADS: [(u8, u8, &[u8]); 5] = [
     (3, 1, &[0x1B, 0x24, 0x29]),
 ];
 
+/// What designations begin with, up to their final octets.
+pub fn leads() -> impl Iterator<Item = &'static [u8]> {
+    LEADS.iter().map(|lead| lead.2)
+}
+
 /// The octets of a designation by its form, side and final octet, where there is
 /// such a form for the side.
 fn spelling(form: u8, side: u8, last: u8) -> Option<Vec<u8>> {

@@ -162,21 +162,26 @@ fn second(side: Side, set: u8, first: u8, octet: u8) -> Step {
 pub fn segment_text(d: u8, body: &[u8]) -> Option<&[u8]> {
     let name_length = body.iter().position(|&octet| octet == 0x02)?;
     let (name, text) = (&body[..name_length], &body[name_length + 1..]);
-    let octets_of_one = match d {
+    let good_name = !name.is_empty() && name.iter().all(is_name_octet);
+    (good_name && text.len() % octets_of_one(d) == 0).then_some(text)
+}
+
+/// The octets of one character in the text of a segment.
+pub fn octets_of_one(d: u8) -> usize {
+    match d {
         0x32 => 2,
         0x33 => 3,
         0x34 => 4,
         _ => 1,
-    };
-    let good_name = !name.is_empty() && name.iter().all(is_name_octet);
-    (good_name && text.len() % octets_of_one == 0).then_some(text)
+    }
 }
 
-fn is_name_octet(octet: &u8) -> bool {
+pub fn is_name_octet(octet: &u8) -> bool {
     matches!(octet, 0x21..=0x7E | 0xA1..=0xFF) && !matches!(octet, 0x2A | 0x3F)
 }
 
-/// The element that starts at `start`, or the number of its refusal.
+/// The element that starts at `start`, or the number of its refusal. Where in the
+/// element that is, `places` looks for.
 pub fn element(s: &[u8], start: usize, sets: Sets) -> Result<Element, u8> {
     let mut step = first(s[start], sets);
     let mut end = start + 1;

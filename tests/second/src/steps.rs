@@ -98,25 +98,24 @@ pub struct Handed {
 }
 
 /// All steps of a reader over a string: those with a unit, and the one with the
-/// answer, which repeats from then on.
+/// answer, which repeats from then on. With the answer the reader stands at the
+/// end, or at the start of the offending element, also where only designations
+/// stand before that.
 pub fn steps(s: &[u8], from: Position) -> Vec<Handed> {
-    let state = from.state();
-    let mut position = Position::of(&state);
+    let mut state = from.state();
     let mut steps = Vec::new();
-    let answer = reader::read_on(s, state, |element, after| {
+    let answer = reader::advance(s, &mut state, |element, after| {
         if let Some(unit) = reader::unit_of(element) {
-            position = Position::of(after);
             steps.push(Handed {
-                position,
+                position: Position::of(after),
                 answer: Answer::accepted(0, 0),
                 unit,
                 given: 1,
             });
         }
     });
-    // Designations behind the last unit do not move the reader.
     steps.push(Handed {
-        position,
+        position: Position::of(&state),
         answer,
         unit: Unit::default(),
         given: 0,
@@ -173,12 +172,67 @@ mod tests {
             .collect();
         assert_eq!(
             stands,
-            [(3, 1, 1, 1), (9, 2, 1, 1), (11, 3, 0, 0), (11, 3, 0, 0)]
+            [(3, 1, 1, 1), (9, 2, 1, 1), (11, 3, 0, 0), (14, 3, 0, 0)]
         );
         let sets: Vec<u8> = steps.iter().map(|step| step.position.gl).collect();
-        assert_eq!(sets, [0, 13, 13, 13]);
+        assert_eq!(sets, [0, 13, 13, 0]);
         assert_eq!(steps[3].answer, Answer::refusal(3, 14));
         assert_eq!(steps[3].given, 0);
+    }
+
+    /// Place, count, sets and answer of the last step.
+    fn stands(s: &[u8], from: Position) -> (usize, usize, u8, u8, Answer) {
+        let steps = steps(s, from);
+        let last = steps[steps.len() - 1];
+        let at = last.position;
+        // From there on it repeats.
+        assert_eq!(super::steps(s, at), [last]);
+        (at.place, at.count, at.gl, at.gr, last.answer)
+    }
+
+    /// The reader is past the designations, and before the element whose octet
+    /// its answer names; the units stay counted.
+    #[test]
+    fn a_reader_stands_before_the_offending_element() {
+        let opened = Position::OPENED;
+        let refused = Answer::refusal;
+        let found = stands(b"\x1B(J\x1B$B", opened);
+        assert_eq!(found, (3, 0, 2, 3, refused(4, 5)));
+        let found = stands(b"A\x1B(J\x1B-B\x1B%/2\x80\x84ab\x02\xFF", opened);
+        assert_eq!(found, (7, 1, 2, 4, refused(7, 16)));
+        let found = stands(b"\x1B$(B0!0", opened);
+        assert_eq!(found, (6, 1, 13, 3, refused(2, 7)));
+        let found = stands(b"A\x1B(J\x9B1]", opened);
+        assert_eq!(found, (4, 1, 2, 3, refused(8, 4)));
+        let found = stands(b"A\x1B(J", opened);
+        assert_eq!(found, (4, 1, 2, 3, Answer::accepted(4, 1)));
+        let found = stands(b"\x1B(J\x1B-B", opened);
+        assert_eq!(found, (6, 0, 2, 4, Answer::accepted(6, 0)));
+    }
+
+    /// Also one made by hand, whose directions and count stay; one that is not
+    /// read on does not move.
+    #[test]
+    fn a_reader_made_by_hand_stands_there_too() {
+        let from = Position {
+            place: 1,
+            count: 7,
+            marked: 9,
+            ..by_hand(3, 0b1_0101)
+        };
+        let last = steps(b"\x00\x1B(J\x1B-!B", from)[0];
+        let stands = Position {
+            place: 4,
+            marked: 1,
+            gl: 2,
+            ..by_hand(3, 0b101)
+        };
+        assert_eq!(last.answer, Answer::refusal(5, 7));
+        assert_eq!(last.position, Position { count: 7, ..stands });
+        let long = [&[0x1B, 0x28, 0x4A][..], &[0x09; LIMIT]].concat();
+        let last = steps(&long, by_hand(1, 1))[0];
+        assert_eq!(last.answer, Answer::refusal(1, 0));
+        assert_eq!(last.position, by_hand(1, 1));
     }
 
     /// Where no direction is open after a mark, a segment with a text is refused

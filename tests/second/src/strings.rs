@@ -1,5 +1,6 @@
 //! Strings to compare: all of a kind, random ones, and those at the limit.
 
+use crate::odd;
 use crate::random::Random;
 use crate::reader;
 use crate::sets::{self, Sets, Side, DESIGNATIONS};
@@ -22,6 +23,18 @@ pub const FEW: [u8; 12] = [
 pub fn every_octet() -> Vec<u8> {
     (0..=255).collect()
 }
+
+/// Before octets at which a sequence or a segment may be refused, alone and
+/// behind other elements.
+const REFUSED: [&[u8]; 7] = [
+    b"\x1B(!",
+    b"\x1B$)#/",
+    b"A\x9B2",
+    b"\x1B%/2\x80",
+    b"\x1B%/2\x80\x82",
+    b"A\x1B%/3\x80\x83",
+    b"\x1B-B\x1B%/2\x80\x83a",
+];
 
 /// Beginnings after which octets mean something else.
 pub fn prefixes() -> Vec<Vec<u8>> {
@@ -51,7 +64,8 @@ pub fn prefixes() -> Vec<Vec<u8>> {
         &[0x1B, 0x25, 0x2F, 0x31],
     ];
     let others = marks.iter().chain(&segments).chain(&directed);
-    all.extend(others.chain(&sequences).map(|prefix| prefix.to_vec()));
+    let others = others.chain(&sequences).chain(&REFUSED);
+    all.extend(others.map(|prefix| prefix.to_vec()));
     all
 }
 
@@ -80,7 +94,8 @@ pub fn all_strings(
     }
 }
 
-/// A random string: pieces of the grammar, then damage in most cases.
+/// A random string: pieces of the grammar, in some cases a refused one in front
+/// or at the end, then damage in most cases.
 pub fn random_string(random: &mut Random) -> Vec<u8> {
     let pieces = match random.below(10) {
         0 => random.between(30, 120),
@@ -88,6 +103,9 @@ pub fn random_string(random: &mut Random) -> Vec<u8> {
         _ => random.between(0, 8),
     };
     let mut s = Builder::new(random).build(random, pieces);
+    if random.percent(6) {
+        s.splice(0..0, odd::piece(random, Sets::FRESH));
+    }
     let changes = random.pick(&[0, 0, 0, 1, 1, 1, 2, 3]);
     for _ in 0..changes {
         damage(random, &mut s, &TELLING);
@@ -157,6 +175,9 @@ impl Builder {
         for _ in 0..pieces {
             self.piece(random);
         }
+        if random.percent(20) {
+            self.s.extend(odd::piece(random, self.sets));
+        }
         self.s
     }
 
@@ -171,7 +192,7 @@ impl Builder {
             73..=80 => self.begin(random),
             81..=87 => self.revert(random),
             88..=95 => self.segment(random),
-            96 => self.s.extend(odd_piece(random)),
+            96 => self.s.extend(odd::piece(random, self.sets)),
             97..=99 => self.text(random),
             100..=224 => self.segment(random),
             225..=299 => self.begin(random),
@@ -320,7 +341,7 @@ fn octets_of_one(d: u8) -> usize {
     [1, 1, 2, 3, 4][usize::from(d - 0x30)]
 }
 
-fn random_name_octet(random: &mut Random) -> u8 {
+pub fn random_name_octet(random: &mut Random) -> u8 {
     loop {
         let octet = random.octet();
         let good = (0x21..=0x7E).contains(&octet) || octet >= 0xA1;
@@ -330,37 +351,26 @@ fn random_name_octet(random: &mut Random) -> u8 {
     }
 }
 
-fn segment(d: u8, body: &[u8]) -> Vec<u8> {
-    let (high, low) = (body.len() / 128, body.len() % 128);
-    let mut s = vec![0x1B, 0x25, 0x2F, d, 0x80 + high as u8, 0x80 + low as u8];
+pub fn segment(d: u8, body: &[u8]) -> Vec<u8> {
+    let mut s = segment_head(d, body.len());
     s.extend_from_slice(body);
     s
 }
 
-/// A piece that is refused, or is a designation with something in it.
-fn odd_piece(random: &mut Random) -> Vec<u8> {
-    let forms: [&[u8]; 6] = [
-        &[0x1B, 0x28],
-        &[0x1B, 0x29],
-        &[0x1B, 0x2D],
-        &[0x1B, 0x24, 0x28],
-        &[0x1B, 0x24, 0x29],
-        &[0x1B, 0x25, 0x2F],
-    ];
-    match random.below(5) {
-        0 => vec![random.octet()],
-        1 => vec![random.pick(&[0x1B, 0x9B]), random.octet(), random.octet()],
-        2 => vec![0x1B, 0x23, 0x20, 0x30],
-        _ => {
-            let mut s = random.pick(&forms).to_vec();
-            for _ in 0..random.below(3) {
-                s.push(random.between(0x20, 0x2F) as u8);
-            }
-            s.push(random.between(0x30, 0x7F) as u8);
-            s
-        }
-    }
+/// The six octets before the n.
+pub fn segment_head(d: u8, n: usize) -> Vec<u8> {
+    let (high, low) = (n / 128, n % 128);
+    vec![0x1B, 0x25, 0x2F, d, 0x80 + high as u8, 0x80 + low as u8]
 }
+
+/// What is wrong with a longest segment that has no 02 but those given: no 02 at
+/// all, two bad octets in its name, no name, and a text of one octet.
+const FAULTS: [&[(usize, u8)]; 4] = [
+    &[],
+    &[(10_000, 0x3F), (16_000, 0x7F)],
+    &[(0, 0x02), (1, 0x2A)],
+    &[(16_381, 0x02), (16_382, 0x00)],
+];
 
 /// Strings of about 65,535 octets.
 pub fn limit_strings(random: &mut Random) -> Vec<Vec<u8>> {
@@ -376,6 +386,7 @@ pub fn limit_strings(random: &mut Random) -> Vec<Vec<u8>> {
         all.push(ending_in_segment(length, 1));
         all.push(reverted_with_segment(length, 0));
         all.push(reverted_with_segment(length, 1));
+        all.extend(FAULTS.map(|octets| ending_in_bad_segment(length, octets)));
         all.push(random_limit_string(random, length));
     }
     all
@@ -415,6 +426,19 @@ fn reverted_with_segment(length: usize, text: usize) -> Vec<u8> {
     s
 }
 
+/// Tabs and a longest segment, two octets a character, without 02 and with these
+/// octets in place of good ones.
+fn ending_in_bad_segment(length: usize, octets: &[(usize, u8)]) -> Vec<u8> {
+    let mut body = vec![0x41; 16_383];
+    for &(place, octet) in octets {
+        body[place] = octet;
+    }
+    let last = segment(0x32, &body);
+    let mut s = vec![0x09; length - last.len()];
+    s.extend(last);
+    s
+}
+
 /// A random accepted string with tabs at its end, of exactly this length.
 pub fn random_limit_string(random: &mut Random, length: usize) -> Vec<u8> {
     let fresh_sets = [0x1B, 0x28, 0x42, 0x1B, 0x2D, 0x41];
@@ -436,7 +460,7 @@ mod tests {
     use super::*;
     use crate::reader::State;
     use crate::shape::Piece;
-    use crate::unit::{CHARACTER, LEFT_TO_RIGHT, SEGMENT, SPACE};
+    use crate::unit::{Answer, CHARACTER, LEFT_TO_RIGHT, SEGMENT, SPACE};
 
     #[test]
     fn all_strings_are_all() {
@@ -556,17 +580,25 @@ mod tests {
     #[test]
     fn strings_at_the_limit_are_what_they_say() {
         let mut random = Random::new(1);
-        let answers: Vec<(usize, u8)> = limit_strings(&mut random)
+        let answers: Vec<(usize, Answer)> = limit_strings(&mut random)
             .iter()
-            .map(|s| (s.len(), reader::check(s).number))
+            .map(|s| (s.len(), reader::check(s)))
             .collect();
-        let of = |length| -> Vec<u8> {
+        let of = |length| -> Vec<Answer> {
             let here = answers.iter().filter(|answer| answer.0 == length);
             here.map(|answer| answer.1).collect()
         };
-        assert_eq!(of(LIMIT - 1), [0, 3, 3, 0, 0, 2, 0, 2, 0, 8, 0]);
-        assert_eq!(of(LIMIT), [0, 3, 3, 2, 0, 0, 0, 2, 0, 8, 0]);
-        assert_eq!(of(LIMIT + 1), [1; 11]);
-        assert_eq!(of(LIMIT + 2), [1; 11]);
+        let numbers = |length| -> Vec<u8> { of(length).iter().map(|a| a.number).collect() };
+        let places = |length| -> Vec<usize> { of(length).iter().map(|a| a.place).collect() };
+        let short = [0, 3, 3, 0, 0, 2, 0, 2, 0, 8, 7, 7, 7, 7, 0];
+        assert_eq!(numbers(LIMIT - 1), short);
+        let whole = [0, 3, 3, 2, 0, 0, 0, 2, 0, 8, 7, 7, 7, 7, 0];
+        assert_eq!(numbers(LIMIT), whole);
+        let (last, body) = (LIMIT - 1, LIMIT - 16_383);
+        assert_eq!(places(LIMIT)[1..4], [0, last, LIMIT]);
+        assert_eq!(places(LIMIT)[7..10], [LIMIT, LIMIT, body - 6]);
+        assert_eq!(places(LIMIT)[10..14], [last, body + 10_000, body, last]);
+        assert_eq!(of(LIMIT + 1), [Answer::refusal(1, 0); 15]);
+        assert_eq!(of(LIMIT + 2), [Answer::refusal(1, 0); 15]);
     }
 }

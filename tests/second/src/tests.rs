@@ -1,5 +1,5 @@
 //! Every string of the papers that names an answer, what they leave open (A ..)
-//! as docs/DECISIONS.md reads it, and request No. 2.
+//! as docs/DECISIONS.md reads it, and request No. 2; the places by request No. 4.
 
 use crate::oracle::octets;
 use crate::reader::{self, Marks, State};
@@ -110,13 +110,13 @@ fn checked_strings() {
         ("41 9B 31 5D", 8, 1),
         ("9B 31 5D 9B 5D 41", 8, 5),
         ("9B 5D", 8, 0),
-        ("1B 25 2F 32 80 84 61 62 02 FF", 7, 0),
-        ("1B 24 42", 4, 0),
-        ("1B 28", 2, 0),
-        ("1B 29 42", 5, 0),
-        ("1B 28 21 42", 5, 0),
+        ("1B 25 2F 32 80 84 61 62 02 FF", 7, 9),
+        ("1B 24 42", 4, 2),
+        ("1B 28", 2, 2),
+        ("1B 29 42", 5, 2),
+        ("1B 28 21 42", 5, 3),
         ("1B 24 28 42 20", 3, 4),
-        ("1B 24 28 42 30", 2, 4),
+        ("1B 24 28 42 30", 2, 5),
         ("1B 29 49 A0", 3, 3),
     ]);
     assert_eq!(
@@ -186,7 +186,7 @@ fn checked_writings() {
     );
     assert_eq!(
         crate::oracle::write("1B 28"),
-        Ok("refused 2 at 0".to_string())
+        Ok("refused 2 at 2".to_string())
     );
 }
 
@@ -195,40 +195,40 @@ fn checked_writings() {
 #[test]
 fn a01_to_a04_escapes() {
     answers(&[
-        ("1B 23", 6, 0),
-        ("1B 23 20 30", 6, 0),
-        ("1B", 2, 0),
-        ("1B 25 2F 35 80 80", 4, 0),
-        ("1B 25 2F", 2, 0),
-        ("1B 25", 2, 0),
-        ("1B 25 47", 4, 0),
-        ("1B 28 20", 4, 0),
-        ("1B 24 29 2F", 4, 0),
-        ("1B 28 21", 2, 0),
-        ("1B 28 21 2F", 2, 0),
-        ("1B 28 21 30", 4, 0),
-        ("1B 28 24 42", 4, 0),
-        ("1B 28 21 24 2F 7E", 5, 0),
-        ("1B 28 30", 4, 0),
-        ("1B 28 3F", 4, 0),
-        ("1B 28 7F", 4, 0),
+        ("1B 23", 6, 1),
+        ("1B 23 20 30", 6, 1),
+        ("1B", 2, 1),
+        ("1B 25 2F 35 80 80", 4, 3),
+        ("1B 25 2F", 2, 3),
+        ("1B 25", 2, 2),
+        ("1B 25 47", 4, 2),
+        ("1B 28 20", 4, 2),
+        ("1B 24 29 2F", 4, 3),
+        ("1B 28 21", 2, 3),
+        ("1B 28 21 2F", 2, 4),
+        ("1B 28 21 30", 4, 3),
+        ("1B 28 24 42", 4, 2),
+        ("1B 28 21 24 2F 7E", 5, 5),
+        ("1B 28 30", 4, 2),
+        ("1B 28 3F", 4, 2),
+        ("1B 28 7F", 4, 2),
     ]);
 }
 
 #[test]
 fn a05_to_a08_segments() {
     answers(&[
-        ("1B 25 2F 30 80 85 2A", 2, 0),
-        ("1B 25 2F 30 7F", 7, 0),
-        ("1B 25 2F 30 80", 2, 0),
-        ("1B 25 2F 30 80 7F", 7, 0),
-        ("1B 25 2F 30 7F 7F", 7, 0),
-        ("1B 25 2F 30 80 80", 7, 0),
-        ("1B 25 2F 30 80 81 02", 7, 0),
-        ("1B 25 2F 30 80 82 61 62", 7, 0),
+        ("1B 25 2F 30 80 85 2A", 2, 7),
+        ("1B 25 2F 30 7F", 7, 4),
+        ("1B 25 2F 30 80", 2, 5),
+        ("1B 25 2F 30 80 7F", 7, 5),
+        ("1B 25 2F 30 7F 7F", 7, 4),
+        ("1B 25 2F 30 80 80", 7, 5),
+        ("1B 25 2F 30 80 81 02", 7, 6),
+        ("1B 25 2F 30 80 82 61 62", 7, 7),
         ("1B 25 2F 33 80 85 61 02 00 00 00", 0, 11),
-        ("1B 25 2F 33 80 84 61 02 00 00", 7, 0),
-        ("1B 25 2F 34 80 84 61 02 00 00", 7, 0),
+        ("1B 25 2F 33 80 84 61 02 00 00", 7, 9),
+        ("1B 25 2F 34 80 84 61 02 00 00", 7, 9),
         ("1B 25 2F 34 80 86 61 02 00 00 00 00", 0, 12),
     ]);
     accepted(&[("1B 25 2F 34 80 82 6E 02", 1)]);
@@ -237,41 +237,41 @@ fn a05_to_a08_segments() {
         let s = [0x1B, 0x25, 0x2F, 0x30, 0x80, 0x83, 0x61, octet, 0x02];
         let good = (0x21..=0x7E).contains(&octet) || octet >= 0xA1;
         let good = good && octet != 0x2A && octet != 0x3F || octet == 0x02;
-        assert_eq!(
-            reader::check(&s).number,
-            if good { 0 } else { 7 },
-            "{octet:X}"
-        );
+        let expected = match good {
+            true => Answer::accepted(9, 1),
+            false => Answer::refusal(7, 7),
+        };
+        assert_eq!(reader::check(&s), expected, "{octet:X}");
     }
 }
 
 #[test]
 fn a09_to_a11_octets_out_of_place() {
     answers(&[
-        ("1B 00", 4, 0),
-        ("1B 28 9B", 4, 0),
-        ("9B 1B", 4, 0),
-        ("1B 1B 28 42", 4, 0),
-        ("1B 24 28 42 30 1B 28 42", 3, 4),
-        ("1B 24 28 42 30 9B", 3, 4),
-        ("1B 24 28 42 30 09", 3, 4),
-        ("1B 24 28 42 30 0A", 3, 4),
-        ("1B 24 28 42 30 A1", 3, 4),
-        ("1B 24 29 42 B0 21", 3, 4),
+        ("1B 00", 4, 1),
+        ("1B 28 9B", 4, 2),
+        ("9B 1B", 4, 1),
+        ("1B 1B 28 42", 4, 1),
+        ("1B 24 28 42 30 1B 28 42", 3, 5),
+        ("1B 24 28 42 30 9B", 3, 5),
+        ("1B 24 28 42 30 09", 3, 5),
+        ("1B 24 28 42 30 0A", 3, 5),
+        ("1B 24 28 42 30 A1", 3, 5),
+        ("1B 24 29 42 B0 21", 3, 5),
         ("1B 24 29 42 A0", 3, 4),
         ("1B 24 29 42 FF", 3, 4),
         ("1B 29 49 FF", 3, 3),
         ("7F", 3, 0),
         ("1B 24 28 42 7F", 3, 4),
-        ("1B 24 28 42 30 7F", 3, 4),
+        ("1B 24 28 42 30 7F", 3, 5),
         ("1B 28 4A 20", 0, 4),
     ]);
     for octet in (0x00..=0x1F).chain(0x80..=0x9F) {
-        let number = reader::check(&[octet]).number;
+        let answer = reader::check(&[octet]);
         match octet {
-            0x09 | 0x0A => assert_eq!(number, 0),
-            0x1B | 0x9B => assert_eq!(number, 2),
-            _ => assert_eq!(number, 3),
+            0x09 | 0x0A => assert_eq!(answer, Answer::accepted(1, 1)),
+            0x1B | 0x9B => assert_eq!(answer, Answer::refusal(2, 1)),
+            _ => assert_eq!(answer, Answer::refusal(3, 0)),
         }
     }
     let units = reader::read(&hex("A0 FF")).expect("accepted");
@@ -319,16 +319,16 @@ fn a12_finals_of_each_form() {
                     let units = reader::read(&s).expect("accepted");
                     assert_eq!(units[0].set, set, "{form} {last:X}");
                 }
-                None => assert_eq!(reader::check(&s), Answer::refusal(5, 0)),
+                None => assert_eq!(reader::check(&s), Answer::refusal(5, s.len() - 3)),
             }
         }
     }
     answers(&[
-        ("1B 28 49", 5, 0),
-        ("1B 29 4A", 5, 0),
-        ("1B 29 42", 5, 0),
-        ("1B 2D 45", 5, 0),
-        ("1B 24 28 40", 5, 0),
+        ("1B 28 49", 5, 2),
+        ("1B 29 4A", 5, 2),
+        ("1B 29 42", 5, 2),
+        ("1B 2D 45", 5, 2),
+        ("1B 24 28 40", 5, 3),
     ]);
 }
 
@@ -336,28 +336,28 @@ fn a12_finals_of_each_form() {
 fn a13_a14_nothing_else() {
     accepted(&[("9B 31 5D 41 9B 5D 09", 4)]);
     answers(&[
-        ("1B 24 41", 4, 0),
-        ("1B 24 42", 4, 0),
-        ("1B 24", 2, 0),
-        ("1B 5B", 4, 0),
-        ("1B 2A 42", 4, 0),
-        ("1B 2B 42", 4, 0),
-        ("1B 2C 42", 4, 0),
-        ("1B 2E 42", 4, 0),
-        ("1B 2F 42", 4, 0),
+        ("1B 24 41", 4, 2),
+        ("1B 24 42", 4, 2),
+        ("1B 24", 2, 2),
+        ("1B 5B", 4, 1),
+        ("1B 2A 42", 4, 1),
+        ("1B 2B 42", 4, 1),
+        ("1B 2C 42", 4, 1),
+        ("1B 2E 42", 4, 1),
+        ("1B 2F 42", 4, 1),
     ]);
 }
 
 #[test]
 fn a15_to_a19_directions() {
     answers(&[
-        ("9B 31 5D 9B 5D 1B 24 28 42 30", 2, 9),
+        ("9B 31 5D 9B 5D 1B 24 28 42 30", 2, 10),
         ("9B 31 5D 9B 5D 1B 24 28 42 20", 3, 9),
         ("9B 31 5D 9B 5D 1B 24 28 42 30 21", 8, 9),
-        ("41 9B 31", 2, 1),
-        ("41 9B", 2, 1),
-        ("41 9B 33", 4, 1),
-        ("41 9B 31 31", 4, 1),
+        ("41 9B 31", 2, 3),
+        ("41 9B", 2, 2),
+        ("41 9B 33", 4, 2),
+        ("41 9B 31 31", 4, 3),
         ("41 9B 31 5D", 8, 1),
         ("20 9B 31 5D", 8, 1),
         ("41 9B 5D", 8, 1),
@@ -411,15 +411,15 @@ const WITHOUT_TEXT: [&str; 7] = [
 ];
 
 /// Bad segments: no octet, no name, no 02, a bad octet in the name, and texts
-/// that end inside a character.
-const BAD: [&str; 7] = [
-    "1B 25 2F 31 80 80",
-    "1B 25 2F 31 80 82 02 41",
-    "1B 25 2F 31 80 82 61 62",
-    "1B 25 2F 31 80 84 61 2A 02 41",
-    "1B 25 2F 32 80 83 61 02 41",
-    "1B 25 2F 33 80 84 61 02 41 41",
-    "1B 25 2F 34 80 85 61 02 41 41 41",
+/// that end inside a character; with each the octet that is refused.
+const BAD: [(&str, usize); 7] = [
+    ("1B 25 2F 31 80 80", 5),
+    ("1B 25 2F 31 80 82 02 41", 6),
+    ("1B 25 2F 31 80 82 61 62", 7),
+    ("1B 25 2F 31 80 84 61 2A 02 41", 7),
+    ("1B 25 2F 32 80 83 61 02 41", 8),
+    ("1B 25 2F 33 80 84 61 02 41 41", 9),
+    ("1B 25 2F 34 80 85 61 02 41 41 41", 10),
 ];
 
 /// Number and place of a string whose pieces are these.
@@ -439,7 +439,7 @@ fn text_of_a_segment_before_the_first_mark() {
         // No mark is asked for, and a revert is refused as ever.
         assert_eq!(answer_of(&[segment, "41"]), (0, length + 1), "{segment}");
         assert_eq!(answer_of(&[segment, "9B 5D"]), (8, length), "{segment}");
-        assert_eq!(answer_of(&[segment, "9B 33"]), (4, length), "{segment}");
+        assert_eq!(answer_of(&[segment, "9B 33"]), (4, length + 1), "{segment}");
     }
     for segment in WITHOUT_TEXT {
         let length = hex(segment).len();
@@ -478,16 +478,16 @@ fn segments_within_a_direction() {
 /// The shape of a segment is judged before its text is one for the rule.
 #[test]
 fn bad_segments_are_bad_in_every_place() {
-    for segment in BAD {
+    for (segment, octet) in BAD {
         for before in ["", "41", "9B 31 5D", "9B 31 5D 9B 5D", "9B 31 5D 9B 5D 09"] {
-            let place = hex(before).len();
+            let place = hex(before).len() + octet;
             assert_eq!(answer_of(&[before, segment]), (7, place), "{segment}");
         }
     }
     answers(&[
-        ("9B 31 5D 9B 5D 1B 25 2F 31 80 84 61 02 FF", 2, 5),
-        ("9B 31 5D 9B 5D 1B 25 2F 35 80 83 61 02 FF", 4, 5),
-        ("9B 31 5D 9B 5D 1B 25 2F 31 7F", 7, 5),
+        ("9B 31 5D 9B 5D 1B 25 2F 31 80 84 61 02 FF", 2, 14),
+        ("9B 31 5D 9B 5D 1B 25 2F 35 80 83 61 02 FF", 4, 8),
+        ("9B 31 5D 9B 5D 1B 25 2F 31 7F", 7, 9),
     ]);
 }
 
@@ -566,7 +566,8 @@ fn text_of_segments_in_lists() {
         assert_eq!(listed(&["20", segment, begin]), (8, 2), "{segment}");
         assert_eq!(listed(&[begin, revert, segment, "20"]), (8, 3), "{segment}");
     }
-    for segment in BAD {
+    // The place of a writer's refusal stays the unit's index.
+    for (segment, _) in BAD {
         assert_eq!(listed(&[segment, begin]), (7, 0), "{segment}");
         assert_eq!(listed(&[begin, revert, segment]), (7, 2), "{segment}");
         assert_eq!(listed(&[begin, segment]), (7, 1), "{segment}");
@@ -679,9 +680,9 @@ fn readers_made_by_hand_before_a_segment() {
             };
             assert_eq!(read(&then_a_mark, 0, false, texted), before);
         }
-        for segment in BAD {
+        for (segment, octet) in BAD {
             for marked in [false, true] {
-                assert_eq!(read(segment, 0, marked, texted), (7, 0, 0), "{segment}");
+                assert_eq!(read(segment, 0, marked, texted), (7, octet, 0), "{segment}");
             }
         }
     }

@@ -66,7 +66,8 @@ impl WrongRule {
         admitted
     }
 
-    /// Takes the state past the element at its place, or leaves it there.
+    /// Takes the state past the element at its place; where that is refused, the
+    /// state is of no more use.
     fn pass_element(self, s: &[u8], state: &mut State) -> Result<Option<Unit>, u8> {
         let element = match shape::element(s, state.place, state.sets) {
             Err(7) => return self.admit(&mut state.marks, 0x30, &[]).map(|()| None),
@@ -89,30 +90,23 @@ impl WrongRule {
             return steps::steps(s, from);
         }
         let mut steps = Vec::new();
-        let mut handed = Handed {
-            position: Position::of(&state),
-            answer: Answer::accepted(0, 0),
-            unit: Unit::default(),
-            given: 1,
-        };
-        while state.place < s.len() {
-            match self.pass_element(s, &mut state) {
-                Err(number) => {
-                    handed.answer = Answer::refusal(number, state.place);
-                    break;
-                }
-                Ok(None) => {}
-                Ok(Some(unit)) => {
-                    (handed.position, handed.unit) = (Position::of(&state), unit);
-                    steps.push(handed);
+        let mut answer = None;
+        while state.place < s.len() && answer.is_none() {
+            let mut after = state.clone();
+            match self.pass_element(s, &mut after) {
+                Err(number) => answer = Some(state.refusal(s, number)),
+                Ok(unit) => {
+                    state = after;
+                    steps.extend(unit.map(|unit| given(&state, unit)));
                 }
             }
         }
-        if handed.answer.is_accepted() {
-            handed.answer = Answer::accepted(s.len(), state.handed);
-        }
-        (handed.unit, handed.given) = (Unit::default(), 0);
-        steps.push(handed);
+        steps.push(Handed {
+            position: Position::of(&state),
+            answer: answer.unwrap_or(Answer::accepted(s.len(), state.handed)),
+            unit: Unit::default(),
+            given: 0,
+        });
         steps
     }
 
@@ -129,5 +123,15 @@ impl WrongRule {
             };
             admitted.err().map(|number| Answer::refusal(number, index))
         })
+    }
+}
+
+/// A step that hands out a unit.
+fn given(after: &State, unit: Unit) -> Handed {
+    Handed {
+        position: Position::of(after),
+        answer: Answer::accepted(0, 0),
+        unit,
+        given: 1,
     }
 }
