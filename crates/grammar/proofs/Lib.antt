@@ -7,5 +7,6 @@ pub mod Good
 pub mod Complete
 pub mod Agrees
 pub mod Before
+pub mod Unplaced
 pub mod Numbers
 pub mod Pointed

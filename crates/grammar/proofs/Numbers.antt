@@ -15,7 +15,7 @@ use Rattle.element.specs.Start.{Start, startIn, begunBy}
 use Rattle.element.specs.Start as start
 use Rattle.element.specs.Element.{shapeOf, steppedOf, directedOf}
 use Rattle.grammar.specs.Reading.{Elements, end-at, refused-at, silent-at, found-at, onward, elements, elementsOf, answerOf, checkOf, stopOf}
-use Rattle.grammar.specs.Unplaced as unplaced
+use Rattle.grammar.proofs.Unplaced as unplaced
 
 -- ---- shapes
 

@@ -10,7 +10,7 @@ use Rattle.base.specs.Refusal as refusal
 use Rattle.element.specs.Element.{elementOf}
 use Rattle.element.proofs.Sizes.{Passed, silent, found}
 use Rattle.element.proofs.Pointed.{Octet, Pointed, element-pointed, of-passed, of-before, of-cut, of-octet, of-direction}
-use Rattle.grammar.specs.Reading.{Elements, refused-at, silent-at, found-at, size, elements, elementsOf, answerOf, checkOf, Stop, stop, stopOf}
+use Rattle.grammar.specs.Reading.{Elements, refused-at, elements, elementsOf, answerOf, checkOf, Stop, stop, stopOf}
 use Rattle.grammar.proofs.Elements.{next-at, elements-refused}
 use Rattle.grammar.proofs.Places.{ahead, Ahead, ends, stops, passes, reads, Step, at-end, at-refused, at-passed, refused-within, from-start}
 
@@ -35,6 +35,27 @@ drop-take (suc at) (suc p) (x ∷ s) =
 from-part : (at p : ℕ) (s : List ℕ) → from at (take p s) ≡ take (p - at) (from at s)
 unfolding from
 from-part at p s = drop-take at p s
+
+-- ---- a passed element before others
+
+-- the units with it
+abbrev counted : {e : Element} {k : ℕ} {next : State} → Passed e k next → ℕ → ℕ
+counted silent c = c
+counted found c = c + 1
+
+answer-next : {e : Element} {k : ℕ} {next : State} (v : Passed e k next) (at c : ℕ) (es : Elements)
+    → answerOf c (next-at at e es) ≡ answerOf (counted v c) es
+unfolding answerOf
+answer-next silent at c es = refl
+answer-next found at c es = refl
+
+stop-next : {e : Element} {k : ℕ} {next : State} → Passed e k next → (at : ℕ) (st : State) (es : Elements)
+    → stopOf st (next-at at e es) ≡ stopOf next es
+unfolding stopOf
+stop-next silent at st es = refl
+stop-next found at st es = refl
+
+-- ---- the element that is refused
 
 module _ (s : List ℕ) where
   -- what the elements from a place on answer, in the part of the string that ends at p: as those from a further place on
@@ -62,6 +83,22 @@ module _ (s : List ℕ) where
         at-passed (take p s) at st (elementOf (from at (take p s)) st) refl v
         (ap (λ (u : List ℕ). elementOf u st) (from-part at p s) ∙ of-passed v x (p - at) (omega arith))
 
+    -- so what stops elements after it stops those from it on
+    before : {es : Elements} → Offence (at + k) next es → Offence at st (next-at at e es)
+    before x =
+        record {
+          start = x .start;
+          there = x .there;
+          number = x .number;
+          offset = x .offset;
+          stopped = stop-next v at st _ ∙ x .stopped;
+          is = x .is;
+          answered = λ c. answer-next v at c _ ∙ x .answered (counted v c);
+          after = omega (arith, x .after);
+          leads = λ p h c. let y = x .leads p h (counted v c) in
+              record { count = y .count; same = ap (answerOf c) (kept p (omega (arith, h, x .after))) ∙ answer-next v at c _ ∙ y .same };
+        }
+
   -- the element at the place where the elements stop
   refused-is : (at : ℕ) (st : State) {n o : ℕ} → ahead s at st ≡ refused-at at n o → elementOf (from at s) st ≡ Refused n o
   refused-is at st {n} {o} h = by (elementOf (from at s) st) refl
@@ -87,38 +124,8 @@ module _ (s : List ℕ) where
         after = omega arith;
         leads = λ p h c. record { count = c; same = refl };
       })
-  offence (passes {at} {st} {k} {next} t e a) = ⊎-elim (λ h. inl h) (λ x. inr (before x)) (offence a)
-    where
-      before : {es : Elements} → Offence (at + k) next es → Offence at st (silent-at at k next es)
-      before x =
-          record {
-            start = x .start;
-            there = x .there;
-            number = x .number;
-            offset = x .offset;
-            stopped = x .stopped;
-            is = x .is;
-            answered = x .answered;
-            after = omega (arith, x .after);
-            leads = λ p h c. let y = x .leads p h c in
-                record { count = y .count; same = ap (answerOf c) (kept silent t p (omega (arith, h, x .after))) ∙ y .same };
-          }
-  offence (reads {at} {st} {p} {next} t m e a) = ⊎-elim (λ h. inl (λ c. h (c + 1))) (λ x. inr (before x)) (offence a)
-    where
-      before : {es : Elements} → Offence (at + size p) next es → Offence at st (found-at at p next es)
-      before x =
-          record {
-            start = x .start;
-            there = x .there;
-            number = x .number;
-            offset = x .offset;
-            stopped = x .stopped;
-            is = x .is;
-            answered = λ c. x .answered (c + 1);
-            after = omega (arith, x .after);
-            leads = λ q h c. let y = x .leads q h (c + 1) in
-                record { count = y .count; same = ap (answerOf c) (kept found t q (omega (arith, h, x .after))) ∙ y .same };
-          }
+  offence (passes t e a) = ⊎-elim (λ h. inl h) (λ x. inr (before silent t x)) (offence a)
+  offence (reads t m e a) = ⊎-elim (λ h. inl (λ c. h (c + 1))) (λ x. inr (before found t x)) (offence a)
 
 -- ---- of every string
 

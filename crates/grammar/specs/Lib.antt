@@ -2,4 +2,3 @@ pub mod Units
 pub mod Grammar
 pub mod Reading
 pub mod Records
-pub mod Unplaced

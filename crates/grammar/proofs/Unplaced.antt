@@ -1,5 +1,5 @@
 -- The reader's definition as it was before request No. 4: a refusal of an element has a number and no offset, so its place is the start of the element.
--- No contract uses it. It is there for the theorem that no number has changed, and that the start of the refused element is the place that was told
+-- It is kept for the theorem that no number has changed, and that the start of the refused element is the place that was told
 -- (`numbers-stay` in grammar/proofs/Numbers).
 use Prim.Native.Nat.{ℕ, zero, suc, _+_, _*_, _%_, _/_, _-_}
 use mathlib.Core.List.{List, [], _∷_}
