@@ -1,9 +1,13 @@
-// Measures the library beside its archive of the landing before, which CTEXT_BEFORE names to bench/run: before CORPUS..
+// Measures the library beside its archive of the landing before, which CTEXT_BEFORE names to bench/run.
+//
+//   before accepted CORPUS..   on strings that are accepted
+//   before refused CORPUS..    on strings that are refused, with check and next alone: there is no list to be written, and no run
 //
 // For each corpus and each function: the ratio of the times, after to before. Each archive stands in an object with calls of its own (calls.c)
 // that shows nothing else; the strings, and what is lent to the calls, are the same for both. In each repetition a function runs with one
 // archive directly after the other, and the first of them in turn; a ratio is the median of the ratios within a repetition.
 #include <stdio.h>
+#include <string.h>
 
 #include "calls.h"
 
@@ -21,6 +25,8 @@ struct pair {
 
 static const int compared[] = {CHECK, READ, WRITE, NEXT, NEXT_RUNS};
 enum { COMPARED = sizeof compared / sizeof *compared };
+
+static bool refused; // whether the strings of all corpora are
 
 struct measured {
     const char *path;
@@ -59,8 +65,9 @@ static void make_ready(void *kept, const char *path)
     after_calls(after);
     before_calls(before);
     take(path);
-    for (size_t i = 0; after[READ].run && i < corpus.count; i++) keep_units(i, after[READ].run(i));
-    for (int k = 0; k < COMPARED; k++) m->pairs[k] = pair_up(after[compared[k]], before[compared[k]], path);
+    for (size_t i = 0; !refused && after[READ].run && i < corpus.count; i++) keep_units(i, after[READ].run(i));
+    for (int k = 0; k < COMPARED; k++)
+        if (!refused || compared[k] == CHECK || compared[k] == NEXT) m->pairs[k] = pair_up(after[compared[k]], before[compared[k]], path);
     m->path = path;
     m->corpus = corpus;
     m->prepared = prepared;
@@ -96,10 +103,11 @@ static const struct table table = {sizeof(struct measured), make_ready, repeat, 
 
 int main(int count, char **words)
 {
-    if (count < 2) {
-        fprintf(stderr, "usage: before CORPUS..\n");
+    refused = count > 2 && !strcmp(words[1], "refused");
+    if (!refused && (count < 3 || strcmp(words[1], "accepted"))) {
+        fprintf(stderr, "usage: before accepted CORPUS.. | before refused CORPUS..\n");
         return 2;
     }
-    fill_table(&table, (size_t)count - 1, words + 1);
+    fill_table(&table, (size_t)count - 2, words + 2);
     return 0;
 }

@@ -1,8 +1,20 @@
 #include "calls.h"
 
-static size_t run_check(size_t i) { return ctext_check(corpus.notes[i].octets, corpus.notes[i].length).count; }
+// What two archives must answer alike: a count, and above it the number of a refusal, which is 0 where there is none. The place is left out, since
+// that of a refusal became another with version 3.
+static size_t told(size_t count, ctext_answer a) { return count | (size_t)a.number << 32; }
 
-static size_t run_read(size_t i) { return ctext_read(corpus.notes[i].octets, corpus.notes[i].length, units, CTEXT_MOST_UNITS).count; }
+static size_t run_check(size_t i)
+{
+    ctext_answer a = ctext_check(corpus.notes[i].octets, corpus.notes[i].length);
+    return told(a.count, a);
+}
+
+static size_t run_read(size_t i)
+{
+    ctext_answer a = ctext_read(corpus.notes[i].octets, corpus.notes[i].length, units, CTEXT_MOST_UNITS);
+    return told(a.count, a);
+}
 
 static size_t run_write(size_t i) { return write_note(i).count; }
 
@@ -13,13 +25,13 @@ static size_t run_run(size_t i)
     return ctext_run(corpus.notes[i].octets, corpus.notes[i].length, last).end;
 }
 
-// All units, one by one.
+// All units, one by one, up to the end or the refusal.
 static size_t run_next(size_t i)
 {
     struct note n = corpus.notes[i];
     ctext_step step = ctext_next(n.octets, n.length, (ctext_reader){.gr = CTEXT_SET_ISO8859_1_RIGHT});
     while (step.given) step = ctext_next(n.octets, n.length, step.reader);
-    return step.reader.count;
+    return told(step.reader.count, step.answer);
 }
 
 // All runs, one after the other.

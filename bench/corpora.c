@@ -1,16 +1,16 @@
 // Writes the corpora that bench/run measures with: corpora SEED FOLDER
 //
-// A corpus is a row of strings, each as its length in four octets, lowest first, and then its octets; all but those for resource files are
-// accepted. The same seed gives the same corpora. The ladder is a corpus for each kind of string, of lengths in sixteen equal steps up to the
-// longest that is accepted; each length has as many strings as make some 262,140 octets, so that a processor learns the branches of short
-// strings no better than those of long ones.
+// A corpus is a row of strings, each as its length in four octets, lowest first, and then its octets. Those of refused strings hold no other,
+// those for resource files any octets, and all strings of the others are accepted. The same seed gives the same corpora. The ladder is a corpus
+// for each kind of string, of lengths in sixteen equal steps up to the longest that is not too long; each length has as many strings as make some
+// 262,140 octets, so that a processor learns the branches of short strings no better than those of long ones.
 #include <stdbool.h>
 #include <stdint.h>
 #include <stdio.h>
 #include <stdlib.h>
 #include <string.h>
 
-enum { LONGEST = 65535, NOTES = 4000, STEPS = 16, TIMES = 4 };
+enum { LONGEST = 65535, LONGEST_SEGMENT = 16383, NOTES = 4000, STEPS = 16, TIMES = 4 };
 
 // ---- random numbers, by splitmix64
 
@@ -293,18 +293,109 @@ static void trailing(struct string *s, size_t length)
 // Direction marks alone, the smallest elements that are no text: check, read, next.
 static void marks(struct string *s, size_t length) { repeated(s, length, "\x9B" "2]\x9B]"); }
 
+// The start of an extended segment that says it has n octets, and so many octets of a name, of which none is the 02.
+static void segment_start(struct string *s, size_t n, size_t octets)
+{
+    put_all(s, "\x1B%/1");
+    put(s, 0x80 + (int)(n / 128));
+    put(s, 0x80 + (int)(n % 128));
+    for (; octets > 0; octets--) put(s, 'a');
+}
+
 // Extended segments that are all name, which is read octet by octet: check, read, next.
 static void names(struct string *s, size_t length)
 {
     while (s->length + 8 <= length) {
-        size_t left = length - s->length - 6, n = left < 16383 ? left : 16383;
-        put_all(s, "\x1B%/1");
-        put(s, 0x80 + (int)(n / 128));
-        put(s, 0x80 + (int)(n % 128));
-        for (size_t k = 1; k < n; k++) put(s, 'a');
+        size_t left = length - s->length - 6, n = left < LONGEST_SEGMENT ? left : LONGEST_SEGMENT;
+        segment_start(s, n, n - 1);
         put(s, 0x02);
     }
     while (s->length < length) put(s, 0x0A);
+}
+
+// ---- strings that are refused
+
+// The first boundary of a note's elements, which are designations and characters, that is at a place or after it.
+static size_t boundary(const struct string *s, size_t place)
+{
+    bool pairs[2] = {false, false}; // whether a set of two octets is designated to GL, and to GR
+    size_t at = 0;
+    while (at < place) {
+        const uint8_t *octets = s->octets + at;
+        bool pair = octets[0] == 0x1B && octets[1] == '$';
+        if (octets[0] == 0x1B) pairs[octets[1 + pair] != '('] = pair;
+        at += octets[0] == 0x1B ? 3 + pair : 1 + pairs[octets[0] / 128];
+    }
+    return at;
+}
+
+static void insert(struct string *s, size_t at, const char *octets)
+{
+    size_t n = strlen(octets);
+    memmove(s->octets + at + n, s->octets + at, s->length - at);
+    memcpy(s->octets + at, octets, n);
+    s->length += n;
+}
+
+// What is refused wherever it stands, by its number; some begin with the designation that makes an octet unused. Those of 7 are the cases of
+// ctext.h: M, L, an octet of the name before the 02 and without one, the 02 of an empty name, no octets, no 02, and texts of half a character.
+static const char *const unused[] = {"\x7F", "\x0F", "\x80", "\x9C", "\x1B)I\xA0", "\x1B$(B ", "\x1B$(B0\x7F", "\x1B$)C\xB0" "A"};
+static const char *const unknown[] = {"\x1B*B", "\x1B$B", "\x1B(0", "\x1B($B", "\x1B(! 0", "\x1B%G", "\x1B%/5", "\x9B" "3", "\x9B" "1;"};
+static const char *const not_approved[] = {"\x1B(A", "\x1B)J", "\x1B-b", "\x1B$(D", "\x1B$)G", "\x1B(!A", "\x1B-# B"};
+static const char *const version[] = {"\x1B# 0", "\x1B#!1"};
+static const char *const bad_segment[] = {"\x1B%/1\x7F\x83" "ab\x02", "\x1B%/1\x80\x7F" "ab\x02",      "\x1B%/1\x80\x85" "a*b\x02.", "\x1B%/1\x80\x83" "a?b",
+                                          "\x1B%/1\x80\x82\x02.",      "\x1B%/1\x80\x80",               "\x1B%/1\x80\x85koi8r",
+                                          "\x1B%/2\x80\x87koi8r\x02.", "\x1B%/3\x80\x88koi8r\x02..", "\x1B%/4\x80\x89koi8r\x02..."};
+// What is refused with 2 at a string's end, and what is refused so where fewer than 16,383 octets follow it.
+static const char *const cut[] = {"\x1B", "\x1B(", "\x1B(!", "\x1B$)", "\x1B$(B0", "\x1B%", "\x1B%/1\x80", "\x1B%/1\x80\x86koi8r", "\x9B", "\x9B" "2"};
+static const char *const cut_by_far = "\x1B%/1\xFF\xFF";
+
+// A note with one of these put between its elements or at its end, each of the numbers 2 to 7 as often as any other. What followed is still there.
+static void refused_note(struct string *s, size_t longest)
+{
+    note(s, (size_t)between(44, (int)longest));
+    size_t at = boundary(s, below((uint32_t)s->length + 1));
+    switch (between(2, 7)) {
+    case 2:
+        if (below(2)) insert(s, at, cut_by_far);
+        else put_all(s, ANY(cut));
+        break;
+    case 3: insert(s, at, ANY(unused)); break;
+    case 4: insert(s, at, ANY(unknown)); break;
+    case 5: insert(s, at, ANY(not_approved)); break;
+    case 6: insert(s, at, ANY(version)); break;
+    default: insert(s, at, ANY(bad_segment));
+    }
+}
+
+// One designation with intermediate octets up to its final octet, the last: 5 there.
+static void intermediates(struct string *s, size_t length)
+{
+    put_all(s, "\x1B(!");
+    while (s->length + 1 < length) put(s, between(0x20, 0x2F));
+    put(s, between(0x40, 0x7E));
+}
+
+// Extended segments that are all name, and one of the greatest length, or as long as the string lets it be, without the 02: 7 at its last octet.
+static void endless_name(struct string *s, size_t length)
+{
+    size_t n = length < 6 + LONGEST_SEGMENT ? length - 6 : LONGEST_SEGMENT;
+    names(s, length - 6 - n);
+    segment_start(s, n, n);
+}
+
+// The same, but the last segment lacks its last octet: 2 at the length.
+static void cut_segment(struct string *s, size_t length)
+{
+    names(s, length - 6 - (LONGEST_SEGMENT - 1));
+    segment_start(s, LONGEST_SEGMENT, LONGEST_SEGMENT - 1);
+}
+
+// Plain text, and an octet that is not used as the last: 3 there.
+static void late(struct string *s, size_t length)
+{
+    ascii(s, length - 1);
+    put(s, 0x7F);
 }
 
 // ---- strings for resource files: of octets that stay as they are, of octets that are escaped, and of both
@@ -427,14 +518,19 @@ static void resource_files(void)
     ladder("zeros", zeros);
 }
 
-int main(int count, char **words)
+static void refused_strings(void)
 {
-    if (count != 3) {
-        fprintf(stderr, "usage: corpora SEED FOLDER\n");
-        return 2;
-    }
-    seed = strtoull(words[1], NULL, 0);
-    folder = words[2];
+    strings("refused", NOTES, 212, refused_note);
+    strings("intermediates", 1, LONGEST, intermediates);
+    strings("endless-name", 1, LONGEST, endless_name);
+    strings("cut-segment", 1, LONGEST, cut_segment);
+    strings("late", 1, LONGEST, late);
+    ladder("intermediates", intermediates);
+    ladder("endless-name", endless_name);
+}
+
+static void accepted_strings(void)
+{
     all_notes("notes", true);
     strings("ascii", 1, LONGEST, ascii);
     strings("kanji", 1, LONGEST, kanji);
@@ -452,6 +548,10 @@ int main(int count, char **words)
     strings("trailing", 1, LONGEST, trailing);
     strings("marks", 1, LONGEST, marks);
     strings("names", 1, LONGEST, names);
+}
+
+static void accepted_ladders(void)
+{
     ladder("notes", notes);
     ladder("ascii", ascii);
     ladder("kanji", kanji);
@@ -463,11 +563,24 @@ int main(int count, char **words)
     ladder("trailing", trailing);
     ladder("marks", marks);
     ladder("names", names);
+}
+
+int main(int count, char **words)
+{
+    if (count != 3) {
+        fprintf(stderr, "usage: corpora SEED FOLDER\n");
+        return 2;
+    }
+    seed = strtoull(words[1], NULL, 0);
+    folder = words[2];
+    accepted_strings();
+    accepted_ladders();
     resource_files();
     // after all others, which stay what they were for the same seed
     strings("directed-segments", 1, LONGEST, directed_segments);
     ladder("directed-segments", directed_segments);
     strings("sets", 1, LONGEST, sets);
     strings("sets-alone", 1, LONGEST, sets_alone);
+    refused_strings();
     return 0;
 }

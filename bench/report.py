@@ -1,7 +1,7 @@
 """Prints the tables of a run of the benchmark, and writes them with a plot: report.py ROOM DOCS
 
-ROOM holds what bench/run measured: table.tsv, forms.tsv, ladder.tsv, stack.tsv and code.txt, and after-first.tsv and before-first.tsv where it was
-given an archive to compare with, which CTEXT_BEFORE_NAME may name.
+ROOM holds what bench/run measured: table.tsv, refused.tsv, forms.tsv, ladder.tsv, stack.tsv and code.txt, and after-first.tsv, before-first.tsv and
+both of refused strings where it was given an archive to compare with, which CTEXT_BEFORE_NAME may name.
 """
 import datetime
 import os
@@ -116,19 +116,22 @@ def targets(corpora, base):
 # ---- the landing before
 
 
-def ratios_to_before():
+def ratios_to_before(strings=""):
     """For each corpus and function the ratios that the two programs measured, the lower first; nothing where there was no landing before to measure."""
     found = defaultdict(lambda: defaultdict(list))
-    for name in ["after-first.tsv", "before-first.tsv"]:
+    for name in [f"after-first{strings}.tsv", f"before-first{strings}.tsv"]:
         for path, function, ratio in rows(name) if (ROOM / name).exists() else []:
             found[corpus_name(path)][function] = sorted([*found[corpus_name(path)][function], float(ratio)])
     return found
 
 
+def span(values):
+    return " to ".join(dict.fromkeys(map(number, values)))
+
+
 def beside_before(found):
     name = os.environ.get("CTEXT_BEFORE_NAME")
     present = [f for f in FUNCTIONS if any(f in by_function for by_function in found.values())]
-    span = lambda values: " to ".join(dict.fromkeys(map(number, values)))
     return [
         "## Beside the landing before",
         f"Each figure is the ratio of a function's time to that with the archive named by `CTEXT_BEFORE`{f' ({name})' if name else ''}: under 1 it has become "
@@ -137,6 +140,28 @@ def beside_before(found):
         "function of both begins at a multiple of 64 octets, and there are two programs, each archive being linked first in one. Where their ratios "
         "differ, both stand. Nothing stands where an archive lacks the function, or where the archives answer differently.",
         table(["Corpus", *present], [[corpus, *(span(by_function[f]) for f in present)] for corpus, by_function in found.items()]),
+    ]
+
+
+# ---- refused strings
+
+
+def refused_strings(refused):
+    before = ratios_to_before("-refused")
+    shown, compared = ["check", "next"], [f for f in ["check", "next"] if any(f in by_function for by_function in before.values())]
+    lines = []
+    for c in refused:
+        sizes = [f"{c.strings:,}", f"{c.octets:,}", f"{c.units:,}" if c.units else "", number(c.functions["yardstick"]["time"], 0)]
+        lines.append([c.name, *sizes, *(number(c.ratio(f, "yardstick")) for f in shown), *(span(before[c.name][f]) for f in compared)])
+    return [
+        "## Refused strings",
+        "refused has notes with one element put in that is refused with 2 to 7, each number as often as the others, and what followed it is still there. "
+        "Each of the others is one string that is refused at its very end: intermediates is one designation of that length (5), endless-name segments that "
+        "are all name, the last without an 02 (7), cut-segment the same with the last octet missing (2), late plain text and an unused octet (3).\n\n"
+        "The figures are as above. The units are those before the refusal, which `next` goes through. Before anything is measured, `check`, `read`, `next` "
+        "and the yardstick have given the same number and place for each string."
+        + (" The last columns are ratios to the landing before, taken as below; the numbers must be the same there, not the places." if compared else ""),
+        table(["Corpus", "Strings", "Octets", "Units", "yardstick, ns a string", *shown, *(f"{f}, to before" for f in compared)], lines),
     ]
 
 
@@ -237,7 +262,7 @@ def resource_files(forms):
     ]
 
 
-def page(corpora, forms):
+def page(corpora, refused, forms):
     base = "limit_table" if all("limit_table" in c.functions for c in corpora) else "yardstick"
     found, code = ladders(), functions_of_archive()
     load = " ".join(f"{x:.1f}" for x in os.getloadavg())
@@ -261,6 +286,8 @@ def page(corpora, forms):
     ]
     if base == "limit_table":
         parts += ["The same by `limit_table`, another validator in C, that stood beside the repository in this run:", ratios(corpora, base)]
+    if refused:
+        parts += refused_strings(refused)
     if forms:
         parts += resource_files(forms)
     parts += ["## What is asked for", targets(corpora + forms, base)]
@@ -274,8 +301,9 @@ def page(corpora, forms):
             "A work room of many units, 72 octets each, is larger than a processor's nearer caches, and a unit costs more from there on: where little "
             "is computed for a unit (ascii, kanji) the writer's line has two slopes, one for each side.\n\n"
             "alternating (`41 E9`), kanji-ascii, trailing (designations alone), marks and names (segments that are all name) are hostile to one function or "
-            "another. `next at the end` is one further call of a reader at its end; `write of one name` is a list whose units all name one part of 256 octets, "
-            "and its name is read for each. `resource_read` reads the forms of strings of these sizes.",
+            "another; intermediates and endless-name, refused at their last octet, are hostile to all that look for the place. `next at the end` is one "
+            "further call of a reader at its end; `write of one name` is a list whose units all name one part of 256 octets, and its name is read for each. "
+            "`resource_read` reads the forms of strings of these sizes.",
             "![Time against size](benchmark.svg)",
             straightness(found),
         ]
@@ -294,7 +322,8 @@ def page(corpora, forms):
 
 
 def main():
-    text = page(measured("table.tsv", ["yardstick", "limit_table", "check"]), measured("forms.tsv", ["the plain loop"]))
+    corpora = measured("table.tsv", ["yardstick", "limit_table", "check"])
+    text = page(corpora, measured("refused.tsv", ["yardstick"]), measured("forms.tsv", ["the plain loop"]))
     (DOCS / "BENCHMARK.md").write_text(text)
     print(text)
 
