@@ -1,5 +1,5 @@
--- Escape sequences: designations, and what else may follow 1B; functions of the octets that are left, and of how many octets of the element stand
--- before these where that is not fixed. An octet at which a sequence is unknown, and a final that is not approved, are refused where they stand
+-- Escape sequences: designations, and what else may follow 1B; functions of the octets that are left, and of k, how many octets of the element stand
+-- before these, where that is not fixed. An octet with which a sequence is unknown, and a final that is not approved, are refused where they stand
 -- (rule N2).
 use Prim.Native.Nat.{ℕ, _+_}
 use mathlib.Core.List.{List, [], _∷_}

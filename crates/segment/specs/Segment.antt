@@ -30,7 +30,7 @@ nameOf (b ∷ t) k =
 unfoldable pub textWidthOf : ℕ → ℕ
 textWidthOf d = pick (eqb d 0x32) 2 (pick (eqb d 0x33) 3 (pick (eqb d 0x34) 4 1))
 
--- whether a text of so many octets has whole characters: their width, a multiple of it, or nothing (rule E1g)
+-- whether a text of so many octets has whole characters: a multiple of their width, 0 too (rule E1g)
 unfoldable pub wholeOf : ℕ → ℕ → Bool
 wholeOf d text = eqb (text % textWidthOf d) 0
 
@@ -42,7 +42,8 @@ segmentPart d n text = part kind.segment 0 d 6 n (countsAsText kind.segment text
 abbrev pub refusedAtEnd : ℕ → Shape
 refusedAtEnd n = Refuses refusal.bad-segment (5 + n)
 
--- a segment of n octets, by its name: what follows the name and its 02 is the text, of which the length alone is looked at (rules E1g, E4)
+-- a segment of n octets, by its name: what follows the name and its 02 is the text, of which the length alone is looked at (rules E1g, E4). A bad octet
+-- of the name is refused where it stands, and a wrong length of the text and a missing 02 at the end (rule N2)
 unfoldable pub contentOf : ℕ → ℕ → Name → Shape
 contentOf d n (Ends k) = pick (wholeOf d (n - k - 1)) (Gives (segmentPart d n (n - k - 1))) (refusedAtEnd n)
 contentOf d n (Bad k) = Refuses refusal.bad-segment (6 + k)
@@ -52,7 +53,7 @@ contentOf d n Endless = refusedAtEnd n
 unfoldable pub bodyOf : ℕ → ℕ → List ℕ → Shape
 bodyOf d n t = pick (leb n (length t)) (contentOf d n (nameOf (take n t) 0)) (Refuses refusal.cut (6 + length t))
 
--- after 1B 25 2F d: M and L, from which n is computed; a low M is refused before the L is looked for (rules E1f, E2)
+-- after 1B 25 2F d: M and L, from which n is computed; each is refused where it stands, and a low M before the L is looked for (rules E1f, E2, N2)
 unfoldable pub lengthsOf : ℕ → List ℕ → Shape
 lengthsOf d t =
     next 4 t
