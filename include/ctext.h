@@ -101,7 +101,7 @@ enum ctext_refusal {
    8, 9  where the element starts
    A place of 3 to 7 lies inside the string, and inside the offending element. The
    octets before it, taken alone, are accepted, or only cut: CTEXT_CUT at their
-   length. Where the offending element starts, ctext_next says. In 1.x and 2.x the
+   length. What follows the offending element of 3 to 9 changes nothing. Where the offending element starts, ctext_next says. In 1.x and 2.x the
    place was that start for all of these; the numbers are the same. */
 
 /* The direction rule, of strings and of lists: where there is a direction mark,

@@ -1,15 +1,15 @@
 -- What the place of a refusal tells, of every string (rule N2): 2 is at the string's length (`cut-at-length`); 3 to 7 are at an octet of the string, inside
--- the refused element (`octet-inside`); 8 and 9 are at its start (`direction-at-start`); and what stands before the place is in order: alone it is accepted,
--- or only cut, where it ends (`before-the-place`). By one walk over the elements: they lead to the refused one (`Offence`), and those before it are the
+-- the refused element (`octet-inside`); 8 and 9 are at its start (`direction-at-start`); what stands before the place is in order: alone it is accepted,
+-- or only cut, where it ends (`before-the-place`); and what follows the refused element changes nothing (`nothing-after`). By one walk over the elements: they lead to the refused one (`Offence`), and those before it are the
 -- same in each part of the string that ends after them, since an element that is passed does not depend on what follows it.
 use Rattle.element.proofs.Names.{ℕ, zero, suc, _+_, _-_, _<_, _≤_, arith, _≡_, refl, sym, ap, _∙_, subst, List, [], _∷_, _⊎_, inl, inr, ⊎-elim}
-use Rattle.element.proofs.Names.{ltb, length, take, drop, length-take-le, le-ltb, ltb-false, clash, test, pick, from, from-length, answer, refusedAt, Answer}
-use Rattle.element.proofs.Names.{fresh, State, Element, End, Refused, Silent, Found}
+use Rattle.element.proofs.Names.{ltb, length, take, drop, length-take, length-take-le, le-ltb, ltb-false, clash, test, pick, from, from-length, answer}
+use Rattle.element.proofs.Names.{refusedAt, Answer, fresh, State, Element, End, Refused, Silent, Found}
 use Rattle.base.specs.Limit as limit
 use Rattle.base.specs.Refusal as refusal
 use Rattle.element.specs.Element.{elementOf}
 use Rattle.element.proofs.Sizes.{Passed, silent, found}
-use Rattle.element.proofs.Pointed.{Octet, Pointed, element-pointed, of-passed, of-before, of-cut, of-octet, of-direction}
+use Rattle.element.proofs.Pointed.{Octet, Pointed, element-pointed, of-passed, of-before, of-cut, of-direction, of-extent}
 use Rattle.grammar.specs.Reading.{Elements, refused-at, elements, elementsOf, answerOf, checkOf, Stop, stop, stopOf}
 use Rattle.grammar.proofs.Elements.{next-at, elements-refused}
 use Rattle.grammar.proofs.Places.{ahead, Ahead, ends, stops, passes, reads, Step, at-end, at-refused, at-passed, refused-within, from-start}
@@ -137,7 +137,7 @@ stopIn s = stopOf fresh (elementsOf s)
 pub record Refusal (s : List ℕ) : Type 0 where
   pub offset : ℕ
   pub element : elementOf (from (stopIn s .place) s) (stopIn s .state) ≡ Refused (checkOf s .number) offset
-  pub place : checkOf s .place ≡ stopIn s .place + offset
+  pub answered : checkOf s ≡ refusedAt (checkOf s .number) (stopIn s .place + offset)
   pub leads : (p : ℕ) → stopIn s .place ≤ p → Leads s p 0 fresh (stopIn s .place) (stopIn s .state) 0
 
 -- accepted, or only cut, where the octets end
@@ -158,9 +158,12 @@ module _ (s : List ℕ) where
           record {
             offset = x .offset;
             element = rw (x .stopped, a) (x .is);
-            place = rw (x .stopped, a);
+            answered = rw (x .stopped) (a ∙ ap (λ (n : ℕ). refusedAt n (x .start + x .offset)) (sym (ap (λ (y : Answer). y .number) a)));
             leads = λ p h. rw (x .stopped) (x .leads p (rw (x .stopped) at h) 0);
           }
+
+  pub refused-place : (r : Refusal s) → checkOf s .place ≡ stopIn s .place + r .offset
+  refused-place r = ap (λ (a : Answer). a .place) (r .answered)
 
   -- a refusal for an element is not for the length
   short-by : (checkOf s .number ≡ refusal.too-long → ⊥) → length s ≤ limit.octets
@@ -204,7 +207,7 @@ cut-at-length s e =
     let f = for-element s (omega (arith, e)) in
     let x = refused-element s (f .1) (f .0) in
     let o = of-cut (subst (λ (n : ℕ). Pointed (from (stopIn s .place) s) (stopIn s .state) (Refused n (x .offset))) e (pointed s (f .0) (f .1))) in
-    omega (arith, x .place, o, from-length s (stopIn s .place), lies s (f .0) (f .1))
+    omega (arith, refused-place s x, o, from-length s (stopIn s .place), lies s (f .0) (f .1))
 
 -- 3 to 7 are at an octet of the string, in the refused element: not before its start, and the octets of it before that one are none, or are cut
 pub record Inside (s : List ℕ) (start place : ℕ) (there : State) : Type 0 where
@@ -216,12 +219,13 @@ pub octet-inside : (s : List ℕ) → Octet (checkOf s .number) → Inside s (st
 octet-inside s n =
     let f = for-element s (omega (arith, n .0)) in
     let x = refused-element s (f .1) (f .0) in
-    let o = of-octet n (pointed s (f .0) (f .1)) in
-    let e : x .offset ≡ checkOf s .place - stopIn s .place = omega (arith, x .place) in
+    let o = of-extent (n .0) (pointed s (f .0) (f .1)) in
+    let p = refused-place s x in
+    let e : x .offset ≡ checkOf s .place - stopIn s .place = omega (arith, p) in
     record {
-      below = omega (arith, x .place, o, from-length s (stopIn s .place), lies s (f .0) (f .1));
-      after = omega (arith, x .place);
-      begun = ⊎-elim (λ z. inl (omega (arith, x .place, z)))
+      below = omega (arith, p, o .ends .0, o .decided .there, from-length s (stopIn s .place), lies s (f .0) (f .1));
+      after = omega (arith, p);
+      begun = ⊎-elim (λ z. inl (omega (arith, p, z)))
           (λ z. inr (subst (λ (k : ℕ). elementOf (take k (from (stopIn s .place) s)) (stopIn s .state) ≡ Refused refusal.cut k) e z)) (begun s (f .0) (f .1));
     }
 
@@ -231,7 +235,7 @@ direction-at-start s n =
     let f = for-element s (omega (arith, n)) in
     let x = refused-element s (f .1) (f .0) in
     let o = of-direction n (pointed s (f .0) (f .1)) in
-    omega (arith, x .place, o)
+    omega (arith, refused-place s x, o)
 
 -- what stands before the place of a refusal is in order: alone it is accepted, or only cut, at its length, which is the place
 pub before-the-place : (s : List ℕ) → 2 ≤ checkOf s .number → Before (checkOf (take (checkOf s .place) s)) (checkOf s .place)
@@ -242,5 +246,32 @@ before-the-place s n =
     let p = stopIn s .place + x .offset in
     let z : length (take p s) ≡ p = length-take-le p s (lies s (f .0) (f .1)) in
     let y = x .leads p (omega arith) in
-    rw (x .place) (subst (λ (a : Answer). Before a p) (sym (within-limit (take p s) (omega (arith, z, f .1, lies s (f .0) (f .1))) ∙ y .same))
-    (last s (f .0) (f .1) (y .count)))
+    rw (refused-place s x) (subst (λ (a : Answer). Before a p)
+    (sym (within-limit (take p s) (omega (arith, z, f .1, lies s (f .0) (f .1))) ∙ y .same)) (last s (f .0) (f .1) (y .count)))
+
+-- so many octets of a string decide its answer, whatever follows them: they end after the place, and of 3 to 6 directly after it
+pub record Decides (s : List ℕ) : Type 0 where
+  pub end : ℕ
+  pub after : checkOf s .place < end
+  pub there : end ≤ length s
+  pub same : (i : ℕ) → end ≤ i → checkOf (take i s) ≡ checkOf s
+  pub last : checkOf s .number ≤ refusal.version → end ≡ checkOf s .place + 1
+
+-- what follows the refused element changes neither number nor place of 3 to 9
+pub nothing-after : (s : List ℕ) → refusal.unused ≤ checkOf s .number → Decides s
+unfolding from answerOf
+nothing-after s n =
+    let f = for-element s (omega (arith, n)) in
+    let x = refused-element s (f .1) (f .0) in
+    let e = of-extent n (pointed s (f .0) (f .1)) in
+    let p = refused-place s x in
+    record {
+      end = stopIn s .place + e .octets;
+      after = omega (arith, p, e .ends .0);
+      there = omega (arith, e .decided .there, from-length s (stopIn s .place), lies s (f .0) (f .1));
+      same = λ i h. let y = x .leads i (omega arith) in
+          let z : length (take i s) ≤ limit.octets = simp length-take (omega (arith, f .1)) in
+          let d = ap (λ (u : List ℕ). elementOf u (stopIn s .state)) (from-part (stopIn s .place) i s) ∙ e .decided .same (i - stopIn s .place) (omega arith) in
+          within-limit (take i s) z ∙ y .same ∙ ap (answerOf (y .count)) (elements-refused (stopIn s .place) (stopIn s .state) _ d) ∙ sym (x .answered);
+      last = λ v. omega (arith, p, e .ends .1 v);
+    }

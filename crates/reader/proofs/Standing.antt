@@ -7,7 +7,7 @@ use denote.Ref.{RefT}
 use Rattle.base.specs.Limit as limit
 use Rattle.base.specs.Refusal as refusal
 use Rattle.grammar.specs.Reading.{checkOf}
-use Rattle.grammar.proofs.Pointed.{refused-element}
+use Rattle.grammar.proofs.Pointed.{refused-element, refused-place}
 use Rattle.units.specs.Records.{recordsOf}
 use Rattle.reader.specs.Reader.{opened, readerAfter, atStop, AtRefused}
 use Rattle.reader.proofs.Whole.{lasts, opened-hands}
@@ -22,4 +22,4 @@ pub stands-at-element : (s : RefT (List ℕ)) → length (now s) ≤ limit.octet
     → length (recordsOf (now s)) < k → AtRefused (readerAfter k (opened s)) (checkOf (now s))
 stands-at-element s short refused k h =
     let r = refused-element (now s) short refused in
-    rw (stands-at-stop s short k h) (record { offset = r .offset; refuses = r .element; offends = sym (r .place) })
+    rw (stands-at-stop s short k h) (record { offset = r .offset; refuses = r .element; offends = sym (refused-place (now s) r) })
