@@ -132,7 +132,8 @@ csi t =
 named : {k : ℕ} {u : List ℕ} (side : Side) (set : ℕ) → After k (λ v. designatesOf k side set) u (designatesOf k side set)
 unfolding designatesOf
 named {k} side set =
-    either _ (λ _. later (whole {x = Designates (k + 1) side set} 0 (omega arith) (always (Designates (k + 1) side set)))) (λ _. no refusal.not-approved (omega arith))
+    let x = Designates (k + 1) side set in
+    either _ (λ _. later (whole {x = x} 0 (omega arith) (always x))) (λ _. no refusal.not-approved (omega arith))
 
 intermediates : (k : ℕ) (t : List ℕ) → Tells k (intermediatesOf k) t (intermediatesOf k t)
 unfolding intermediatesOf

@@ -1,6 +1,6 @@
--- An element has one octet at least, and no more than are there; the fields of its unit that mean nothing are 0; a refused one has a number
--- above 0 (where its place is: Pointed); and a state that is fit stays fit. Of the shape (`Shaped`) it is shown for each definition from the leaves up, with `n` the octets
--- that the element may have; of the element (`Sized`) by its shape and the direction rule. On the way: escape sequences and direction marks are no
+-- An element has one octet at least, and no more than are there; the fields of its unit that mean nothing are 0; a refused one has a number above 0 (where
+-- its place is: Pointed); and a state that is fit stays fit. Of the shape (`Shaped`) it is shown for each definition from the leaves up, with `n` the
+-- octets that the element may have; of the element (`Sized`) by its shape and the direction rule. On the way: escape sequences and direction marks are no
 -- characters or spaces (`escape-kind`, `mark-kind`).
 use Rattle.element.proofs.Names.{ℕ, suc, _+_, _-_, _<_, _≤_, zero-le, arith, _≡_, refl, sym, Bool, true, List, [], _∷_, leb, ltb, length}
 use Rattle.element.proofs.Names.{take, leb-true, ltb-true, pick, pick-by, tested, no-set, allowed, setOf, Side, GL, GR, directions, writtenOf}

@@ -1,7 +1,8 @@
--- What the place of a refusal tells, of every string (rule N2): 2 is at the string's length (`cut-at-length`); 3 to 7 are at an octet of the string, inside
--- the refused element (`octet-inside`); 8 and 9 are at its start (`direction-at-start`); what stands before the place is in order: alone it is accepted,
--- or only cut, where it ends (`before-the-place`); and what follows the refused element changes nothing (`nothing-after`). By one walk over the elements: they lead to the refused one (`Offence`), and those before it are the
--- same in each part of the string that ends after them, since an element that is passed does not depend on what follows it.
+-- What the place of a refusal tells, of every string (rule N2): 2 is at the string's length (`cut-at-length`); 3 to 7 are at an octet of the string,
+-- inside the refused element (`octet-inside`); 8 and 9 are at its start (`direction-at-start`); what stands before the place is in order: alone it is
+-- accepted, or only cut, where it ends (`before-the-place`); and what follows the refused element changes nothing (`nothing-after`). By one walk over the
+-- elements: they lead to the refused one (`Offence`), and those before it are the same in each part of the string that ends after them, since an element
+-- that is passed does not depend on what follows it.
 use Rattle.element.proofs.Names.{ℕ, zero, suc, _+_, _-_, _<_, _≤_, arith, _≡_, refl, sym, ap, _∙_, subst, List, [], _∷_, _⊎_, inl, inr, ⊎-elim}
 use Rattle.element.proofs.Names.{ltb, length, take, drop, length-take, length-take-le, le-ltb, ltb-false, clash, test, pick, from, from-length, answer}
 use Rattle.element.proofs.Names.{refusedAt, Answer, fresh, State, Element, End, Refused, Silent, Found}

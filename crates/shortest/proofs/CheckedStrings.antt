@@ -1,5 +1,5 @@
--- The table of checked strings, proved at once: antt computes the definitions; and what each refusal points at, case by case (`pointed-strings`). Of the two that request No. 2 refuses, also that they were accepted
--- before it (`were-accepted`).
+-- The table of checked strings, proved at once: antt computes the definitions; and what each refusal points at, case by case (`pointed-strings`). Of the
+-- two that request No. 2 refuses, also that they were accepted before it (`were-accepted`).
 use Rattle.element.proofs.Names.{_≡_, refl, _++_, answer, pick, mayUse, allowed, formOf, setOf, put, writtenOf, deeperOf, begunOf, revertedOf, stepOf}
 use Rattle.element.proofs.Names.{next}
 use Rattle.base.specs.Refusal as refusal

@@ -13,11 +13,13 @@ unfolding contentOf
 body-spec =
     tie.close (tie.spec (search arith) (λ c. search on-body-short) (search arith) (search arith) (search arith) (search arith) (search arith) (search arith)
     (λ c κs. let all = c .before .before .before in
-    (ends-within (now (all .before .before .before .before .args .t)) 6 _ _ (all .before .before .if1 .left) (all .name-end .ensures) (c .before .name .given .1), all .before .before .before .before .pre .1))
+    let start = all .before .before .before .before in
+    (ends-within (now (start .args .t)) 6 _ _ (all .before .before .if1 .left) (all .name-end .ensures) (c .before .name .given .1), start .pre .1))
     (search arith)
     (λ c. let all = c .before .before .before in
-    let h = bad-within (now (all .before .before .before .before .args .t)) 6 _ _ (all .before .before .if1 .left) (all .name-end .ensures) (c .before .name2 .given .1) in
-    omega (arith, h, all .before .before .before .before .pre .1))
+    let start = all .before .before .before .before in
+    let h = bad-within (now (start .args .t)) 6 _ _ (all .before .before .if1 .left) (all .name-end .ensures) (c .before .name2 .given .1) in
+    omega (arith, h, start .pre .1))
     (search arith) (search arith)
     (λ c. let e = c .named .ensures ∙ ap (contentOf _ _) (sym (c .before .before .name .given .1)) in search on-body)
     (λ c. let all = c .before .before .before in
