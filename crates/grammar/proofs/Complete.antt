@@ -111,7 +111,8 @@ module _ (s : Sets) where
       )
       (by-content (content e (length xs) xs 0 (omega arith)) (h .content))
     where
-      by-content : {b : Bool} {x : Shape} → Content e (length xs) (textOctets xs) b x → b ≡ true → x ≡ Gives (segmentPart e (length xs) (textOctets xs))
+      by-content : {b : Bool} {x : Shape} → Content e (length xs) (textOctets xs) b x → b ≡ true
+          → x ≡ Gives (segmentPart e (length xs) (textOctets xs))
       by-content right g = refl
       by-content wrong g = off g
 

@@ -30,7 +30,8 @@ unfolding pick
 either true h g = h
 either false h g = g
 
-octet : (k : ℕ) (t : List ℕ) {f g : ℕ → List ℕ → Shape} → ((b : ℕ) (u : List ℕ) → Alike (f b u) (g b u)) → Alike (next k t f) (unplaced.next t g)
+octet : (k : ℕ) (t : List ℕ) {f g : ℕ → List ℕ → Shape} → ((b : ℕ) (u : List ℕ) → Alike (f b u) (g b u))
+    → Alike (next k t f) (unplaced.next t g)
 unfolding next unplaced.next
 octet k [] h = refuses
 octet k (b ∷ u) h = h b u
@@ -68,7 +69,8 @@ module _ (k form : ℕ) (side : Side) (h : k + 1 ≡ cond (eqb form form-94x94) 
   unfolding designatesOf unplaced.designates
   final-octet set =
       either (ltb set no-set)
-      (test (eqb form form-94x94) (λ e. rw (← (on-true _ _ _ _ e refl), rw e at h) designates) (λ e. rw (← (on-false _ _ _ _ e refl), rw e at h) designates))
+      (test (eqb form form-94x94) (λ e. rw (← (on-true _ _ _ _ e refl), rw e at h) designates)
+      (λ e. rw (← (on-false _ _ _ _ e refl), rw e at h) designates))
       refuses
 
   designation : (t : List ℕ) → Alike (designationOf k form side t) (unplaced.designation form side t)

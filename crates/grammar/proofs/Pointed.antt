@@ -227,7 +227,8 @@ octet-inside s n =
       below = omega (arith, p, o .ends .0, o .decided .there, from-length s (stopIn s .place), lies s (f .0) (f .1));
       after = omega (arith, p);
       begun = ⊎-elim (λ z. inl (omega (arith, p, z)))
-          (λ z. inr (subst (λ (k : ℕ). elementOf (take k (from (stopIn s .place) s)) (stopIn s .state) ≡ Refused refusal.cut k) e z)) (begun s (f .0) (f .1));
+          (λ z. inr (subst (λ (k : ℕ). elementOf (take k (from (stopIn s .place) s)) (stopIn s .state) ≡ Refused refusal.cut k) e z))
+          (begun s (f .0) (f .1));
     }
 
 -- 8 and 9 are at the start of the refused element
@@ -272,7 +273,8 @@ nothing-after s n =
       there = omega (arith, e .decided .there, from-length s (stopIn s .place), lies s (f .0) (f .1));
       same = λ i h. let y = x .leads i (omega arith) in
           let z : length (take i s) ≤ limit.octets = simp length-take (omega (arith, f .1)) in
-          let d = ap (λ (u : List ℕ). elementOf u (stopIn s .state)) (from-part (stopIn s .place) i s) ∙ e .decided .same (i - stopIn s .place) (omega arith) in
+          let d = ap (λ (u : List ℕ). elementOf u (stopIn s .state)) (from-part (stopIn s .place) i s)
+          ∙ e .decided .same (i - stopIn s .place) (omega arith) in
           within-limit (take i s) z ∙ y .same ∙ ap (answerOf (y .count)) (elements-refused (stopIn s .place) (stopIn s .state) _ d) ∙ sym (x .answered);
       last = λ v. omega (arith, p, e .ends .1 v);
     }

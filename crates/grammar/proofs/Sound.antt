@@ -123,7 +123,8 @@ module _ (s : Sets) where
   unfolding multiOctetOf next
   sound-multi-octet [] = no
   sound-multi-octet (x ∷ t) =
-      is (λ x. 0x1B ∷ 0x24 ∷ x ∷ t) x 0x28 (sound-designation 3 3 GL t refl) (is (λ x. 0x1B ∷ 0x24 ∷ x ∷ t) x 0x29 (sound-designation 3 3 GR t refl) no)
+      is (λ x. 0x1B ∷ 0x24 ∷ x ∷ t) x 0x28 (sound-designation 3 3 GL t refl)
+      (is (λ x. 0x1B ∷ 0x24 ∷ x ∷ t) x 0x29 (sound-designation 3 3 GR t refl) no)
 
   -- ---- extended segments
 
