@@ -1,9 +1,10 @@
 -- Request No. 4 changes no number: of every string the number and the count are those of the definition before it, and the place that was told before
 -- is where the reading stops, the start of the refused element or the end (`numbers-stay`). By one walk: each definition of an element is that before,
 -- but for the offset of its refusals (`Alike`), and so are the elements of a string (`Match`).
-use Rattle.element.proofs.Names.{ℕ, zero, suc, _+_, _-_, _≤_, arith, _≡_, refl, Bool, true, false, cond, List, [], _∷_, eqb, leb, ltb, length, take}
-use Rattle.element.proofs.Names.{le-ltb, on-true, on-false, pick, test, no-set, setOf, Side, GL, GR, get, fresh, next, stepOf, Step, Goes, Stops, Sets}
-use Rattle.element.proofs.Names.{State, Part, Shape, Refuses, Designates, Gives, Element, Refused, Silent, Found}
+use Rattle.element.proofs.Names.{ℕ, zero, suc, _+_, _-_, _≤_, _<_, subst, lt-ltb, leb-true, length-take-le, arith, _≡_, refl, Bool, true, false, cond}
+use Rattle.element.proofs.Names.{List, [], _∷_, eqb, leb, ltb, length, take, le-ltb, on-true, on-false, pick, test, no-set, setOf, Side, GL, GR, get}
+use Rattle.element.proofs.Names.{fresh, next, stepOf, Step, Goes, Stops, Sets, State, Part, Shape, Refuses, Designates, Gives, Element, Refused, Silent}
+use Rattle.element.proofs.Names.{Found}
 use Rattle.base.specs.Limit as limit
 use Rattle.charset.specs.Charsets.{form-94, form-96, form-94x94}
 use Rattle.text.specs.Text.{secondOctetOf}
@@ -40,15 +41,36 @@ second : (set b : ℕ) (t : List ℕ) → Alike (secondOctetOf set b t) (unplace
 unfolding secondOctetOf unplaced.second
 second set b t = octet 1 t (λ d u. either _ (either _ gives refuses) refuses)
 
-content : (d n : ℕ) (name : Name) → Alike (contentOf d n name) (unplaced.content d n name)
+-- a name among n octets, and the same where one without an end was told as bad
+data Names (n : ℕ) : Name → Name → Type 0 where
+  ends : {k : ℕ} → k < n → Names n (Ends k) (Ends k)
+  bad : {k : ℕ} → Names n (Bad k) (Bad k)
+  endless : {k : ℕ} → Names n Endless (Bad k)
+
+module _ (n : ℕ) where
+  by : {x y v w : Name} (q : Bool) → Names n x v → Names n y w → Names n (pick q x y) (pick q v w)
+  unfolding pick
+  by true h g = h
+  by false h g = g
+
+  names : (xs : List ℕ) (k : ℕ) → n ≡ k + length xs → Names n (nameOf xs k) (unplaced.name xs k)
+  unfolding nameOf unplaced.name
+  names [] k h = endless
+  names (b ∷ t) k h = by _ (by _ bad (ends (omega arith))) (by _ (names t (k + 1) (omega arith)) bad)
+
+content : (d n : ℕ) {x y : Name} → Names n x y → Alike (contentOf d n x) (unplaced.content d n y)
 unfolding contentOf wholeOf unplaced.content
-content d n (Ends k) = either _ gives refuses
-content d n (Bad k) = refuses
-content d n Endless = refuses
+content d n (ends {k} h) = subst (Alike _) (on-true (ltb k n) _ _ _ (lt-ltb k n h) refl) (either _ gives refuses)
+content d n bad = refuses
+content d n endless = refuses
 
 body : (d n : ℕ) (t : List ℕ) → Alike (bodyOf d n t) (unplaced.body d n t)
 unfolding bodyOf unplaced.body
-body d n t = either (leb n (length t)) (content d n (nameOf (take n t) 0)) refuses
+body d n t =
+    test (leb n (length t))
+    (λ e. let z = length-take-le n t (leb-true n (length t) e) in
+    rw (← (on-true _ _ _ _ e refl), ← (on-true _ _ _ _ e refl)) (content d n (names n (take n t) 0 (omega (arith, z)))))
+    (λ e. rw (← (on-false _ _ _ _ e refl), ← (on-false _ _ _ _ e refl)) refuses)
 
 lengths : (d : ℕ) (t : List ℕ) → Alike (lengthsOf d t) (unplaced.lengths d t)
 unfolding lengthsOf unplaced.lengths

@@ -14,7 +14,7 @@ use Rattle.base.specs.declared.Answer.{Answer}
 use Rattle.charset.specs.Charsets.{form-94, form-96, form-94x94, no-set, setOf}
 use Rattle.charset.specs.declared.Side.{Side, the-variants.GL, the-variants.GR}
 use Rattle.text.specs.Text.{graphicOf, oneOctetOf, twoOctetsOf, spaceOf}
-use Rattle.segment.specs.Segment.{nameOf, textWidthOf, segmentPart}
+use Rattle.segment.specs.Segment.{nameOctetOf, textWidthOf, segmentPart}
 use Rattle.segment.specs.declared.Name.{Name, the-variants.Ends as NameEnds, the-variants.Bad, the-variants.Endless}
 use Rattle.state.specs.Elements.{unit}
 use Rattle.state.specs.State.{get, fresh}
@@ -43,14 +43,21 @@ second set b t =
 
 -- ---- extended segments
 
+unfoldable pub name : List ℕ → ℕ → Name
+name [] k = Bad k
+name (b ∷ t) k = pick (eqb b 2) (pick (eqb k 0) (Bad k) (NameEnds k)) (pick (nameOctetOf b) (name t (k + 1)) (Bad k))
+
+-- no name was told as endless
 unfoldable pub content : ℕ → ℕ → Name → Shape
 content d n (NameEnds k) =
-    pick (eqb ((n - k - 1) % textWidthOf d) 0) (Gives (segmentPart d n (n - k - 1))) (refused refusal.bad-segment)
+    pick (ltb k n)
+    (pick (eqb ((n - k - 1) % textWidthOf d) 0) (Gives (segmentPart d n (n - k - 1))) (refused refusal.bad-segment))
+    (refused refusal.bad-segment)
 content d n (Bad k) = refused refusal.bad-segment
 content d n Endless = refused refusal.bad-segment
 
 unfoldable pub body : ℕ → ℕ → List ℕ → Shape
-body d n t = pick (leb n (length t)) (content d n (nameOf (take n t) 0)) (refused refusal.cut)
+body d n t = pick (leb n (length t)) (content d n (name (take n t) 0)) (refused refusal.cut)
 
 unfoldable pub lengths : ℕ → List ℕ → Shape
 lengths d t =
