@@ -1,0 +1,189 @@
+// The next unit of an accepted string, by the table that is lent: what the check has decided is not decided again.
+ghost use mathlib.Core.Path.{_≡_};
+ghost use Prim.Native.Nat.{_+_, _<_, _^_};
+ghost use Rattle.octet_table.specs.Table.{table};
+ghost use Rattle.cursor.specs.Cursor.{passedOf};
+ghost use Rattle.archive.specs.Turns.{cursorIn, rowed, firstRow, Ready, turnOf, movedBy, ifCharacter, setBy, oneRecord};
+use crate::classes::class;
+use base::Unit;
+use charset::NO_SET;
+use charset::Side;
+use cursor::Cursor;
+use cursor::octets::two_octets;
+use designations::designation_at;
+use octet_table::ONE_GR;
+use octet_table::TWO_GL;
+use octet_table::TWO_GR;
+use octet_table::row_of;
+
+// Where the next unit is looked for: a place of the string, the sets in force there, and where their row of the table starts.
+pub struct RowCursor {
+    pub place: usize,
+    pub row: usize,
+    pub gl: u8,
+    pub gr: u8,
+}
+
+// A unit, and the cursor after it.
+pub struct RowTurn {
+    pub cursor: RowCursor,
+    pub unit: Unit,
+}
+
+impl RowCursor {
+    // The start of a string.
+    pub fn first() -> RowCursor
+        ensures { λ r. ⌜ r ≡ firstRow ⌝ }
+    {
+        RowCursor {
+            place: 0,
+            row: row_of(0, 3),
+            gl: 0,
+            gr: 3,
+        }
+    }
+
+    // So many octets further, under the same sets.
+    fn moved(self, octets: usize) -> RowCursor
+        requires { ⌜ self .place + octets < 2 ^ 64 ⌝ }
+        ensures { λ r. ⌜ r ≡ movedBy self octets ⌝ }
+    {
+        let place = self.place + octets;
+        RowCursor {
+            place: place,
+            row: self.row,
+            gl: self.gl,
+            gr: self.gr,
+        }
+    }
+}
+
+// A space, a tab and a newline have neither set nor code.
+fn if_character(k: u8, x: u8) -> u8
+    ensures { λ r. ⌜ r ≡ ifCharacter k x ⌝ }
+{
+    if k % 4 == 0 {
+        return x;
+    }
+    0
+}
+
+// The set on the side of a class.
+fn set_by(k: u8, gl: u8, gr: u8) -> u8
+    ensures { λ r. ⌜ r ≡ setBy k gl gr ⌝ }
+{
+    if k == ONE_GR {
+        return gr;
+    }
+    gl
+}
+
+// The record of a unit of one octet, by its class.
+fn one(at: usize, b: u8, k: u8, set: u8) -> Unit
+    ensures { λ r. ⌜ r ≡ oneRecord at b k set ⌝ }
+{
+    let code = if_character(k, b % 128) as u16;
+    let start = (at % 0x1_0000_0000) as u32;
+    Unit {
+        kind: k % 4,
+        set: if_character(k, set),
+        code: code,
+        start: start,
+        length: 1,
+    }
+}
+
+// Any unit, by its element.
+fn by_element(s: &[u8], c: RowCursor) -> RowTurn
+    requires { ⌜ Ready (now s) c ⌝ }
+    ensures { λ r. ⌜ r ≡ turnOf (now (s .entry)) (cursorIn c) ⌝ }
+{
+    let r = cursor::advance(
+        s,
+        Cursor {
+            place: c.place,
+            gl: c.gl,
+            gr: c.gr,
+        },
+    );
+    let next = r.cursor;
+    let unit = r.unit;
+    RowTurn {
+        cursor: RowCursor {
+            place: next.place,
+            row: row_of(next.gl, next.gr),
+            gl: next.gl,
+            gr: next.gr,
+        },
+        unit: unit,
+    }
+}
+
+// The unit at a cursor: a tab, a newline, a space or a character by its class, and any other by its element.
+fn text_turn(t: &[u8], s: &[u8], c: RowCursor) -> RowTurn
+    requires { ⌜ (now t ≡ table) × Ready (now s) c ⌝ }
+    ensures { λ r. ⌜ r ≡ turnOf (now (s .entry)) (cursorIn c) ⌝ }
+{
+    let at = c.place;
+    let b = s[at];
+    let k = class(t, c.row, b);
+    if k <= ONE_GR {
+        return RowTurn {
+            cursor: c.moved(1),
+            unit: one(at, b, k, set_by(k, c.gl, c.gr)),
+        };
+    }
+    if k == TWO_GL {
+        return RowTurn {
+            cursor: c.moved(2),
+            unit: two_octets(at, b, s[at + 1], c.gl),
+        };
+    }
+    if k == TWO_GR {
+        return RowTurn {
+            cursor: c.moved(2),
+            unit: two_octets(at, b, s[at + 1], c.gr),
+        };
+    }
+    by_element(s, c)
+}
+
+// The cursor after a designation, where one stands at it.
+fn passed(s: &[u8], c: RowCursor) -> RowCursor
+    requires { ⌜ Ready (now s) c ⌝ }
+    ensures { λ r. ⌜ r ≡ rowed (passedOf (now (s .entry)) (cursorIn c)) ⌝ }
+{
+    let d = designation_at(s, c.place);
+    let set = d.set;
+    if set < NO_SET {
+        let side = d.side;
+        let place = c.place + d.octets;
+        return match side {
+            Side::GL => RowCursor {
+                place: place,
+                row: row_of(set, c.gr),
+                gl: set,
+                gr: c.gr,
+            },
+            Side::GR => RowCursor {
+                place: place,
+                row: row_of(c.gl, set),
+                gl: c.gl,
+                gr: set,
+            },
+        };
+    }
+    c
+}
+
+// The next unit, and the cursor after it: up to two designations are passed by their octets.
+pub fn turn(t: &[u8], s: &[u8], c: RowCursor) -> RowTurn
+    requires { ⌜ (now t ≡ table) × Ready (now s) c ⌝ }
+    ensures { λ r. ⌜ r ≡ turnOf (now (s .entry)) (cursorIn c) ⌝ }
+{
+    let at = c.place;
+    if s[at] == 0x1B {
+        return text_turn(t, s, passed(s, passed(s, c)));
+    }
+    text_turn(t, s, c)
+}
