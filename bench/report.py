@@ -319,7 +319,7 @@ def nightly_job():
             f"An archive of {int(notes):,} notes in frames, the corpus notes ten times over, {int(octets):,} octets with the lengths:",
             f"```sh\n{command}\n```",
             f"It takes {1000 * float(median):.0f} ms, from the command's start to its end: the median of {runs} runs, of which the longest took "
-            f"{1000 * float(most):.0f} ms. The file was in memory. It prints `{printed}`.",
+            f"{1000 * float(most):.0f} ms. The file was in memory." + (f" The last line that it prints is `{printed}`." if printed else ""),
         ]
     return parts
 
@@ -391,8 +391,8 @@ def code_of_archive():
 def asked_for(corpora, base, found):
     return [
         "## What is asked for",
-        *(["Where the first reader has become faster itself, the archive reader is asked to be beside `check before` and `read before`, those of the landing "
-           "before."] if to_before(found) else []),
+        *(["The archive reader's bar is `check` and `read`; where these have become faster themselves, it is `check before` and `read before`, those of the "
+           "landing before."] if to_before(found) else []),
         targets(corpora, base),
     ]
 
