@@ -62,12 +62,26 @@ static struct function others[] = {{"next at the end", run_next_at_end, 0}, {"wr
 
 static bool same_unit(const ctext_unit *a, const ctext_unit *b) { return a->kind == b->kind && a->set == b->set && a->code == b->code; }
 
+static bool same_answer(ctext_answer a, ctext_answer b) { return a.number == b.number && a.place == b.place && a.count == b.count; }
+
 static void prepare_read(const char *path, size_t i)
 {
     struct note n = corpus.notes[i];
     ctext_answer a = ctext_read(n.octets, n.length, units, CTEXT_MOST_UNITS);
     require(a.number == 0 && a.count == ctext_check(n.octets, n.length).count, "read gives another answer than check", path, i);
     keep_units(i, a.count);
+}
+
+// The list is emptied before, so that what `read` left there is not taken for what the archive reader reads.
+static void prepare_archive(const char *path, size_t i)
+{
+    struct note n = corpus.notes[i];
+    size_t size = prepared[i].count * sizeof *units;
+    ctext_answer first = ctext_check(n.octets, n.length);
+    memset(units, 0, size);
+    require(same_answer(ctext_archive_check(n.octets, n.length), first), "archive_check gives another answer than check", path, i);
+    require(same_answer(ctext_archive_read(n.octets, n.length, units, CTEXT_MOST_UNITS), first), "archive_read gives another answer", path, i);
+    require(!memcmp(units, prepared[i].units, size), "archive_read gives other units than read", path, i);
 }
 
 // How many runs the units of a string make: stretches of characters and spaces that follow each other on one side.
@@ -129,6 +143,7 @@ static void load(const char *path, bool with_x11)
             require(a.number == 0 && a.place == n.length, "check refuses it", path, i);
         }
         if (functions[READ].run) prepare_read(path, i);
+        if (functions[READ].run && functions[ARCHIVE_READ].run) prepare_archive(path, i);
         if (functions[WRITE].run) prepare_write(path, i);
         if (functions[RUN].run) prepare_runs(path, i);
         if (functions[NEXT].run) prepare_next(path, i);

@@ -57,6 +57,18 @@ static size_t run_next_runs(size_t i)
     return runs;
 }
 
+static size_t run_archive_check(size_t i)
+{
+    ctext_answer a = ctext_archive_check(corpus.notes[i].octets, corpus.notes[i].length);
+    return told(a.count, a);
+}
+
+static size_t run_archive_read(size_t i)
+{
+    ctext_answer a = ctext_archive_read(corpus.notes[i].octets, corpus.notes[i].length, units, CTEXT_MOST_UNITS);
+    return told(a.count, a);
+}
+
 void library_calls(struct function functions[FUNCTIONS])
 {
     functions[CHECK] = (struct function){"check", run_check, 0};
@@ -66,6 +78,8 @@ void library_calls(struct function functions[FUNCTIONS])
     functions[NEXT] = (struct function){"next", run_next, 0};
     functions[NEXT_RUN] = (struct function){"next_run", run_next_run, 0};
     functions[NEXT_RUNS] = (struct function){"next_runs", run_next_runs, 0};
+    functions[ARCHIVE_CHECK] = (struct function){"archive_check", run_archive_check, 0};
+    functions[ARCHIVE_READ] = (struct function){"archive_read", run_archive_read, 0};
     if (!ctext_check) functions[CHECK].run = NULL;
     if (!ctext_check || !ctext_read) functions[READ].run = NULL;
     if (!functions[READ].run || !ctext_write) functions[WRITE].run = NULL;
@@ -73,4 +87,6 @@ void library_calls(struct function functions[FUNCTIONS])
     if (!functions[READ].run || !ctext_next) functions[NEXT].run = NULL;
     if (!functions[RUN].run || !ctext_open_runs || !ctext_next_run) functions[NEXT_RUN].run = NULL;
     if (!functions[RUN].run || !ctext_open_runs || !ctext_next_runs) functions[NEXT_RUNS].run = NULL;
+    if (!ctext_archive_check) functions[ARCHIVE_CHECK].run = NULL;
+    if (!ctext_archive_check || !ctext_archive_read) functions[ARCHIVE_READ].run = NULL;
 }

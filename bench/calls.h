@@ -5,10 +5,10 @@
 #include "hand.h"
 #include "times.h"
 
-// All that is measured, in this order. The archive's are those from CHECK to NEXT_RUNS.
-enum { YARDSTICK, LIMIT, CHECK, READ, WRITE, RUN, NEXT, NEXT_RUN, NEXT_RUNS, X11_READ, X11_WRITE, FUNCTIONS };
+// All that is measured, in this order. The library's are those from CHECK to ARCHIVE_READ.
+enum { YARDSTICK, LIMIT, CHECK, READ, WRITE, RUN, NEXT, NEXT_RUN, NEXT_RUNS, ARCHIVE_CHECK, ARCHIVE_READ, X11_READ, X11_WRITE, FUNCTIONS };
 
-// Fills in the archive's; one is null where the archive lacks what it needs.
+// Fills in the library's; one is null where the library lacks what it needs.
 void library_calls(struct function functions[FUNCTIONS]);
 
 // The units that are kept of the string, written.

@@ -5,6 +5,10 @@
 
 #include "../include/ctext.h"
 
+// the archive reader's, until the header has them
+ctext_answer ctext_archive_check(const uint8_t *s, size_t n);
+ctext_answer ctext_archive_read(const uint8_t *s, size_t n, ctext_unit *units, size_t room);
+
 #pragma weak ctext_check
 #pragma weak ctext_read
 #pragma weak ctext_write
@@ -13,6 +17,8 @@
 #pragma weak ctext_open_runs
 #pragma weak ctext_next_run
 #pragma weak ctext_next_runs
+#pragma weak ctext_archive_check
+#pragma weak ctext_archive_read
 #pragma weak ctext_resource_write
 #pragma weak ctext_resource_read
 

@@ -28,6 +28,12 @@ static void prepare(const char *path, size_t i)
     require(v.number != CTEXT_ACCEPTED, "the yardstick accepts it", path, i);
     require(same_refusal(ctext_check(n.octets, n.length), v), "check gives another answer than the yardstick", path, i);
     require(same_refusal(ctext_read(n.octets, n.length, units, CTEXT_MOST_UNITS), v), "read gives another answer than the yardstick", path, i);
+    if (ctext_archive_check)
+        require(same_refusal(ctext_archive_check(n.octets, n.length), v), "archive_check gives another answer than the yardstick", path, i);
+    if (ctext_archive_read) {
+        ctext_answer a = ctext_archive_read(n.octets, n.length, units, CTEXT_MOST_UNITS);
+        require(same_refusal(a, v), "archive_read gives another answer than the yardstick", path, i);
+    }
     ctext_step step = ctext_next(n.octets, n.length, (ctext_reader){.gr = CTEXT_SET_ISO8859_1_RIGHT});
     while (step.given) step = ctext_next(n.octets, n.length, step.reader);
     require(same_refusal(step.answer, v), "next gives another answer than the yardstick", path, i);
@@ -42,7 +48,7 @@ static void load(const char *path)
 
 // ---- the table
 
-static const int shown[] = {YARDSTICK, CHECK, NEXT}; // the yardstick is the first
+static const int shown[] = {YARDSTICK, CHECK, NEXT, ARCHIVE_CHECK}; // the yardstick is the first
 enum { SHOWN = sizeof shown / sizeof *shown };
 
 struct measured {
@@ -62,7 +68,7 @@ static void make_ready(void *kept, const char *path)
     m->prepared = prepared;
     for (int k = 0; k < SHOWN; k++) {
         m->functions[k] = functions[shown[k]];
-        choose_turns(&m->functions[k], 0, corpus.count);
+        if (m->functions[k].run) choose_turns(&m->functions[k], 0, corpus.count);
     }
 }
 
@@ -71,6 +77,7 @@ static void repeat(void *kept, int r)
     struct measured *m = kept;
     corpus = m->corpus;
     for (int k = 0; k < SHOWN; k++) {
+        if (!m->functions[k].run) continue;
         double base = slice(&m->functions[0], 0, corpus.count);
         m->own[k][r] = slice(&m->functions[k], 0, corpus.count);
         m->by_yardstick[k][r] = m->own[k][r] / base;
@@ -83,8 +90,9 @@ static void print(void *kept)
     size_t count = 0;
     for (size_t i = 0; i < m->corpus.count; i++) count += m->prepared[i].count;
     for (int k = 0; k < SHOWN; k++)
-        printf("%s\t%s\t%zu\t%zu\t%zu\t%.1f\t%.3f\n", m->path, m->functions[k].name, m->corpus.count, m->corpus.octets, count,
-               median(m->own[k], REPETITIONS) / (double)m->corpus.count, median(m->by_yardstick[k], REPETITIONS));
+        if (m->functions[k].run)
+            printf("%s\t%s\t%zu\t%zu\t%zu\t%.1f\t%.3f\n", m->path, m->functions[k].name, m->corpus.count, m->corpus.octets, count,
+                   median(m->own[k], REPETITIONS) / (double)m->corpus.count, median(m->by_yardstick[k], REPETITIONS));
 }
 
 static const struct table table = {sizeof(struct measured), make_ready, repeat, print};
@@ -96,7 +104,7 @@ static double units_of(size_t i) { return (double)prepared[i].count; }
 // Those that stop at the refusal. Of a refused string there is no list to be written, and no run.
 static struct function named(const char *name)
 {
-    static const int stopping[] = {CHECK, READ, NEXT};
+    static const int stopping[] = {CHECK, READ, NEXT, ARCHIVE_CHECK, ARCHIVE_READ};
     for (size_t k = 0; k < sizeof stopping / sizeof *stopping; k++)
         if (!strcmp(functions[stopping[k]].name, name)) return functions[stopping[k]];
     fprintf(stderr, "refused: there is no function %s\n", name);
@@ -106,6 +114,7 @@ static struct function named(const char *name)
 static void ladder(const char *name, const char *path)
 {
     struct function f = named(name);
+    if (!f.run) return;
     load(path);
     climb(f, &corpus, units_of, path);
 }

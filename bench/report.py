@@ -1,7 +1,7 @@
 """Prints the tables of a run of the benchmark, and writes them with a plot: report.py ROOM DOCS
 
-ROOM holds what bench/run measured: table.tsv, refused.tsv, forms.tsv, ladder.tsv, stack.tsv and code.txt, and after-first.tsv, before-first.tsv and
-both of refused strings where it was given an archive to compare with, which CTEXT_BEFORE_NAME may name.
+ROOM holds what bench/run measured: table.tsv, refused.tsv, forms.tsv, ladder.tsv, stack.tsv, nightly.tsv and code.txt; the pairs of after-first.tsv and
+after-first-refused.tsv, and those of before-first where it was given an archive to compare with, which CTEXT_BEFORE_NAME may name.
 """
 import datetime
 import os
@@ -15,7 +15,8 @@ from pathlib import Path
 import plot
 
 ROOM, DOCS = Path(sys.argv[1]), Path(sys.argv[2])
-FUNCTIONS = ["check", "read", "write", "run", "next", "next_run", "next_runs", "libX11 read", "libX11 write"]
+FUNCTIONS = ["check", "read", "write", "run", "next", "next_run", "next_runs", "archive_check", "archive_read", "libX11 read", "libX11 write"]
+ARCHIVED = ["notes", "designations", "fields"]  # what the archive reader is to be faster on
 PLOTTED = ["notes", "ascii", "kanji", "designations", "directions", "segments"]
 
 
@@ -94,6 +95,14 @@ TARGETS = [
     ("read", "check", 3.0, None),
     ("write", "base", 4.5, ["notes"]),
     ("next_runs", "check", 3.0, ["notes", "alternating", "kanji-ascii"]),
+    ("archive_check", "check", 0.9, ARCHIVED),
+    ("archive_check", "check", 1.1, None),
+    ("archive_read", "read", 0.9, ARCHIVED),
+    ("archive_read", "read", 1.1, None),
+    ("archive_check", "check before", 0.9, ARCHIVED),
+    ("archive_check", "check before", 1.1, None),
+    ("archive_read", "read before", 0.9, ARCHIVED),
+    ("archive_read", "read before", 1.1, None),
     ("resource_write", "the plain loop", 2.0, None),
     ("resource_read", "the plain loop", 2.0, None),
 ]
@@ -113,25 +122,65 @@ def targets(corpora, base):
     return table(["Ratio of", "At most", "Largest", "On", "Met"], lines)
 
 
-# ---- the landing before
+# ---- functions two and two: the archive reader beside the first reader, and the landing before
 
 
-def ratios_to_before(strings=""):
-    """For each corpus and function the ratios that the two programs measured, the lower first; nothing where there was no landing before to measure."""
+def pairs(strings=""):
+    """For each corpus and pair the ratios that the programs measured, one or two, the lower first."""
     found = defaultdict(lambda: defaultdict(list))
     for name in [f"after-first{strings}.tsv", f"before-first{strings}.tsv"]:
-        for path, function, ratio in rows(name) if (ROOM / name).exists() else []:
-            found[corpus_name(path)][function] = sorted([*found[corpus_name(path)][function], float(ratio)])
+        for path, *ratios in rows(name) if (ROOM / name).exists() else []:
+            of_corpus = found[corpus_name(path)]
+            for pair, ratio in zip(ratios[::2], ratios[1::2]):
+                of_corpus[pair] = sorted([*of_corpus[pair], float(ratio)])
     return found
+
+
+def add_pairs(corpora, found):
+    """The larger ratio of each pair, among the ratios of its corpus. Of functions that the table compares too, it takes that ratio's place."""
+    for c in corpora:
+        for pair, ratios in found[c.name].items():
+            c.functions.setdefault(own(pair), {})[pair.split(" to ")[1]] = max(ratios)
+
+
+def measured_among(found, wanted):
+    return [pair for pair in wanted if any(pair in of_corpus for of_corpus in found.values())]
+
+
+def own(pair):
+    return pair.split(" to ")[0]
+
+
+def to_before(found):
+    return measured_among(found, [f"{f} to {f} before" for f in FUNCTIONS])
 
 
 def span(values):
     return " to ".join(dict.fromkeys(map(number, values)))
 
 
+def pairs_table(found, shown, head):
+    return table(["Corpus", *head], [[corpus, *(span(of_corpus[pair]) for pair in shown)] for corpus, of_corpus in found.items()])
+
+
+def archive_reader(found):
+    shown = measured_among(found, [f"archive_{f} to {f}{before}" for before in ["", " before"] for f in ["check", "read"]])
+    if not shown:
+        return []
+    return [
+        "## The archive reader",
+        "Each figure is the ratio of the archive reader's time to the first reader's: under 1 it is faster. Both are in one program, where each function "
+        "begins at a multiple of 64 octets, and in each repetition one runs directly after the other; a ratio is the median of those within a repetition. "
+        "Before anything is measured, both have given the same answers, and the same units. The last corpora are those of refused strings."
+        + (" `before` is the landing before: see Beside the landing before, also for where two figures stand." if to_before(found) else ""),
+        pairs_table(found, shown, shown),
+    ]
+
+
 def beside_before(found):
-    name = os.environ.get("CTEXT_BEFORE_NAME")
-    present = [f for f in FUNCTIONS if any(f in by_function for by_function in found.values())]
+    name, shown = os.environ.get("CTEXT_BEFORE_NAME"), to_before(found)
+    if not shown:
+        return []
     return [
         "## Beside the landing before",
         f"Each figure is the ratio of a function's time to that with the archive named by `CTEXT_BEFORE`{f' ({name})' if name else ''}: under 1 it has become "
@@ -139,29 +188,28 @@ def beside_before(found):
         "those within a repetition, which is steadier than the ratio of the medians or of the least times. Where code stands moves tight loops: each "
         "function of both begins at a multiple of 64 octets, and there are two programs, each archive being linked first in one. Where their ratios "
         "differ, both stand. Nothing stands where an archive lacks the function, or where the archives answer differently.",
-        table(["Corpus", *present], [[corpus, *(span(by_function[f]) for f in present)] for corpus, by_function in found.items()]),
+        pairs_table(found, shown, map(own, shown)),
     ]
 
 
 # ---- refused strings
 
 
-def refused_strings(refused):
-    before = ratios_to_before("-refused")
-    shown, compared = ["check", "next"], [f for f in ["check", "next"] if any(f in by_function for by_function in before.values())]
+def refused_strings(refused, found):
+    shown, compared = [f for f in ["check", "next", "archive_check"] if any(f in c.functions for c in refused)], to_before(found)
     lines = []
     for c in refused:
         sizes = [f"{c.strings:,}", f"{c.octets:,}", f"{c.units:,}" if c.units else "", number(c.functions["yardstick"]["time"], 0)]
-        lines.append([c.name, *sizes, *(number(c.ratio(f, "yardstick")) for f in shown), *(span(before[c.name][f]) for f in compared)])
+        lines.append([c.name, *sizes, *(number(c.ratio(f, "yardstick")) for f in shown), *(span(found[c.name][pair]) for pair in compared)])
     return [
         "## Refused strings",
         "refused has notes with one element put in that is refused with 2 to 7, each number as often as the others, and what followed it is still there. "
         "Each of the others is one string that is refused at its very end: intermediates is one designation of that length (5), endless-name segments that "
         "are all name, the last without an 02 (7), cut-segment the same with the last octet missing (2), late plain text and an unused octet (3).\n\n"
-        "The figures are as above. The units are those before the refusal, which `next` goes through. Before anything is measured, `check`, `read`, `next` "
-        "and the yardstick have given the same number and place for each string."
+        "The figures are as above. The units are those before the refusal, which `next` goes through. Before anything is measured, `check`, `read`, `next`, "
+        "the archive reader and the yardstick have given the same number and place for each string."
         + (" The last columns are ratios to the landing before, taken as below; the numbers must be the same there, not the places." if compared else ""),
-        table(["Corpus", "Strings", "Octets", "Units", "yardstick, ns a string", *shown, *(f"{f}, to before" for f in compared)], lines),
+        table(["Corpus", "Strings", "Octets", "Units", "yardstick, ns a string", *shown, *(f"{own(pair)}, to before" for pair in compared)], lines),
     ]
 
 
@@ -262,22 +310,40 @@ def resource_files(forms):
     ]
 
 
-def page(corpora, refused, forms):
-    base = "limit_table" if all("limit_table" in c.functions for c in corpora) else "yardstick"
-    found, code = ladders(), functions_of_archive()
+def nightly_job():
+    """Nothing where the command was not measured."""
+    parts = []
+    for command, notes, octets, median, most, runs, printed in rows("nightly.tsv"):
+        parts += [
+            "## The nightly job",
+            f"An archive of {int(notes):,} notes in frames, the corpus notes ten times over, {int(octets):,} octets with the lengths:",
+            f"```sh\n{command}\n```",
+            f"It takes {1000 * float(median):.0f} ms, from the command's start to its end: the median of {runs} runs, of which the longest took "
+            f"{1000 * float(most):.0f} ms. The file was in memory." + (f" The last line that it prints is `{printed}`." if printed else ""),
+        ]
+    return parts
+
+
+def head():
     load = " ".join(f"{x:.1f}" for x in os.getloadavg())
-    parts = [
+    return [
         "# Benchmark",
         "Written by `bench/run`, which measures anew; `bench/run` itself says what it needs.",
         f"- Date: {datetime.datetime.now(datetime.timezone.utc):%Y-%m-%d %H:%M} UTC, commit {said('git', '-C', str(DOCS), 'rev-parse', '--short', 'HEAD')}\n"
         f"- Machine: {machine()}; load at the end {load}\n"
         f"- C compiler: {said('gcc', '--version').splitlines()[0]}, -O3 -march=x86-64-v2; functions in C, and the archive as a whole, begin at "
         "multiples of 64 octets",
+    ]
+
+
+def times(corpora, base):
+    parts = [
         "## Times",
         "Each figure is a ratio: the processor time of a function on all strings of a corpus, to that of the yardstick on the same strings in the "
         "same run (the median over the repetitions of the ratio in each). `check`, `read` (into a list) and `write` (checking the units, planning "
         "and writing) are the proved library's, with one list and one work room used again; `run` is the last run asked for by its number, `next` all "
-        "units one by one, `next_run` all runs one after the other, `next_runs` all runs by a list of 64 words. The yardstick is "
+        "units one by one, `next_run` all runs one after the other, `next_runs` all runs by a list of 64 words; `archive_check` and `archive_read` are "
+        "`check` and `read` by the archive reader. The yardstick is "
         "`bench/yardstick.c`, which answers the number and the place of a refusal alone. sets has designations of all eighteen kinds in random order, "
         "each with one character of its set; sets-alone has nothing but such designations. directed-segments has extended segments with a text within "
         "directions, and some without text there and between them. libX11's functions convert to and from UTF-8; where nothing stands, libX11 does "
@@ -286,29 +352,31 @@ def page(corpora, refused, forms):
     ]
     if base == "limit_table":
         parts += ["The same by `limit_table`, another validator in C, that stood beside the repository in this run:", ratios(corpora, base)]
-    if refused:
-        parts += refused_strings(refused)
-    if forms:
-        parts += resource_files(forms)
-    parts += ["## What is asked for", targets(corpora + forms, base)]
-    before = ratios_to_before()
-    if before:
-        parts += beside_before(before)
-    if found:
-        parts += [
-            "## Straight lines",
-            "Strings of each kind, of lengths in sixteen equal steps. The line is that of least squares; a deviation is a part of the line's value. "
-            "A work room of many units, 72 octets each, is larger than a processor's nearer caches, and a unit costs more from there on: where little "
-            "is computed for a unit (ascii, kanji) the writer's line has two slopes, one for each side.\n\n"
-            "alternating (`41 E9`), kanji-ascii, trailing (designations alone), marks and names (segments that are all name) are hostile to one function or "
-            "another; intermediates and endless-name, refused at their last octet, are hostile to all that look for the place. `next at the end` is one "
-            "further call of a reader at its end; `write of one name` is a list whose units all name one part of 256 octets, and its name is read for each. "
-            "`resource_read` reads the forms of strings of these sizes.",
-            "![Time against size](benchmark.svg)",
-            straightness(found),
-        ]
-        (DOCS / "benchmark.svg").write_text(plot.svg({key: points for key, points in found.items() if key[1] in PLOTTED}))
-    parts += [
+    return parts
+
+
+def straight_lines():
+    found = ladders()
+    if not found:
+        return []
+    (DOCS / "benchmark.svg").write_text(plot.svg({key: points for key, points in found.items() if key[1] in PLOTTED}))
+    return [
+        "## Straight lines",
+        "Strings of each kind, of lengths in sixteen equal steps. The line is that of least squares; a deviation is a part of the line's value. "
+        "A work room of many units, 72 octets each, is larger than a processor's nearer caches, and a unit costs more from there on: where little "
+        "is computed for a unit (ascii, kanji) the writer's line has two slopes, one for each side.\n\n"
+        "alternating (`41 E9`), kanji-ascii, trailing (designations alone), marks and names (segments that are all name) are hostile to one function or "
+        "another; intermediates and endless-name, refused at their last octet, are hostile to all that look for the place. `next at the end` is one "
+        "further call of a reader at its end; `write of one name` is a list whose units all name one part of 256 octets, and its name is read for each. "
+        "`resource_read` reads the forms of strings of these sizes.",
+        "![Time against size](benchmark.svg)",
+        straightness(found),
+    ]
+
+
+def code_of_archive():
+    code = functions_of_archive()
+    return [
         "## Stack",
         "Octets of stack: what each function, with the call from C, changed of a stack that was filled before, on the corpora and on strings and "
         "lists made wrong; and the sum of the frames on the deepest path of calls in the archive, which holds for every input, since no function "
@@ -317,6 +385,34 @@ def page(corpora, refused, forms):
         "## Vector instructions in the archive",
         "The plan of the writer is meant to take sixteen values at once. No proof notices where the compiler stops doing so; these counts do.",
         packed(code),
+    ]
+
+
+def asked_for(corpora, base, found):
+    return [
+        "## What is asked for",
+        *(["The archive reader's bar is `check` and `read`; where these have become faster themselves, it is `check before` and `read before`, those of the "
+           "landing before."] if to_before(found) else []),
+        targets(corpora, base),
+    ]
+
+
+def page(corpora, refused, forms):
+    base = "limit_table" if all("limit_table" in c.functions for c in corpora) else "yardstick"
+    found, found_refused = pairs(), pairs("-refused")
+    add_pairs(corpora, found)
+    add_pairs(refused, found_refused)
+    parts = [
+        *head(),
+        *times(corpora, base),
+        *(refused_strings(refused, found_refused) if refused else []),
+        *archive_reader(found | found_refused),
+        *nightly_job(),
+        *(resource_files(forms) if forms else []),
+        *asked_for(corpora + refused + forms, base, found),
+        *beside_before(found),
+        *straight_lines(),
+        *code_of_archive(),
     ]
     return "\n\n".join(parts) + "\n"
 

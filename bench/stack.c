@@ -23,6 +23,8 @@ static size_t length, count, form_length;
 static void run_nothing(void) {}
 static void run_check(void) { ctext_check(text, length); }
 static void run_read(void) { ctext_read(text, length, units, CTEXT_MOST_UNITS); }
+static void run_archive_check(void) { ctext_archive_check(text, length); }
+static void run_archive_read(void) { ctext_archive_read(text, length, units, CTEXT_MOST_UNITS); }
 static void run_write(void) { ctext_write(units, count, text, length, work, sizeof work, out, sizeof out); }
 static void run_run(void) { ctext_run(text, length, 3); }
 
@@ -65,7 +67,7 @@ struct function {
     size_t most;
 };
 
-enum { NOTHING, CHECK, READ, WRITE, RUN, NEXT, NEXT_RUN, NEXT_RUNS, RESOURCE_WRITE, RESOURCE_READ, FUNCTIONS };
+enum { NOTHING, CHECK, READ, WRITE, RUN, NEXT, NEXT_RUN, NEXT_RUNS, ARCHIVE_CHECK, ARCHIVE_READ, RESOURCE_WRITE, RESOURCE_READ, FUNCTIONS };
 
 static struct function functions[FUNCTIONS] = {
     [NOTHING] = {"nothing", run_nothing, 0},
@@ -76,6 +78,8 @@ static struct function functions[FUNCTIONS] = {
     [NEXT] = {"ctext_next", run_next, 0},
     [NEXT_RUN] = {"ctext_next_run", run_next_run, 0},
     [NEXT_RUNS] = {"ctext_next_runs", run_next_runs, 0},
+    [ARCHIVE_CHECK] = {"ctext_archive_check", run_archive_check, 0},
+    [ARCHIVE_READ] = {"ctext_archive_read", run_archive_read, 0},
     [RESOURCE_WRITE] = {"ctext_resource_write", run_resource_write, 0},
     [RESOURCE_READ] = {"ctext_resource_read", run_resource_read, 0},
 };
@@ -146,6 +150,8 @@ int main(int n, char **words)
     if (!ctext_next) functions[NEXT].run = NULL;
     if (!ctext_open_runs || !ctext_next_run) functions[NEXT_RUN].run = NULL;
     if (!ctext_open_runs || !ctext_next_runs) functions[NEXT_RUNS].run = NULL;
+    if (!ctext_archive_check) functions[ARCHIVE_CHECK].run = NULL;
+    if (!ctext_archive_read) functions[ARCHIVE_READ].run = NULL;
     if (!ctext_resource_write) functions[RESOURCE_WRITE].run = NULL;
     if (!ctext_resource_read) functions[RESOURCE_READ].run = NULL;
     for (int i = 1; i < n; i++) {
