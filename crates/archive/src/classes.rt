@@ -1,7 +1,9 @@
-// What an octet starts, looked up in the table that is lent.
+// What the octet at a place starts, looked up in the table that is lent.
 ghost use mathlib.Core.Path.{_≡_};
-ghost use Prim.Native.Nat.{_+_, _≤_, _<_};
-ghost use Rattle.octet_table.specs.Table.{ruleOf, table};
+ghost use Prim.Native.Nat.{_≤_, _<_};
+ghost use lib.ListN.{length};
+ghost use Rattle.octet_table.specs.Table.{table};
+ghost use Rattle.archive.specs.Passes.{Classed};
 
 fn wide(b: u8) -> usize
     ensures { λ r. ⌜ (r ≡ b) × (r < 256) ⌝ }
@@ -9,10 +11,10 @@ fn wide(b: u8) -> usize
     b as usize
 }
 
-// The class of an octet in the row that starts at an entry.
-pub fn class(t: &[u8], row: usize, b: u8) -> u8
-    requires { ⌜ (now t ≡ table) × (row ≤ 1280) ⌝ }
-    ensures { λ r. ⌜ (r ≡ ruleOf (row + b)) × (b < 256) ⌝ }
+// The class of the octet at a place, in the row that starts at an entry.
+pub fn class_at(t: &[u8], s: &[u8], at: usize, row: usize) -> u8
+    requires { ⌜ (now t ≡ table) × (row ≤ 1280) × (at < length (now s)) ⌝ }
+    ensures { λ r. ⌜ Classed row (now (s .entry)) at r ⌝ }
 {
-    t[row + wide(b)]
+    t[row + wide(s[at])]
 }

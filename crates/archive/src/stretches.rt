@@ -6,7 +6,7 @@ ghost use lib.ListN.{length};
 ghost use Rattle.octet_table.specs.Table.{table};
 ghost use Rattle.archive.specs.Passes.{Passes, Within, Classed};
 use crate::blocks::blocks;
-use crate::classes::class;
+use crate::classes::class_at;
 use octet_table::ONE_GR;
 use octet_table::SPACE;
 use octet_table::TWO_GL;
@@ -21,13 +21,13 @@ fn width(t: &[u8], s: &[u8], at: usize, row: usize) -> usize
     requires { ⌜ (now t ≡ table) × (row ≤ 1280) × (at < length (now s)) ⌝ }
     ensures { λ r. ⌜ (0 < r → Passes row (now (s .entry)) at (at + r) 1) ⌝ }
 {
-    let k = class(t, row, s[at]);
+    let k = class_at(t, s, at, row);
     if k <= ONE_GR {
         return 1;
     }
     if k <= TWO_GR {
         if at + 1 < s.len() {
-            if class(t, row, s[at + 1]) == k {
+            if class_at(t, s, at + 1, row) == k {
                 return 2;
             }
             return 0;
@@ -66,10 +66,10 @@ fn four(t: &[u8], s: &[u8], at: usize, row: usize) -> bool
     requires { ⌜ (now t ≡ table) × (row ≤ 1280) × (at + 4 ≤ length (now s)) ⌝ }
     ensures { λ r. ⌜ (r ≡ true → Passes row (now (s .entry)) at (at + 4) 4) ⌝ }
 {
-    if class(t, row, s[at]) <= ONE_GR {
-        if class(t, row, s[at + 1]) <= ONE_GR {
-            if class(t, row, s[at + 1 + 1]) <= ONE_GR {
-                return class(t, row, s[at + 1 + 1 + 1]) <= ONE_GR;
+    if class_at(t, s, at, row) <= ONE_GR {
+        if class_at(t, s, at + 1, row) <= ONE_GR {
+            if class_at(t, s, at + 1 + 1, row) <= ONE_GR {
+                return class_at(t, s, at + 1 + 1 + 1, row) <= ONE_GR;
             }
             return false;
         }
@@ -128,7 +128,7 @@ fn far(t: &[u8], s: &[u8], at: usize, row: usize) -> Stretch
     requires { ⌜ (now t ≡ table) × (row ≤ 1280) × (at < length (now s)) ⌝ }
     ensures { λ r. ⌜ Passes row (now (s .entry)) at (at + r .octets) (r .units) ⌝ }
 {
-    let k = class(t, row, s[at]);
+    let k = class_at(t, s, at, row);
     if k == TWO_GL {
         return twos(s, at, 0x21, 0x7E);
     }

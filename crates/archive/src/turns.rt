@@ -4,7 +4,7 @@ ghost use Prim.Native.Nat.{_+_, _<_, _^_};
 ghost use Rattle.octet_table.specs.Table.{table};
 ghost use Rattle.cursor.specs.Cursor.{passedOf};
 ghost use Rattle.archive.specs.Turns.{cursorIn, rowed, firstRow, Ready, turnOf, movedBy, ifCharacter, setBy, oneRecord};
-use crate::classes::class;
+use crate::classes::class_at;
 use base::Unit;
 use charset::NO_SET;
 use charset::Side;
@@ -126,7 +126,7 @@ fn text_turn(t: &[u8], s: &[u8], c: RowCursor) -> RowTurn
 {
     let at = c.place;
     let b = s[at];
-    let k = class(t, c.row, b);
+    let k = class_at(t, s, at, c.row);
     if k <= ONE_GR {
         return RowTurn {
             cursor: c.moved(1),

@@ -3,7 +3,7 @@ ghost use mathlib.Core.Path.{_≡_};
 ghost use Prim.Native.Nat.{_+_, _<_};
 ghost use lib.ListN.{length};
 ghost use Rattle.grammar.specs.Reading.{checkOf};
-ghost use Rattle.octet_table.specs.Table.{rowOf, table};
+ghost use Rattle.octet_table.specs.Table.{table};
 ghost use Rattle.archive.specs.Passes.{Leaves};
 use crate::stretches::stretch_by;
 use base::Answer;
@@ -20,13 +20,14 @@ use stretch::characters::settled;
 use stretch::characters::stretch_at;
 
 // The stretch at a place: by the table where text leaves the state as it is, and else of tabs and newlines alone.
-fn run_at(t: &[u8], s: &[u8], at: usize, row: usize, st: State) -> Stretch
-    requires { ⌜ (now t ≡ table) × (row ≡ rowOf (st .sets)) × (at < length (now s)) ⌝ }
+fn run_at(t: &[u8], s: &[u8], at: usize, st: State) -> Stretch
+    requires { ⌜ (now t ≡ table) × (at < length (now s)) ⌝ }
     ensures { λ r. ⌜ Leaves st (now (s .entry)) at (at + r .octets) (r .units) ⌝ }
 {
     let directions = st.directions;
     if settled(directions) {
-        return stretch_by(t, s, at, row);
+        let sets = st.sets;
+        return stretch_by(t, s, at, row_of(sets.gl, sets.gr));
     }
     stretch_at(s, at, st)
 }
@@ -42,7 +43,6 @@ pub fn check_by(t: &[u8], s: &[u8]) -> Answer
     let mut at: usize = 0;
     let mut count: usize = 0;
     let mut st = State::FRESH;
-    let mut row = row_of(0, 3);
     while at < s.len() {
         if s[at] == 0x1B {
             let d = designation_at(s, at);
@@ -51,12 +51,10 @@ pub fn check_by(t: &[u8], s: &[u8]) -> Answer
                 let side = d.side;
                 at += d.octets;
                 st = st.designated(side, set);
-                let sets = st.sets;
-                row = row_of(sets.gl, sets.gr);
                 continue;
             }
         } else {
-            let run = run_at(t, s, at, row, st);
+            let run = run_at(t, s, at, st);
             let octets = run.octets;
             if 0 < octets {
                 at += octets;
@@ -78,8 +76,6 @@ pub fn check_by(t: &[u8], s: &[u8]) -> Answer
             Shape::Designates(octets, side, set) => {
                 at += octets;
                 st = st.designated(side, set);
-                let after = st.sets;
-                row = row_of(after.gl, after.gr);
             }
             Shape::Gives(part) => {
                 let step = directions.step(part.text, part.kind);

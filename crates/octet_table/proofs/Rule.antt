@@ -27,6 +27,19 @@ row-most s =
     let h = right-most (formOf (s .gr)) in
     pick-by (λ n. n ≤ 1280) _ (λ _. omega (arith, h)) (λ _. omega (arith, h))
 
+-- a row with a set of 96 in GR
+right-96 : (form : ℕ) → rightOf form ≡ 256 → form ≡ form-96
+unfolding rightOf
+right-96 form =
+    pick-by (λ n. n ≡ 256 → form ≡ form-96) _ (λ e _. eqb-true _ _ e)
+    (λ _. pick-by (λ n. n ≡ 256 → form ≡ form-96) _ (λ _ k. absurd (omega arith)) (λ _ k. absurd (omega arith)))
+
+pub row-96 : (s : Sets) → rowOf s % 768 ≡ 256 → formOf (s .gr) ≡ form-96
+unfolding rowFor
+row-96 s =
+    let m = right-most (formOf (s .gr)) in
+    pick-by (λ n. n % 768 ≡ 256 → formOf (s .gr) ≡ form-96) _ (λ _ k. right-96 _ (omega (arith, m))) (λ _ k. right-96 _ (omega (arith, m)))
+
 -- by what the code has found
 pub row-fits : (r form : ℕ) → r ≡ rightOf form → 768 + r < 2 ^ 64
 row-fits r form e =

@@ -39,7 +39,7 @@ graphic-on side b e =
 
 -- ---- which class it is
 
-data Blank : Start → Type 0 where
+pub data Blank : Start → Type 0 where
   tab : Blank start.tab
   newline : Blank start.newline
 
@@ -48,7 +48,7 @@ pub data Text : Start → Type 0 where
   space : Text start.space
   one : (d : Side) → Text (start.one d)
 
-data Lone : Start → Type 0 where
+pub data Lone : Start → Type 0 where
   blank : {c : Start} → Blank c → Lone c
   text : {c : Start} → Text c → Lone c
 
@@ -195,10 +195,10 @@ module _ (st : State) (settled : settledOf (st .directions) ≡ true) where
   unfolding stepOf
   written-found w = rw (w .is) (leaves st (w .unit) (on-true (w .unit .text) _ _ _ (w .text) (written (st .directions) settled)))
 
-  found : {n : ℕ} {x : Shape} → Written n x → One n st (directedOf x st)
+  pub found : {n : ℕ} {x : Shape} → Written n x → One n st (directedOf x st)
   found w = record { unit = w .unit; is = written-found w; sized = w .sized }
 
-  lone-one : (b : ℕ) (t : List ℕ) {c : Start} → Lone c → One 1 st (directedOf (begunBy c b t (st .sets)) st)
+  pub lone-one : (b : ℕ) (t : List ℕ) {c : Start} → Lone c → One 1 st (directedOf (begunBy c b t (st .sets)) st)
   lone-one b t (blank k) = blank-one st b t k
   lone-one b t (text k) = found (written-one (st .sets) b t k)
 

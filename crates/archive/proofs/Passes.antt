@@ -1,0 +1,295 @@
+-- What is passed by the classes of its octets is elements that leave the state (`Leaves`): one octet (`passes-one`), a character of two
+-- (`passes-two`), octets of a span (`ones-span`, `twos-span`). By the table's rule an octet of a class starts what the class starts, and of that
+-- `stretch` has shown which element it is.
+use Rattle.element.proofs.Names.{ℕ, zero, suc, _+_, _*_, _-_, _/_, _%_, _<_, _≤_, arith, _≡_, refl, ap, sym, _∙_, subst, Bool, true, false, List, _∷_}
+use Rattle.element.proofs.Names.{length, getD, pick, from, from-octet, Side, GL, GR, State, Sets, formOf, form-96, eqb-true}
+use Rattle.element.proofs.Names.{⊎-elim}
+use native.Mathlib.Nat.{eq-or-lt-of-le}
+use Rattle.charset.specs.Charsets.{form-94}
+use Rattle.text.specs.Text.{graphicOf}
+use Rattle.element.specs.Element.{shapeOf, elementOf}
+use Rattle.element.specs.Start.{Start, usedIn, startIn}
+use Rattle.element.specs.Start as start
+use Rattle.element.proofs.Sizes.{found}
+use Rattle.element.proofs.Starts.{On, wideIn, Starts, starts, graphic, graphic-used, all-used}
+use Rattle.element.proofs.Starts as starts-of
+use Rattle.grammar.specs.Reading.{answerOf}
+use Rattle.grammar.proofs.Places.{at-passed, step-passed}
+use Rattle.octet_table.specs.Table.{numberOf, classOf, ruleOf, rowOf}
+use Rattle.octet_table.proofs.Rule.{row-rule, row-96, class-number}
+use Rattle.stretch.specs.Characters.{settledOf}
+use Rattle.stretch.proofs.Law.{One}
+use Rattle.stretch.proofs.Starts.{Blank, Text, Lone, blank, text, left-start, one-start, written-two, lone-one}
+use Rattle.stretch.proofs.Starts as text-of
+use Rattle.archive.specs.Passes.{Leaves, Passes, Classed, Within}
+
+-- ---- one after another
+
+module _ (st : State) (s : List ℕ) where
+  pub leaves-none : (at : ℕ) → at ≤ length s → Leaves st s at at 0
+  leaves-none at h =
+      record {
+        since = omega arith;
+        within = h;
+        same = λ count. let e : count + 0 ≡ count = omega arith in rw e refl;
+      }
+
+  pub leaves-more : (at i j n m : ℕ) → Leaves st s at i n → Leaves st s i j m → Leaves st s at j (n + m)
+  leaves-more at i j n m a b =
+      record {
+        since = omega (arith, a .since, b .since);
+        within = b .within;
+        same = λ count. let e : count + (n + m) ≡ count + n + m = omega arith in rw e (b .same (count + n) ∙ a .same count);
+      }
+
+  -- an element that gives a unit and leaves the state
+  pub leaves-one : (at w : ℕ) → One w st (elementOf (from at s) st) → Leaves st s at (at + w) 1
+  unfolding answerOf
+  leaves-one at w u =
+      let t = step-passed s at st (elementOf (from at s) st) refl found (u .is) in
+      let e = at-passed s at st (elementOf (from at s) st) refl found (u .is) in
+      subst (λ (k : ℕ). Leaves st s at (at + k) 1) (u .sized)
+      (record { since = omega (arith, t .some); within = t .fits; same = λ count. sym (ap (answerOf count) e) })
+
+module _ (row : ℕ) (s : List ℕ) where
+  pub passes-none : (at : ℕ) → at ≤ length s → Passes row s at at 0
+  passes-none at h = record { since = omega arith; within = h; leaves = λ st r k. leaves-none st s at h }
+
+  pub passes-more : (at i j n m : ℕ) → Passes row s at i n → Passes row s i j m → Passes row s at j (n + m)
+  passes-more at i j n m a b =
+      record {
+        since = omega (arith, a .since, b .since);
+        within = b .within;
+        leaves = λ st r k. leaves-more st s at i j n m (a .leaves st r k) (b .leaves st r k);
+      }
+
+-- ---- what a class says
+
+-- a class of one octet
+lone : (c : Start) → numberOf c ≤ 4 → Lone c
+unfolding numberOf
+lone start.escape h = absurd (omega arith)
+lone start.mark h = absurd (omega arith)
+lone start.tab h = blank text-of.tab
+lone start.newline h = blank text-of.newline
+lone start.space h = text text-of.space
+lone start.unused h = absurd (omega arith)
+lone (start.one d) h = text (text-of.one d)
+lone (start.two GL) h = absurd (omega arith)
+lone (start.two GR) h = absurd (omega arith)
+
+-- the class of an octet whose number is known
+module _ (s : Sets) (b row k : ℕ) (small : b < 256) (r : rowOf s ≡ row) (e : k ≡ ruleOf (row + b)) where
+  pub number-is : numberOf (startIn s b) ≡ k
+  number-is = sym (row-rule s b small) ∙ ap (λ (n : ℕ). ruleOf (n + b)) r ∙ sym e
+
+  pub class-is : startIn s b ≡ classOf k
+  class-is = sym (class-number (startIn s b)) ∙ ap classOf number-is
+
+  pub starts-as : Starts s b (classOf k)
+  starts-as = subst (Starts s b) class-is (starts s b)
+
+  pub lone-is : k ≤ 4 → Lone (startIn s b)
+  lone-is h = lone (startIn s b) (rw (number-is) h)
+
+-- what a class of two octets says of its octet, and one of one octet of the form on its side
+two-is : (s : Sets) (b : ℕ) (d : Side) → Starts s b (start.two d) → On d b × ((graphicOf (b % 128) ≡ true) × (wideIn d s ≡ true))
+two-is s b _ (starts-of.two d h g w) = (h, (g, w))
+
+one-is : (s : Sets) (b : ℕ) (d : Side) → Starts s b (start.one d) → wideIn d s ≡ false
+one-is s b _ (starts-of.one d h u w) = w
+
+space-is : (s : Sets) (b : ℕ) → Starts s b start.space → wideIn GL s ≡ false
+space-is s b (starts-of.space e w) = w
+
+-- ---- one octet, and a character of two
+
+module _ (st : State) (settled : settledOf (st .directions) ≡ true) (s : List ℕ) (at : ℕ) where
+  leaves-lone : at < length s → Lone (startIn (st .sets) (getD s at 0)) → Leaves st s at (at + 1) 1
+  unfolding shapeOf
+  leaves-lone h k =
+      leaves-one st s at 1 (rw (from-octet s at h) (lone-one st settled (getD s at 0) (from (at + 1) s) k))
+
+  leaves-two : (d : Side) → at + 1 < length s → wideIn d (st .sets) ≡ true → On d (getD s at 0) → graphicOf (getD s at 0 % 128) ≡ true
+      → getD s (at + 1) 0 / 128 ≡ getD s at 0 / 128 → graphicOf (getD s (at + 1) 0 % 128) ≡ true → Leaves st s at (at + 2) 1
+  leaves-two d h w o g e i =
+      let two = text-of.found st settled (written-two (st .sets) (getD s at 0) d (getD s (at + 1) 0) (from (at + 1 + 1) s) w o g e i) in
+      leaves-one st s at 2 (rw (from-octet s at (omega arith), from-octet s (at + 1) h) two)
+
+-- two octets of a side are on it
+same-side : (d : Side) (b y : ℕ) → b < 256 → y < 256 → On d b → On d y → y / 128 ≡ b / 128
+same-side GL b y h k o p = omega (arith, o .1, p .1)
+same-side GR b y h k o p = omega (arith, o, p)
+
+module _ (row : ℕ) (s : List ℕ) (at k : ℕ) (c : Classed row s at k) where
+  pub passes-one : k ≤ 4 → Passes row s at (at + 1) 1
+  passes-one h =
+      record {
+        since = omega arith;
+        within = omega (arith, c .inside);
+        leaves = λ st r settled. leaves-lone st settled s at (c .inside) (lone-is (st .sets) (getD s at 0) row k (c .octet) r (c .is) h);
+      }
+
+  passes-pair : (d : Side) → numberOf (start.two d) ≡ k → Classed row s (at + 1) k → Passes row s at (at + 2) 1
+  passes-pair d e y =
+      record {
+        since = omega arith;
+        within = omega (arith, y .inside);
+        leaves = λ st r settled.
+            let x = two-is (st .sets) (getD s at 0) d (subst (Starts (st .sets) (getD s at 0)) (ap classOf (sym e) ∙ class-number (start.two d))
+            (starts-as (st .sets) (getD s at 0) row k (c .octet) r (c .is))) in
+            let z = two-is (st .sets) (getD s (at + 1) 0) d (subst (Starts (st .sets) (getD s (at + 1) 0)) (ap classOf (sym e) ∙ class-number (start.two d))
+            (starts-as (st .sets) (getD s (at + 1) 0) row k (y .octet) r (y .is))) in
+            leaves-two st settled s at d (y .inside) (x .1 .1) (x .0) (x .1 .0) (same-side d _ _ (c .octet) (y .octet) (x .0) (z .0)) (z .1 .0);
+      }
+
+  pub passes-two : 5 ≤ k → k ≤ 6 → Classed row s (at + 1) k → Passes row s at (at + 2) 1
+  unfolding numberOf
+  passes-two h l y =
+      ⊎-elim (λ (e : 5 ≡ k). passes-pair GL e y) (λ (m : 5 < k). let e : 6 ≡ k = omega arith in passes-pair GR e y) (eq-or-lt-of-le h)
+
+-- ---- octets of a span
+
+-- without the first k octets
+later : (first last : ℕ) (s : List ℕ) (at i k : ℕ) → at + k ≤ i → Within first last s at i → Within first last s (at + k) i
+later first last s at i k h w =
+    record { since = h; within = w .within; each = λ j l m. w .each j (omega (arith, l)) m }
+
+module _ (st : State) (settled : settledOf (st .directions) ≡ true) (s : List ℕ) (first last : ℕ) where
+  ones-leave : ((b : ℕ) → first ≤ b → b ≤ last → Lone (startIn (st .sets) b)) → (n at : ℕ) → Within first last s at (at + n)
+      → Leaves st s at (at + n) n
+  ones-leave each zero at w =
+      let e : at + 0 ≡ at = omega arith in
+      rw e (leaves-none st s at (omega (arith, w .within)))
+  ones-leave each (suc n) at w =
+      let e : at + 1 + n ≡ at + suc n = omega arith in
+      let f : 1 + n ≡ suc n = omega arith in
+      let o = w .each at (omega arith) (omega arith) in
+      let rest = ones-leave each n (at + 1) (subst (Within first last s (at + 1)) (sym e) (later first last s at (at + suc n) 1 (omega arith) w)) in
+      subst (Leaves st s at (at + suc n)) f
+      (leaves-more st s at (at + 1) (at + suc n) 1 n (leaves-lone st settled s at (omega (arith, w .within)) (each (getD s at 0) (o .0) (o .1)))
+      (subst (λ (j : ℕ). Leaves st s (at + 1) j n) e rest))
+
+  twos-leave : (d : Side) → last < 256 → wideIn d (st .sets) ≡ true
+      → ((b : ℕ) → first ≤ b → b ≤ last → On d b × (graphicOf (b % 128) ≡ true)) → (n at : ℕ) → Within first last s at (at + 2 * n)
+      → Leaves st s at (at + 2 * n) n
+  twos-leave d small wide each zero at w =
+      let e : at + 2 * 0 ≡ at = omega arith in
+      rw e (leaves-none st s at (omega (arith, w .within)))
+  twos-leave d small wide each (suc n) at w =
+      let e : at + 2 + 2 * n ≡ at + 2 * suc n = omega arith in
+      let f : 1 + n ≡ suc n = omega arith in
+      let o = w .each at (omega arith) (omega arith) in
+      let p = w .each (at + 1) (omega arith) (omega arith) in
+      let x = each (getD s at 0) (o .0) (o .1) in
+      let y = each (getD s (at + 1) 0) (p .0) (p .1) in
+      let rest = twos-leave d small wide each n (at + 2)
+      (subst (Within first last s (at + 2)) (sym e) (later first last s at (at + 2 * suc n) 2 (omega arith) w)) in
+      let pair = leaves-two st settled s at d (omega (arith, w .within)) wide (x .0) (x .1)
+      (same-side d (getD s at 0) (getD s (at + 1) 0) (omega (arith, o .1)) (omega (arith, p .1)) (x .0) (y .0)) (y .1) in
+      subst (Leaves st s at (at + 2 * suc n)) f
+      (leaves-more st s at (at + 2) (at + 2 * suc n) 1 n pair (subst (λ (j : ℕ). Leaves st s (at + 2) j n) e rest))
+
+-- the octets of a span are of one class, whatever the row, where one octet is
+module _ (row : ℕ) (s : List ℕ) (at k r : ℕ) (c : Classed row s at k) where
+  ones-pass : (first last : ℕ) → Within first last s at r
+      → ((st : State) → rowOf (st .sets) ≡ row → (b : ℕ) → first ≤ b → b ≤ last → Lone (startIn (st .sets) b)) → Passes row s at r (r - at)
+  ones-pass first last w each =
+      let e : at + (r - at) ≡ r = omega (arith, w .since) in
+      record {
+        since = omega (arith, w .since);
+        within = w .within;
+        leaves = λ st q settled.
+            subst (λ (i : ℕ). Leaves st s at i (r - at)) e
+            (ones-leave st settled s first last (each st q) (r - at) at (subst (Within first last s at) (sym e) w));
+      }
+
+  -- the class of the octet at the place, under a state of the row
+  here : (st : State) → rowOf (st .sets) ≡ row → Starts (st .sets) (getD s at 0) (classOf k)
+  here st q = starts-as (st .sets) (getD s at 0) row k (c .octet) q (c .is)
+
+  narrow : (st : State) → rowOf (st .sets) ≡ row → k ≤ 1 → wideIn GL (st .sets) ≡ false
+  unfolding classOf pick
+  narrow st q h =
+      ⊎-elim (λ (e : k ≡ 1). space-is (st .sets) (getD s at 0) (rw e at (here st q)))
+      (λ (l : k < 1). let e : k ≡ 0 = omega arith in one-is (st .sets) (getD s at 0) GL (rw e at (here st q))) (eq-or-lt-of-le h)
+
+  right-narrow : (st : State) → rowOf (st .sets) ≡ row → k ≡ 4 → wideIn GR (st .sets) ≡ false
+  unfolding classOf pick
+  right-narrow st q e = one-is (st .sets) (getD s at 0) GR (rw e at (here st q))
+
+  pub ones-gl : k ≤ 1 → Within 0x20 0x7E s at r → Passes row s at r (r - at)
+  ones-gl h w = ones-pass 0x20 0x7E w (λ st q b l m. text (left-start (st .sets) b l (omega arith) (narrow st q h)))
+
+  pub ones-94 : k ≡ 4 → Within 0xA1 0xFE s at r → Passes row s at r (r - at)
+  ones-94 e w =
+      ones-pass 0xA1 0xFE w (λ st q b l m.
+      text (one-start (st .sets) b GR (omega arith) (graphic-used _ b (graphic (b % 128) (omega arith) (omega arith))) (right-narrow st q e)))
+
+  pub ones-96 : k ≡ 4 → row % 768 ≡ 256 → Within 0xA0 0xFF s at r → Passes row s at r (r - at)
+  ones-96 e f w =
+      ones-pass 0xA0 0xFF w (λ st q b l m.
+      text (one-start (st .sets) b GR l (all-used _ b (row-96 (st .sets) (rw (← q) at f))) (right-narrow st q e)))
+
+  pub ones-none : at ≤ length s → Passes row s at at (at - at)
+  ones-none h = let e : at - at ≡ 0 = omega arith in rw e (passes-none row s at h)
+
+-- and the same of characters of two octets, n of them
+module _ (row : ℕ) (s : List ℕ) (at k m n : ℕ) (c : Classed row s at k) (e : m ≡ 2 * n) where
+  twos-pass : (d : Side) (first last : ℕ) → last < 256 → Within first last s at (at + m) → ((st : State) → rowOf (st .sets) ≡ row → wideIn d (st .sets) ≡ true)
+      → ((b : ℕ) → first ≤ b → b ≤ last → On d b × (graphicOf (b % 128) ≡ true)) → Passes row s at (at + m) n
+  twos-pass d first last small w wide each =
+      record {
+        since = omega (arith, e);
+        within = w .within;
+        leaves = λ st q settled.
+            subst (λ (j : ℕ). Leaves st s at (at + j) n) (sym e)
+            (twos-leave st settled s first last d small (wide st q) each n at (subst (λ (j : ℕ). Within first last s at (at + j)) e w));
+      }
+
+  pub twos-gl : k ≡ 5 → Within 0x21 0x7E s at (at + m) → Passes row s at (at + m) n
+  unfolding classOf pick
+  twos-gl f w =
+      twos-pass GL 0x21 0x7E (omega arith) w (λ st q. two-is (st .sets) (getD s at 0) GL (rw f at (here row s at k m c st q)) .1 .1)
+      (λ b l h. ((l, omega arith), graphic (b % 128) (omega arith) (omega arith)))
+
+  pub twos-gr : k ≡ 6 → Within 0xA1 0xFE s at (at + m) → Passes row s at (at + m) n
+  unfolding classOf pick
+  twos-gr f w =
+      twos-pass GR 0xA1 0xFE (omega arith) w (λ st q. two-is (st .sets) (getD s at 0) GR (rw f at (here row s at k m c st q)) .1 .1)
+      (λ b l h. (omega arith, graphic (b % 128) (omega arith) (omega arith)))
+
+-- ---- as the loops go
+
+module _ (row : ℕ) (s : List ℕ) (at : ℕ) where
+  -- the place by the octets that were passed
+  pub passes-at : (i n : ℕ) → Passes row s at i n → Passes row s at (at + (i - at)) n
+  passes-at i n a = let e : at + (i - at) ≡ i = omega (arith, a .since) in rw e a
+
+  -- one unit more, of w octets
+  pub passes-next : (i n w : ℕ) → Passes row s at i n → (0 < w → Passes row s i (i + w) 1) → (w ≡ 0 → ⊥) → Passes row s at (i + w) (n + 1)
+  passes-next i n w a b h = passes-more row s at i (i + w) n 1 a (b (omega (arith, h)))
+
+  pub passes-four : (k l m n : ℕ) → Classed row s at k → k ≤ 4 → Classed row s (at + 1) l → l ≤ 4 → Classed row s (at + 1 + 1) m → m ≤ 4
+      → Classed row s (at + 1 + 1 + 1) n → n ≤ 4 → Passes row s at (at + 4) 4
+  passes-four k l m n a ha b hb c hc d hd =
+      let e : at + 1 + 1 + 1 + 1 ≡ at + 4 = omega arith in
+      let two = passes-more row s at (at + 1) (at + 1 + 1) 1 1 (passes-one row s at k a ha) (passes-one row s (at + 1) l b hb) in
+      let three = passes-more row s at (at + 1 + 1) (at + 1 + 1 + 1) 2 1 two (passes-one row s (at + 1 + 1) m c hc) in
+      subst (λ (i : ℕ). Passes row s at i 4) e
+      (passes-more row s at (at + 1 + 1 + 1) (at + 1 + 1 + 1 + 1) 3 1 three (passes-one row s (at + 1 + 1 + 1) n d hd))
+
+  -- units of one octet
+  pub ones-first : at ≤ length s → Passes row s at at (at - at)
+  ones-first h = let e : at - at ≡ 0 = omega arith in rw e (passes-none row s at h)
+
+  pub ones-more : (i j m : ℕ) → Passes row s at i (i - at) → Passes row s i j m → m ≡ j - i → Passes row s at j (j - at)
+  ones-more i j m a b e =
+      let f : i - at + m ≡ j - at = omega (arith, a .since, b .since, e) in
+      subst (Passes row s at j) f (passes-more row s at i j (i - at) m a b)
+
+  -- two stretches, by their octets
+  pub passes-both : (k n l m : ℕ) → Passes row s at (at + k) n → Passes row s (at + k) (at + k + l) m → Passes row s at (at + (k + l)) (n + m)
+  passes-both k n l m a b =
+      let e : at + k + l ≡ at + (k + l) = omega arith in
+      subst (λ (i : ℕ). Passes row s at i (n + m)) e (passes-more row s at (at + k) (at + k + l) n m a b)
