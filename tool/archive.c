@@ -2,6 +2,7 @@
    that is refused, and a count. */
 
 #include <string.h>
+#include <unistd.h>
 
 #include "tool.h"
 
@@ -84,6 +85,7 @@ static void count_framed(tally *t, const char *file)
 
 static int print_count(const tally *t)
 {
+    progress_clear(STDERR_FILENO);
     out_format("notes %zu, accepted %zu, refused %zu, unread %zu\n", t->accepted + t->refused + t->unread, t->accepted,
                t->refused, t->unread);
     if (t->unread > 0)

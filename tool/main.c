@@ -6,9 +6,8 @@
 #include "tool.h"
 
 /* A verb answers notes, of at most so many octets each, one by one; or it takes
-   none, and prints; or it takes one of its options, or none, and the files by
-   itself. The functions for the others are null. Its words and what is to be said
-   about them are told by its --help, where they are other than files. */
+   none, and prints; or it takes one of its options, or null, and the files. The
+   functions for the others are null. */
 typedef struct verb {
     const char *name;
     int (*answer)(const note *n);
@@ -16,9 +15,9 @@ typedef struct verb {
     int (*print)(void);
     int (*take)(const char *option, char *const *files, int count);
     const char *options[3]; /* up to a null */
-    const char *help;
-    const char *words;
-    const char *more;
+    const char *help;       /* one line */
+    const char *words;      /* after its name in the usage, where they are not files */
+    const char *more;       /* what its own help says besides, or null */
 } verb;
 
 /* A new verb is a line here, a line of tool.h and a file; one that takes other words

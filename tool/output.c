@@ -24,7 +24,7 @@ void out_flush(void)
 {
     size_t done = 0;
     if (count > 0)
-        progress_clear();
+        progress_clear(STDOUT_FILENO);
     while (done < count) {
         ssize_t written = write(STDOUT_FILENO, held + done, count - done);
         if (written > 0)
@@ -123,7 +123,7 @@ int out_made(const note *n, ctext_answer a, const uint8_t *octets)
 void complain(const char *name, const char *what)
 {
     out_flush();
-    progress_clear();
+    progress_clear(STDERR_FILENO);
     fprintf(stderr, "ctext: %s: %s\n", shown_name(name), what);
 }
 

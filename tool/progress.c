@@ -35,14 +35,15 @@ void progress(size_t notes, size_t refused)
     if (!due)
         return;
     due = 0;
-    progress_clear();
+    progress_clear(STDERR_FILENO);
     width = fprintf(stderr, "notes %zu, refused %zu", notes, refused);
     alarm(1);
 }
 
-void progress_clear(void)
+void progress_clear(int file)
 {
-    if (width > 0)
-        fprintf(stderr, "\r%*s\r", width, "");
+    if (width <= 0 || !isatty(file))
+        return;
+    fprintf(stderr, "\r%*s\r", width, "");
     width = 0;
 }

@@ -157,8 +157,9 @@ const char *shown_name(const char *name);
 void progress_begin(void);
 void progress(size_t notes, size_t refused);
 
-/* Takes the line off the terminal, before anything else is written. */
-void progress_clear(void);
+/* Takes the line off the terminal, before anything else is written to the file, where
+   that is a terminal. */
+void progress_clear(int file);
 
 /* ---- shorten.c ---------------------------------------------------------- */
 
