@@ -9,9 +9,10 @@
    - A pointer and the length after it tell the truth: so many octets, records
      or words stand there for the whole call. Beside a length of 0 the pointer
      is not followed and may be null.
-   - What is lent for an answer (units of ctext_read, runs of ctext_next_runs,
-     work and out of ctext_write, out of ctext_program, ctext_resource_write and
-     ctext_resource_read) overlaps nothing else that is lent to the same call.
+   - What is lent for an answer (units of ctext_read and ctext_archive_read, runs
+     of ctext_next_runs, work and out of ctext_write, out of ctext_program,
+     ctext_resource_write and ctext_resource_read) overlaps nothing else that is
+     lent to the same call.
    - While a call runs, nobody else writes to what it was lent, and nobody
      else looks at what it was lent for an answer.
    Nothing else is left to the caller. Any octets, records, readers and
@@ -28,7 +29,7 @@
 #include <stddef.h>
 #include <stdint.h>
 
-#define CTEXT_VERSION "3.0"
+#define CTEXT_VERSION "3.1"
 
 /* The most octets of a string, units of a list, octets of an extended
    segment, and directions open at once. */
@@ -241,6 +242,13 @@ ctext_answer ctext_check(const uint8_t *s, size_t n);
    hold the units and the rest stay as they were. Refused: no record is
    touched. */
 ctext_answer ctext_read(const uint8_t *s, size_t n, ctext_unit *units, size_t room);
+
+/* The archive reader: a second reader, driven by a table of what each octet starts.
+   For every string its answer, its units and what it touches are those of
+   ctext_check and of ctext_read. Where many notes are read it is the quicker of
+   the two. */
+ctext_answer ctext_archive_check(const uint8_t *s, size_t n);
+ctext_answer ctext_archive_read(const uint8_t *s, size_t n, ctext_unit *units, size_t room);
 
 /* ---- Runs -------------------------------------------------------------- */
 

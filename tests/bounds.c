@@ -1,9 +1,11 @@
 /* bounds.c: every function of the library on memory of exactly the size that
    is lent, for valgrind to watch, and its answers held against each other.
 
-   All strings of up to three elements out of a table are read, shown, stepped
-   over and written, and all of up to five octets out of another are put into
-   their resource form and read as one. The places of refusals, and where a reader
+   All strings of up to three elements out of a table are read by both readers,
+   shown, stepped over and written, and all of up to five octets out of another are
+   put into their resource form and read as one. The archive reader is also held
+   against the first one on longer strings, in lists of every length around the
+   need. The places of refusals, and where a reader
    then stands, are those of a table of strings. What the direction rule says of
    extended segments is tried on a table of strings, lists and readers, and the
    table of sets is held against one of its own. What is lent is filled with a
@@ -33,7 +35,7 @@ static const char *const ELEMENTS[] = {
 /* What escapes are made of and for, and others; resource forms are tried over it. */
 static const uint8_t LETTERS[] = { '\\', 'n', '0', 0x0A, 0x00, 'A', 0xE9 };
 
-static unsigned long failures, strings, accepted, forms, designations, places;
+static unsigned long failures, strings, accepted, archived, forms, designations, places;
 
 static void expect(int holds, const char *what, const uint8_t *s, size_t n)
 {
@@ -362,6 +364,40 @@ static void printed(const uint8_t *s, size_t n, const ctext_unit *units, ctext_a
     free(exact);
 }
 
+/* Both readers into lists of exactly so many records: the same answer, the same
+   units, and the rest of the list stays, the whole of it beside a refusal. */
+static void archive_list(const uint8_t *s, size_t n, size_t room)
+{
+    ctext_unit *first = (ctext_unit *)lend_pattern(room * sizeof *first);
+    ctext_unit *second = (ctext_unit *)lend_pattern(room * sizeof *second);
+    ctext_answer wanted = ctext_read(s, n, first, room), a = ctext_archive_read(s, n, second, room);
+    size_t stored = wanted.number == CTEXT_ACCEPTED ? wanted.count : 0, i;
+    expect(same_answer(a, wanted), "the answer of an archive's list", s, n);
+    for (i = 0; i < stored && i < room; i++)
+        expect(same_unit(&first[i], &second[i]), "a unit of an archive's list", s, n);
+    expect(stored == room || (stored < room && untouched(second + stored, (room - stored) * sizeof *second)),
+           "what stays of an archive's list", s, n);
+    free(second);
+    free(first);
+}
+
+/* The archive reader and the first one: no list, lists one record too short, exact
+   and larger, and one for each octet. */
+static void archive(const uint8_t *s, size_t n)
+{
+    ctext_answer check = ctext_check(s, n);
+    expect(same_answer(ctext_archive_check(s, n), check), "the answer of an archive's check", s, n);
+    archive_list(s, n, 0);
+    if (check.count > 1)
+        archive_list(s, n, check.count - 1);
+    archive_list(s, n, check.count + 1);
+    if (check.count > 0)
+        archive_list(s, n, check.count);
+    if (n > check.count + 1)
+        archive_list(s, n, n);
+    archived++;
+}
+
 static void try_string(const uint8_t *octets, size_t n)
 {
     uint8_t *s = lend_copy(octets, n);
@@ -382,6 +418,7 @@ static void try_string(const uint8_t *octets, size_t n)
     }
     a = ctext_read(s, n, units, room);
     expect(same_answer(a, check), "the answer of the list", s, n);
+    archive(s, n);
     steps(s, n, units, check);
     runs(s, n, units, check);
     printed(s, n, units, check);
@@ -408,6 +445,39 @@ static void try_elements(unsigned most, const uint8_t *before, size_t n)
         memcpy(octets + n, ELEMENTS[i], more);
         try_elements(most - 1, octets, n + more);
     }
+}
+
+/* The archive reader on these octets with each element behind them. */
+static void try_behind(uint8_t *octets, size_t n)
+{
+    size_t i;
+    for (i = 0; i < MANY; i++) {
+        size_t more = strlen(ELEMENTS[i]);
+        uint8_t *s;
+        memcpy(octets + n, ELEMENTS[i], more);
+        s = lend_copy(octets, n + more);
+        archive(s, n + more);
+        free(s);
+    }
+}
+
+/* Stretches: an element so often, after one that designates or begins a direction,
+   or none. */
+static void try_stretches(void)
+{
+    static const char *const BEFORE[] = { "", "\x1B\x24\x28\x42", "\x1B\x24\x29\x43", "\x1B\x29\x49", "\x9B\x32\x5D" };
+    static const size_t OFTEN[] = { 3, 7, 8, 9, 15, 16, 17, 33, 65 };
+    uint8_t octets[1024];
+    size_t b, i, j, k;
+    for (b = 0; b < sizeof BEFORE / sizeof BEFORE[0]; b++)
+        for (i = 0; i < MANY; i++)
+            for (j = 0; j < sizeof OFTEN / sizeof OFTEN[0]; j++) {
+                size_t n = strlen(BEFORE[b]), more = strlen(ELEMENTS[i]);
+                memcpy(octets, BEFORE[b], n);
+                for (k = 0; k < OFTEN[j]; k++, n += more)
+                    memcpy(octets + n, ELEMENTS[i], more);
+                try_behind(octets, n);
+            }
 }
 
 /* ctext_resource_write or ctext_resource_read. */
@@ -737,6 +807,8 @@ static void placed_at(const uint8_t *octets, size_t n, ctext_answer wanted, size
     ctext_step step = ctext_next(s, n, ctext_open());
     expect(same_answer(ctext_check(s, n), wanted), "the place of a check", s, n);
     expect(same_answer(ctext_read(s, n, list, n), wanted), "the place of a list", s, n);
+    expect(same_answer(ctext_archive_check(s, n), wanted), "the place of an archive's check", s, n);
+    expect(same_answer(ctext_archive_read(s, n, list, n), wanted), "the place of an archive's list", s, n);
     expect(same_answer(ctext_run(s, n, 0).answer, wanted), "the place of a run", s, n);
     expect(same_answer(ctext_next_run(s, n, ctext_open_runs()).run.answer, wanted), "the place of a first run", s, n);
     expect(same_answer(listed(s, n, ctext_open_runs(), 2).answer, wanted), "the place of first runs", s, n);
@@ -858,6 +930,8 @@ static void try_limits(void)
     for (n = most; n <= most + 1; n++) {
         uint8_t expected = n > most ? CTEXT_TOO_LONG : CTEXT_ACCEPTED;
         expect(ctext_check(s, n).number == expected, "a check at the limit", s, 1);
+        archive(s, n);
+        expect(ctext_archive_check(s, n).number == expected, "an archive's check at the limit", s, 1);
         expect(ctext_read(s, n, units, most + 1).number == expected, "a list at the limit", s, 1);
         expect(ctext_run(s, n, 0).answer.number == expected, "a run at the limit", s, 1);
         expect(ctext_next_run(s, n, ctext_open_runs()).run.answer.number == expected,
@@ -1266,6 +1340,7 @@ int main(int argc, char **argv)
     if (most > 5)
         most = 5;
     try_elements(most, NULL, 0);
+    try_stretches();
     try_forms(most + 2, octets, 0);
     try_escapes();
     try_form_limits();
@@ -1284,7 +1359,8 @@ int main(int argc, char **argv)
     try_set_rows();
     try_set_of();
     try_designations();
-    printf("bounds: %lu strings, %lu accepted, %lu resource forms, %lu designations, %lu places, %lu failures\n",
-           strings, accepted, forms, designations, places, failures);
+    printf("bounds: %lu strings, %lu accepted, %lu by both readers, %lu resource forms, %lu designations, %lu places, "
+           "%lu failures\n",
+           strings, accepted, archived, forms, designations, places, failures);
     return failures != 0;
 }

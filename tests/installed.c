@@ -1,7 +1,7 @@
 /* installed.c: a program, C and C++, that knows the installed header alone: what
    tests/c does not call, or not from C++, the names for people, the table of sets,
-   the parts of a segment, and the version. Says what is wrong; the exit status is
-   0 where nothing is. */
+   the archive reader, the parts of a segment, and the version. Says what is wrong;
+   the exit status is 0 where nothing is. */
 
 #include <ctext.h>
 #include <stdio.h>
@@ -63,6 +63,22 @@ static void try_sets(void)
     }
 }
 
+static void try_archive(void)
+{
+    static const uint8_t note[] = { 0x1B, 0x24, 0x28, 0x42, 0x30, 0x21 };
+    ctext_unit unit;
+    ctext_answer check = ctext_archive_check(note, sizeof note - 1);
+    ctext_answer read = ctext_archive_read(note, sizeof note, &unit, 1);
+    if (check.number != CTEXT_CUT || check.place != 5) {
+        printf("installed: a cut note by the archive reader\n");
+        failures++;
+    }
+    if (read.number != CTEXT_ACCEPTED || read.count != 1 || unit.set != CTEXT_SET_JISX0208 || unit.start != 4) {
+        printf("installed: the note by the archive reader\n");
+        failures++;
+    }
+}
+
 static void try_parts(void)
 {
     static const uint8_t note[] = { 'A', 0x1B, 0x25, 0x2F, 0x31, 0x80, 0x84, 'a', 'b', 0x02, 0xFF };
@@ -89,6 +105,7 @@ int main(void)
 {
     try_names();
     try_sets();
+    try_archive();
     try_parts();
     return failures != 0;
 }

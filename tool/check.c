@@ -9,6 +9,6 @@ int check(const note *n)
     if (a.number == CTEXT_ACCEPTED)
         out_format("accepted: octets %zu, units %zu\n", a.place, a.count);
     else
-        out_format("refused %d at %zu: %s\n", a.number, a.place, ctext_refusal_text(a.number));
+        out_refusal(a);
     return a.number == CTEXT_ACCEPTED ? STATUS_ACCEPTED : STATUS_REFUSED;
 }

@@ -69,7 +69,7 @@ static refusal refusal_of(const note *n)
 static int explain_refused(const note *n, ctext_answer a)
 {
     refusal r = refusal_of(n);
-    out_format("refused %d at %zu: %s\n", a.number, a.place, ctext_refusal_text(a.number));
+    out_refusal(a);
     if (a.number == CTEXT_TOO_LONG)
         return STATUS_REFUSED;
     out_format("octets %zu, element at %zu, units before it %zu\n", n->length, r.reader.place, r.reader.count);

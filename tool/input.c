@@ -26,17 +26,41 @@ static int read_all(int file, size_t room, size_t *length)
     return 1;
 }
 
+static int is_standard(const char *file)
+{
+    return strcmp(file, "-") == 0;
+}
+
+const char *input_name(const char *file)
+{
+    return is_standard(file) ? "standard input" : file;
+}
+
+int input_open(const char *file)
+{
+    int opened = is_standard(file) ? STDIN_FILENO : open(file, O_RDONLY | O_CLOEXEC);
+    if (opened < 0)
+        complain(file, strerror(errno));
+    return opened;
+}
+
+/* By the name: where standard input is closed, a file may have its number. */
+void input_close(const char *file, int opened)
+{
+    if (!is_standard(file))
+        close(opened);
+}
+
 int input_note(const char *file, size_t most, note *n)
 {
-    int standard = strcmp(file, "-") == 0;
-    int opened = standard ? STDIN_FILENO : open(file, O_RDONLY | O_CLOEXEC);
-    int good;
-    n->name = standard ? "standard input" : file;
+    int opened = input_open(file), good;
+    n->name = input_name(file);
     n->octets = input;
-    good = opened >= 0 && read_all(opened, most + 1, &n->length);
+    if (opened < 0)
+        return 0;
+    good = read_all(opened, most + 1, &n->length);
     if (!good)
         complain(n->name, strerror(errno));
-    if (!standard && opened >= 0)
-        close(opened);
+    input_close(file, opened);
     return good;
 }

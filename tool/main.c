@@ -5,30 +5,44 @@
 
 #include "tool.h"
 
-/* A verb takes notes, of at most so many octets each, and answers them one by one;
-   or it takes none, and prints. The function for the other is null. */
+/* A verb answers notes, of at most so many octets each, one by one; or it takes
+   none, and prints; or it takes one of its options, or null, and the files. The
+   functions for the others are null. */
 typedef struct verb {
     const char *name;
     int (*answer)(const note *n);
     size_t most;
     int (*print)(void);
-    const char *help;
+    int (*take)(const char *option, char *const *files, int count);
+    const char *options[3]; /* up to a null */
+    const char *help;       /* one line */
+    const char *words;      /* after its name in the usage, where they are not files */
+    const char *more;       /* what its own help says besides, or null */
 } verb;
 
-/* A new verb is a line here, a line of tool.h and a file; one that takes no note
-   is a line of USAGE too. */
+/* A new verb is a line here, a line of tool.h and a file; one that takes other words
+   than files is a line of USAGE too. */
 static const verb VERBS[] = {
-    { "shorten", shorten, CTEXT_MOST_OCTETS, NULL, "write its shortest form, nothing added" },
-    { "check", check, CTEXT_MOST_OCTETS, NULL, "say whether it is accepted, or why not" },
-    { "units", units, CTEXT_MOST_OCTETS, NULL,
-      "list its units: characters, spaces, tabs, newlines, directions, segments" },
-    { "runs", runs, CTEXT_MOST_OCTETS, NULL, "list its runs: stretches of text in one set" },
-    { "explain", explain, CTEXT_MOST_OCTETS, NULL, "show where it is refused, or what it holds" },
-    { "escape", escape, CTEXT_MOST_OCTETS, NULL,
-      "write its resource form, a value for an X resource file, nothing added" },
-    { "unescape", unescape, CTEXT_MOST_FORM, NULL,
-      "read a resource form, and write the octets it stands for, nothing added" },
-    { "sets", NULL, 0, sets, "take no note, and list the fifteen sets with their designations" }
+    { "shorten", .answer = shorten, .most = CTEXT_MOST_OCTETS, .help = "write its shortest form, nothing added" },
+    { "check", .answer = check, .most = CTEXT_MOST_OCTETS, .help = "say whether it is accepted, or why not" },
+    { "units", .answer = units, .most = CTEXT_MOST_OCTETS,
+      .help = "list its units: characters, spaces, tabs, newlines, directions, segments" },
+    { "runs", .answer = runs, .most = CTEXT_MOST_OCTETS, .help = "list its runs: stretches of text in one set" },
+    { "explain", .answer = explain, .most = CTEXT_MOST_OCTETS, .help = "show where it is refused, or what it holds" },
+    { "escape", .answer = escape, .most = CTEXT_MOST_OCTETS,
+      .help = "write its resource form, a value for an X resource file, nothing added" },
+    { "unescape", .answer = unescape, .most = CTEXT_MOST_FORM,
+      .help = "read a resource form, and write the octets it stands for, nothing added" },
+    { "archive", .take = archive, .options = { "--null", "--framed" },
+      .help = "check many files, or those that standard input names: list the refused, count all",
+      .words = " FILE ..\n"
+               "       ctext archive [--null] < NAMES\n"
+               "       ctext archive --framed [FILE]",
+      .more = "\n"
+              "Without a file, standard input has the names of the notes' files, one to a line,\n"
+              "or with --null each ended by an octet 00. With --framed all notes are in one file,\n"
+              "or on standard input, each after its length in four octets, most significant first.\n" },
+    { "sets", .print = sets, .help = "take no note, and list the fifteen sets with their designations", .words = "" }
 };
 
 #define COUNT (sizeof VERBS / sizeof VERBS[0])
@@ -36,6 +50,8 @@ static const verb VERBS[] = {
 static const char USAGE[] =
     "usage: ctext < NOTE\n"
     "       ctext VERB [FILE ..]\n"
+    "       ctext archive [--null] < NAMES\n"
+    "       ctext archive --framed [FILE]\n"
     "       ctext sets\n"
     "       ctext --help | --version\n";
 
@@ -50,7 +66,7 @@ static const char STATUS[] =
     "\n"
     "Exit status: 0 accepted; 1 refused; 2 wrong use, or a read or write failed.\n";
 
-static int wrong_use(const char *word, const char *why)
+int wrong_use(const char *word, const char *why)
 {
     complain(word, why);
     fputs(USAGE, stderr);
@@ -107,9 +123,11 @@ static int answer_all(const verb *v, char *const *files, int count)
     return status;
 }
 
-static int run_on(const verb *v, char *const *files, int count)
+static int run_on(const verb *v, const char *option, char *const *files, int count)
 {
-    if (v->print == NULL)
+    if (v->take != NULL)
+        return v->take(option, files, count);
+    if (v->answer != NULL)
         return answer_all(v, files, count);
     return count == 0 ? v->print() : wrong_use(files[0], "the verb takes no file");
 }
@@ -119,19 +137,35 @@ static int is_option(const char *word)
     return word[0] == '-' && word[1] != '\0';
 }
 
-/* The words after the verb: --help, or files, which may stand after `--'. */
+static int has_option(const verb *v, const char *word)
+{
+    size_t i = 0;
+    while (v->options[i] != NULL && strcmp(v->options[i], word) != 0)
+        i++;
+    return v->options[i] != NULL;
+}
+
+static int print_verb_help(const verb *v)
+{
+    out_format("usage: ctext %s%s\n", v->name, v->words != NULL ? v->words : " [FILE ..]");
+    print_verb(v);
+    out_text(v->more != NULL ? v->more : "");
+    return STATUS_ACCEPTED;
+}
+
+/* The words after the verb: --help; or an option that it has, or none, and files,
+   which may stand after `--'. */
 static int run_verb(const verb *v, char *const *words, int count)
 {
-    if (count > 0 && strcmp(words[0], "--help") == 0) {
-        out_format("usage: ctext %s%s\n", v->name, v->print == NULL ? " [FILE ..]" : "");
-        print_verb(v);
-        return STATUS_ACCEPTED;
-    }
-    if (count > 0 && strcmp(words[0], "--") == 0)
-        return run_on(v, words + 1, count - 1);
-    if (count > 0 && is_option(words[0]))
-        return wrong_use(words[0], "no such option");
-    return run_on(v, words, count);
+    const char *option = count > 0 && has_option(v, words[0]) ? words[0] : NULL;
+    int first = option != NULL;
+    if (count > 0 && strcmp(words[0], "--help") == 0)
+        return print_verb_help(v);
+    if (count > first && strcmp(words[first], "--") == 0)
+        first++;
+    else if (count > first && is_option(words[first]))
+        return wrong_use(words[first], option != NULL ? "one option at most" : "no such option");
+    return run_on(v, option, words + first, count - first);
 }
 
 static int run(int argc, char *const *argv)

@@ -23,6 +23,8 @@ static void fail(int why)
 void out_flush(void)
 {
     size_t done = 0;
+    if (count > 0)
+        progress_clear(STDOUT_FILENO);
     while (done < count) {
         ssize_t written = write(STDOUT_FILENO, held + done, count - done);
         if (written > 0)
@@ -100,6 +102,11 @@ void out_name(const note *n, const char *after)
     out_text(after);
 }
 
+void out_refusal(ctext_answer a)
+{
+    out_format("refused %d at %zu: %s\n", a.number, a.place, ctext_refusal_text(a.number));
+}
+
 int out_made(const note *n, ctext_answer a, const uint8_t *octets)
 {
     if (a.number != CTEXT_ACCEPTED)
@@ -116,6 +123,7 @@ int out_made(const note *n, ctext_answer a, const uint8_t *octets)
 void complain(const char *name, const char *what)
 {
     out_flush();
+    progress_clear(STDERR_FILENO);
     fprintf(stderr, "ctext: %s: %s\n", shown_name(name), what);
 }
 

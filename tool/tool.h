@@ -1,6 +1,6 @@
 /* tool.h: what the verbs of the command ctext share. All memory is of fixed
    size: one note of the library's limits, its units, its shortest form and its
-   resource form. */
+   resource form, and what is held of an archive. */
 
 #ifndef TOOL_H
 #define TOOL_H
@@ -13,7 +13,8 @@
 /* The exit status, and what a verb answers for one note. */
 enum status { STATUS_ACCEPTED = 0, STATUS_REFUSED = 1, STATUS_FAILED = 2 };
 
-/* A note as it was read, and whether it is one of several. */
+/* A note as it was read, and whether it is one of several. Within a framed file it
+   has no name, and the pointer is null. */
 typedef struct note {
     const char *name;
     const uint8_t *octets;
@@ -21,13 +22,95 @@ typedef struct note {
     int several;
 } note;
 
+/* ---- main.c ------------------------------------------------------------- */
+
+/* What is wrong with a word of the command line, and the usage, to standard error;
+   STATUS_FAILED. */
+int wrong_use(const char *word, const char *why);
+
 /* ---- input.c ------------------------------------------------------------ */
+
+/* Opens the file; standard input where its name is "-". Where that fails, says so
+   and answers -1. Standard input is not closed. */
+int input_open(const char *file);
+void input_close(const char *file, int opened);
+
+/* The name to be shown. */
+const char *input_name(const char *file);
 
 /* Reads the file, or standard input where its name is "-". Of one with more than
    most octets, CTEXT_MOST_FORM at most, the first most + 1, so that it is seen to
    be too long. Where that fails, says so and answers 0. The octets stay until the
    next call. */
 int input_note(const char *file, size_t most, note *n);
+
+/* ---- stream.c ----------------------------------------------------------- */
+
+#define STREAM_MOST 262144 /* the most octets that are held */
+
+/* An input of any length, of which a part is held; one at a time.
+   octets  what is held, count octets; they stay until more are read, and one octet
+           after them may be written too
+   taken   how many octets came before them
+   why     the errno of a read that failed, else 0
+   ended   whether nothing more is read */
+typedef struct stream {
+    int file;
+    uint8_t *octets;
+    size_t count;
+    uint64_t taken;
+    int why;
+    int ended;
+} stream;
+
+void stream_open(stream *s, int file);
+
+/* Drops what is held; nothing more is read. */
+void stream_end(stream *s);
+
+/* Reads until so many octets are held; whether they are. More than STREAM_MOST
+   never are. */
+int stream_hold(stream *s, size_t count);
+
+/* Takes off octets that are held. */
+void stream_take(stream *s, size_t count);
+
+/* Takes off so many octets, held or not; whether there were so many. */
+int stream_pass(stream *s, uint64_t count);
+
+/* ---- frames.c and names.c ----------------------------------------------- */
+
+/* What the next call finds: one more, a fault that it has told, or the end. After a
+   fault the next call goes on; where nothing more can be read it finds the end. */
+enum found { FOUND_ONE, FOUND_FAULT, FOUND_END };
+
+/* A framed file, and the number of its next note. */
+typedef struct frames {
+    const char *file;
+    size_t index;
+    stream stream;
+} frames;
+
+/* Whether it could be opened; if not, says so. */
+int frames_open(frames *f, const char *file);
+void frames_close(frames *f);
+
+/* The next note. Of one with more than CTEXT_MOST_OCTETS no octet is kept: the note
+   has one octet more than that, any ones. */
+int frames_next(frames *f, note *n);
+
+/* The names on standard input, what ends each (newline or 00), and how many were
+   found. */
+typedef struct names {
+    char end;
+    size_t index;
+    stream stream;
+} names;
+
+void names_open(names *l, char end);
+
+/* The next name, which stays until the next call. */
+int names_next(names *l, const char **name);
 
 /* ---- output.c ----------------------------------------------------------- */
 
@@ -42,6 +125,9 @@ void out_hexadecimal(const uint8_t *octets, size_t n);
 
 /* The note's name and the text after it, where it is one of several. */
 void out_name(const note *n, const char *after);
+
+/* The refusal in a line: number, place and words. */
+void out_refusal(ctext_answer a);
 
 /* What a verb made of the note: the octets, a.count of them, or the refusal in
    words to standard error; its status. Nothing is added to the octets, but of
@@ -63,6 +149,17 @@ int complain_refusal(const note *n, ctext_answer a);
 
 /* A name as it can be shown: '?' for each control octet. */
 const char *shown_name(const char *name);
+
+/* ---- progress.c --------------------------------------------------------- */
+
+/* A job that may be long begins; then how far it is, after each note. Shown is that
+   once a second on standard error, where it is a terminal. */
+void progress_begin(void);
+void progress(size_t notes, size_t refused);
+
+/* Takes the line off the terminal, before anything else is written to the file, where
+   that is a terminal. */
+void progress_clear(int file);
 
 /* ---- shorten.c ---------------------------------------------------------- */
 
@@ -121,5 +218,8 @@ int unescape(const note *n);
 
 /* Takes no note. */
 int sets(void);
+
+/* Takes one of its options, or null, and the files. */
+int archive(const char *option, char *const *files, int count);
 
 #endif
