@@ -107,6 +107,7 @@ impl<L: Library> Session<L> {
         self.all_short_strings();
         self.random_strings(200_000);
         self.all_stretches();
+        self.random_stretches(20_000);
         self.all_readers();
         self.random_readers(200_000);
         self.random_lists(100_000);
@@ -178,13 +179,27 @@ impl<L: Library> Session<L> {
     /// and some for every function, which takes longer.
     fn all_stretches(&mut self) {
         stretches::all(&mut |s| {
-            if self.strings.is_multiple_of(SOME) {
-                self.string(s);
-            } else {
-                self.readings(s);
-            }
+            self.stretch(s);
             self.goes_on()
         });
+    }
+
+    fn random_stretches(&mut self, count: usize) {
+        for _ in 0..count {
+            if !self.goes_on() {
+                return;
+            }
+            let s = stretches::random_string(&mut self.random);
+            self.stretch(&s);
+        }
+    }
+
+    fn stretch(&mut self, s: &[u8]) {
+        if self.strings.is_multiple_of(SOME) {
+            self.string(s);
+        } else {
+            self.readings(s);
+        }
     }
 
     /// Readers made by hand with every octet in their fields, over short
@@ -263,12 +278,13 @@ impl<L: Library> Session<L> {
         }
     }
 
-    /// All strings of three octets, then random strings, readers, lists and
-    /// resource strings until the time is over.
+    /// All strings of three octets, then random strings, stretches, readers, lists
+    /// and resource strings until the time is over.
     fn long_part(&mut self, time: Duration) {
         self.all_strings(&[], &strings::every_octet(), 3);
         while self.goes_on() && self.started.elapsed() < time {
             self.random_strings(20_000);
+            self.random_stretches(20_000);
             self.random_readers(20_000);
             self.random_lists(20_000);
             self.random_resources(5_000);
@@ -586,6 +602,7 @@ mod tests {
         let mut session = session(Fault::None);
         session.all_strings(&[0x1B], &strings::FEW, 3);
         session.random_strings(2_000);
+        session.random_stretches(500);
         assert_eq!(session.archived, session.strings);
         session.random_readers(2_000);
         session.random_lists(2_000);
@@ -597,8 +614,9 @@ mod tests {
         session.all_designations();
         assert_eq!(session.differences, 0);
         assert_eq!((session.rows, session.designations), (256, 1 << 24));
-        assert_eq!(session.strings, 12 * 12 * 12 + 2_000);
-        assert_eq!(session.stepped, session.strings);
+        assert_eq!(session.strings, 12 * 12 * 12 + 2_000 + 500);
+        // Of the stretches a fifth.
+        assert_eq!(session.stepped, session.strings - 400);
         assert_eq!(session.readers, 2_000);
         assert_eq!(session.lists, 2_000);
     }

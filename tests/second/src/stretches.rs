@@ -3,6 +3,7 @@
 //! octets of text at once: stretches of good octets with one that is not, or that
 //! is another's, at every place, and of all lengths around 4, 8, 16 and 32.
 
+use crate::random::Random;
 use crate::sets::{self, Sets, Side, DESIGNATIONS};
 use crate::strings::segment;
 use crate::unit::LIMIT;
@@ -300,6 +301,50 @@ impl Part {
     }
 }
 
+/// A few random stretches under random sets, with octets and elements between them.
+pub fn random_string(random: &mut Random) -> Vec<u8> {
+    let mut s = random.pick(&BEFORE).to_vec();
+    for _ in 0..random.between(1, 4) {
+        let (gl, gr) = (random.pick(&GL_SETS), random.pick(&GR_SETS));
+        let in_force = Sets {
+            gl: random.pick(gl),
+            gr: random.pick(gr),
+        };
+        let part = Part {
+            before: b"",
+            sets: designated(in_force),
+            after: b"",
+            in_force,
+            turn: random.below(1_000),
+        };
+        s.extend_from_slice(&part.sets);
+        for _ in 0..random.between(1, 3) {
+            s.extend(random_stretch(random, &part));
+        }
+    }
+    s.extend_from_slice(random.pick(&AFTER));
+    s
+}
+
+/// A stretch, mostly of whole characters, and now and then what may not follow.
+fn random_stretch(random: &mut Random, part: &Part) -> Vec<u8> {
+    let over = random.pick(&[Over::Gl, Over::Gr, Over::Both, Over::Free]);
+    let length = random.below(LONGEST + 1);
+    let odd = over == Over::Both || random.percent(5);
+    let mut s = part.stretch(over, if odd { length } else { length / 2 * 2 });
+    match random.below(20) {
+        0 => s.push(random.octet()),
+        1 => s.push(random.pick(&CLOSE)),
+        2..=5 => s.push(random.pick(&[0x09, 0x0A])),
+        6..=7 => {
+            let elements = elements();
+            s.extend_from_slice(&elements[random.below(elements.len())]);
+        }
+        _ => {}
+    }
+    s
+}
+
 /// A character, or a space where one may stand: the first and the last of the set
 /// come often, and the turns of seven fall on all places of a word.
 fn character(s: &mut Vec<u8>, side: Side, in_force: Sets, turn: usize) {
@@ -383,6 +428,20 @@ mod tests {
         assert!(least >= Some(24), "{least:?}");
         assert!(met[0] > 100_000, "{met:?}");
         assert!(met[2..9].iter().all(|&times| times > 400), "{met:?}");
+    }
+
+    #[test]
+    fn random_stretches_are_long_enough() {
+        let mut random = Random::new(1);
+        let (mut accepted, mut octets) = (0, 0);
+        for _ in 0..10_000 {
+            let s = random_string(&mut random);
+            let answer = reader::check(&s);
+            accepted += usize::from(answer.is_accepted());
+            octets += answer.place;
+        }
+        assert!(accepted > 1_000, "{accepted}");
+        assert!(octets > 500_000, "{octets}");
     }
 
     #[test]
