@@ -67,6 +67,7 @@ impl WrongArchive {
         let s = &memory[string.clone()];
         let (units, answer) = read(s);
         let place = answer.place;
+        let passed = Answer::accepted(place, units.len());
         match (self, answer.number) {
             (Entry(entry), number) => match asked(s).iter().find(|asked| asked.0 == entry) {
                 Some(&(_, place)) => (units, Answer::refusal(3 + u8::from(number == 3), place)),
@@ -76,16 +77,11 @@ impl WrongArchive {
                 read(&with(s, place, s[place - 2]))
             }
             (LooksBehind, 2) => read(&memory[string.start..string.end + 1]),
-            (OddTail, 2) if units.len() >= 8 && is_text(&s[place - 1..]) => {
-                let count = units.len();
-                (units, Answer::accepted(place, count))
-            }
+            (OddTail, 2) if units.len() >= 8 && is_text(&s[place - 1..]) => (units, passed),
             (AnySide, 3) if is_text(&[s[place] ^ 0x80]) => read(&with(s, place, s[place] ^ 0x80)),
-            (ForgetsText, 8) if place >= 16 && is_text(&s[place - 16..place]) => {
-                (units, Answer::accepted(place, 0))
-            }
+            (ForgetsText, 8) if place >= 16 && is_text(&s[place - 16..place]) => (units, passed),
             (AsksNoDirection, 8) if s.len() >= place + 16 && is_text(&s[place..place + 16]) => {
-                (units, Answer::accepted(place, 0))
+                (units, passed)
             }
             (StaleSet, 0) => (stale(units), answer),
             (LosesControl, 0) => without_control(units, answer),
