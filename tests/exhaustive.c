@@ -1,10 +1,10 @@
-// Compares ctext_check with bench/yardstick.c on all short strings: exhaustive DEPTH PROCESSES
+// Compares ctext_check and ctext_archive_check with bench/yardstick.c on all short strings: exhaustive DEPTH PROCESSES
 //
 // Each part is a prefix with all its continuations by up to DEPTH octets. The parts are the empty string alone, the 256 prefixes of one octet,
 // so that with a DEPTH of 3 these are all strings of up to four octets, and the prefixes below, after which a short string meets states and
 // elements that it cannot reach by itself. The processes take the parts in turn. Compared are the number and the place, of a refusal the octet
 // that it names; the yardstick counts no units, so of the count only that a refusal has none, and that an accepted string has no more units
-// than octets.
+// than octets. The two checks are compared with each other too, count and all.
 #define _DEFAULT_SOURCE
 #include <stdatomic.h>
 #include <stdbool.h>
@@ -18,6 +18,9 @@
 
 #include "../bench/yardstick.h"
 #include "../include/ctext.h"
+
+// the same line as in a header that has the archive reader
+ctext_answer ctext_archive_check(const uint8_t *s, size_t n);
 
 enum { MOST_DEPTH = 3, MOST_PROCESSES = 64, MOST_SHOWN = 20, LONGEST_PREFIX = 64, SECONDS = 10 };
 
@@ -81,24 +84,26 @@ static struct shared *shared;
 // What one process counts in the part that it has taken.
 static unsigned long long strings, accepted, differences;
 
-static void show(const uint8_t *s, size_t n, ctext_answer a, struct verdict v)
+static void show(const uint8_t *s, size_t n, ctext_answer a, ctext_answer b, struct verdict v)
 {
     char line[8 * (LONGEST_PREFIX + MOST_DEPTH)], *at = line;
     for (size_t i = 0; i < n; i++) at += sprintf(at, " %02X", s[i]);
     *at = 0;
-    printf("exhaustive: on%s: the library %u at %zu, count %zu; the yardstick %u at %u\n", line, a.number, a.place, a.count, v.number, v.place);
+    printf("exhaustive: on%s: the check %u at %zu, count %zu; the archive check %u at %zu, count %zu; the yardstick %u at %u\n", line, a.number,
+           a.place, a.count, b.number, b.place, b.count, v.number, v.place);
     fflush(stdout);
 }
 
 static void compare(const uint8_t *s, size_t n)
 {
-    ctext_answer a = ctext_check(s, n);
+    ctext_answer a = ctext_check(s, n), b = ctext_archive_check(s, n);
     struct verdict v = yardstick(s, n);
     bool counted = a.number ? a.count == 0 : a.count <= n;
+    bool equal = a.number == b.number && a.place == b.place && a.count == b.count;
     strings++;
     accepted += a.number == 0;
-    if (a.number == v.number && a.place == v.place && counted) return;
-    if (atomic_load(&shared->differences) + differences++ < MOST_SHOWN) show(s, n, a, v);
+    if (a.number == v.number && a.place == v.place && counted && equal) return;
+    if (atomic_load(&shared->differences) + differences++ < MOST_SHOWN) show(s, n, a, b, v);
 }
 
 // The string of n octets at s, and all its continuations by up to depth octets.

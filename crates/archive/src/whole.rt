@@ -22,7 +22,7 @@ use stretch::characters::stretch_at;
 // The stretch at a place: by the table where text leaves the state as it is, and else of tabs and newlines alone.
 fn run_at(t: &[u8], s: &[u8], at: usize, st: State) -> Stretch
     requires { ⌜ (now t ≡ table) × (at < length (now s)) ⌝ }
-    ensures { λ r. ⌜ Leaves st (now (s .entry)) at (at + r .octets) (r .units) ⌝ }
+    ensures { λ r. ⌜ (0 < r .octets → Leaves st (now (s .entry)) at (at + r .octets) (r .units)) ⌝ }
 {
     let directions = st.directions;
     if settled(directions) {

@@ -36,17 +36,28 @@ impl<L: Library> Comparer<L> {
     /// Compares every function on a string, and the writer on its units.
     pub fn string(&self, s: &[u8]) -> Compared {
         let (units, answer) = reader::units_from(s, State::fresh());
-        if self.functions.check {
-            self.check(s, answer)?;
-        }
-        if self.functions.read {
-            self.reads(s, &units, answer)?;
-        }
+        self.first_reader(s, &units, answer)?;
         if self.functions.run {
             self.runs(s)?;
         }
         if self.functions.write && answer.is_accepted() {
             self.writes(&units, s, Rooms::Few)?;
+        }
+        Ok(())
+    }
+
+    /// Compares the check and the list reader alone.
+    pub fn readings(&self, s: &[u8]) -> Compared {
+        let (units, answer) = reader::units_from(s, State::fresh());
+        self.first_reader(s, &units, answer)
+    }
+
+    fn first_reader(&self, s: &[u8], units: &[Unit], answer: Answer) -> Compared {
+        if self.functions.check {
+            self.check(s, answer)?;
+        }
+        if self.functions.read {
+            self.reads(s, units, answer)?;
         }
         Ok(())
     }
@@ -70,18 +81,15 @@ impl<L: Library> Comparer<L> {
 
     /// The answer, and every record, lent or guard, after the call.
     fn read(&self, s: &[u8], units: &[Unit], check: Answer, room: usize) -> Compared {
-        let before: Vec<Unit> = (0..room + GUARD_RECORDS).map(pattern_unit).collect();
-        let answer = reader::answer_with_room(check, room);
-        let mut expected = before.clone();
-        if answer.is_accepted() {
-            expected[..units.len()].copy_from_slice(units);
-        }
-        let mut list = before;
-        let theirs = self.library.read(s, &mut list, room);
+        let theirs = self.first_read(s, room);
         let call = || format!("ctext_read into a list of {room}");
-        same(answer, theirs, call, show_answer)?;
-        let records = || format!("{}, the records after it", call());
-        same(expected, list, records, |list| show_units(list))
+        same_reading(&expected_reading(units, check, room), &theirs, call)
+    }
+
+    pub fn first_read(&self, s: &[u8], room: usize) -> Reading {
+        let mut list = pattern_list(room);
+        let answer = self.library.read(s, &mut list, room);
+        Reading { answer, list }
     }
 
     fn runs(&self, s: &[u8]) -> Compared {
@@ -147,6 +155,36 @@ impl<L: Library> Comparer<L> {
     }
 }
 
+/// The answer of a list reader, and the list after it with its guards.
+pub struct Reading {
+    pub answer: Answer,
+    pub list: Vec<Unit>,
+}
+
+/// What a list reader has to do with a string of these units and this check's
+/// answer, in a list of this room.
+pub fn expected_reading(units: &[Unit], check: Answer, room: usize) -> Reading {
+    let answer = reader::answer_with_room(check, room);
+    let mut list = pattern_list(room);
+    if answer.is_accepted() {
+        list[..units.len()].copy_from_slice(units);
+    }
+    Reading { answer, list }
+}
+
+pub fn same_reading(second: &Reading, library: &Reading, call: impl Fn() -> String) -> Compared {
+    same(&second.answer, &library.answer, &call, |a| show_answer(a))?;
+    let records = || format!("{}, the records after it", call());
+    same(&second.list, &library.list, records, |list| {
+        show_units(list)
+    })
+}
+
+/// A list of this room before a call, with its guards.
+pub fn pattern_list(room: usize) -> Vec<Unit> {
+    (0..room + GUARD_RECORDS).map(pattern_unit).collect()
+}
+
 /// What the writer has to do with a list.
 enum Expected {
     Refused(Answer),
@@ -207,7 +245,7 @@ fn reads_as(string: &[u8], units: &[Unit], segments: &[u8]) -> bool {
 
 /// Rooms of a list for so many units, which are those before the offending
 /// element in a refused string: exact, longer, none, one less.
-fn rooms_of_a_list(units: usize) -> Vec<usize> {
+pub fn rooms_of_a_list(units: usize) -> Vec<usize> {
     match units {
         0 => vec![0, 3],
         1 => vec![1, 4, 0],

@@ -12,6 +12,7 @@ use crate::sets::{self, Row};
 use crate::steps::{self, Handed, Position};
 use crate::unit::*;
 use crate::writer;
+use crate::wrong_archive::WrongArchive;
 use crate::wrong_places::WrongPlace;
 use crate::wrong_rules::WrongRule;
 
@@ -87,6 +88,8 @@ pub enum Fault {
     SideIsFlag,
     /// A number past the last set has the row of that.
     RowOfNone,
+    /// The archive reader is wrong.
+    Archive(WrongArchive),
     /// Every refusal of a string has a wrong place.
     Places(WrongPlace),
     /// One of the functions alone refuses at the element's start.
@@ -106,16 +109,20 @@ pub enum Call {
     Next,
     NextRun,
     NextRuns,
+    ArchiveCheck,
+    ArchiveRead,
 }
 
 impl Call {
-    pub const ALL: [Call; 6] = [
+    pub const ALL: [Call; 8] = [
         Call::Check,
         Call::Read,
         Call::Run,
         Call::Next,
         Call::NextRun,
         Call::NextRuns,
+        Call::ArchiveCheck,
+        Call::ArchiveRead,
     ];
 }
 
@@ -212,6 +219,9 @@ impl Faulty {
 
     /// The same for a string that is read from its start.
     fn placed_in_string(&self, call: Call, s: &[u8], answer: Answer) -> Answer {
+        if !matches!(self.fault, Fault::Places(_) | Fault::PlaceOf(_)) {
+            return answer;
+        }
         let steps = steps::steps(s, Position::OPENED);
         let start = steps[steps.len() - 1].position.place;
         self.placed(call, s, start, answer)
@@ -223,6 +233,13 @@ impl Faulty {
         match reader.checked {
             0 => self.placed_in_string(call, s, answer),
             _ => self.placed(call, s, reader.at.place, answer),
+        }
+    }
+
+    fn archive(&self) -> WrongArchive {
+        match self.fault {
+            Fault::Archive(wrong) => wrong,
+            _ => WrongArchive::Right,
         }
     }
 
@@ -418,5 +435,23 @@ impl Library for Faulty {
             (Fault::SideIsFlag, _) => sets::set_of(form, side.min(1), last),
             (_, set) => set,
         }
+    }
+
+    fn archive_check(&self, memory: &mut [u8], string: Range<usize>) -> Answer {
+        let answer = self.archive().reading(memory, string.clone()).1;
+        self.placed_in_string(Call::ArchiveCheck, &memory[string], answer)
+    }
+
+    fn archive_read(
+        &self,
+        memory: &mut [u8],
+        string: Range<usize>,
+        list: &mut [Unit],
+        room: usize,
+    ) -> Answer {
+        let wrong = self.archive();
+        let (units, answer) = wrong.reading(memory, string.clone());
+        let answer = wrong.store(&units, answer, list, room);
+        self.placed_in_string(Call::ArchiveRead, &memory[string], answer)
     }
 }

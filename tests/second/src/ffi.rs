@@ -15,7 +15,8 @@
         feature = "listed",
         feature = "write",
         feature = "resource",
-        feature = "sets"
+        feature = "sets",
+        feature = "archive"
     )),
     allow(dead_code)
 )]
@@ -71,6 +72,18 @@ pub trait Library {
     fn set_row(&self, set: u8) -> Row;
 
     fn set_of(&self, form: u8, side: u8, last: u8) -> u8;
+
+    /// The check of the archive reader; the string stands as for a step.
+    fn archive_check(&self, memory: &mut [u8], string: Range<usize>) -> Answer;
+
+    /// Its list reader; the list is lent as for a reading.
+    fn archive_read(
+        &self,
+        memory: &mut [u8],
+        string: Range<usize>,
+        list: &mut [Unit],
+        room: usize,
+    ) -> Answer;
 }
 
 /// Octets of which the first are lent, and the rest are guards.
@@ -91,6 +104,7 @@ pub struct Functions {
     pub write: bool,
     pub resource: bool,
     pub sets: bool,
+    pub archive: bool,
 }
 
 impl Functions {
@@ -104,6 +118,7 @@ impl Functions {
         write: false,
         resource: false,
         sets: false,
+        archive: false,
     };
 }
 
@@ -118,6 +133,7 @@ pub const LINKED: Functions = Functions {
     write: cfg!(feature = "write"),
     resource: cfg!(feature = "resource"),
     sets: cfg!(feature = "sets"),
+    archive: cfg!(feature = "archive"),
 };
 
 #[repr(C)]
@@ -244,6 +260,8 @@ const _: () = assert!(size_of::<CRow>() == 5);
 extern "C" {
     fn ctext_check(s: *const u8, n: usize) -> CAnswer;
     fn ctext_read(s: *const u8, n: usize, units: *mut CUnit, room: usize) -> CAnswer;
+    fn ctext_archive_check(s: *const u8, n: usize) -> CAnswer;
+    fn ctext_archive_read(s: *const u8, n: usize, units: *mut CUnit, room: usize) -> CAnswer;
     fn ctext_run(s: *const u8, n: usize, k: usize) -> CRun;
     fn ctext_open() -> CReader;
     fn ctext_next(s: *const u8, n: usize, reader: CPassedReader) -> CStep;
@@ -439,6 +457,38 @@ impl Library for Proved {
         let set = not_linked((form, side, last));
         set
     }
+
+    fn archive_check(&self, memory: &mut [u8], string: Range<usize>) -> Answer {
+        assert!(string.start <= string.end && string.end <= memory.len());
+        let (s, n) = (memory.as_mut_ptr().wrapping_add(string.start), string.len());
+        #[cfg(feature = "archive")]
+        // Safety: so many octets stand at the pointer.
+        let answer = from_c(unsafe { ctext_archive_check(s, n) });
+        #[cfg(not(feature = "archive"))]
+        let answer = not_linked((s, n));
+        answer
+    }
+
+    fn archive_read(
+        &self,
+        memory: &mut [u8],
+        string: Range<usize>,
+        list: &mut [Unit],
+        room: usize,
+    ) -> Answer {
+        assert!(string.start <= string.end && string.end <= memory.len() && room <= list.len());
+        let (s, n) = (memory.as_mut_ptr().wrapping_add(string.start), string.len());
+        let mut records: Vec<CUnit> = list.iter().map(to_c).collect();
+        #[cfg(feature = "archive")]
+        // Safety: so many octets and at least `room` records stand at the pointers.
+        let answer = from_c(unsafe { ctext_archive_read(s, n, records.as_mut_ptr(), room) });
+        #[cfg(not(feature = "archive"))]
+        let answer = not_linked((s, n, &mut records));
+        for (unit, record) in list.iter_mut().zip(&records) {
+            *unit = unit_from_c(record);
+        }
+        answer
+    }
 }
 
 #[cfg(not(all(
@@ -450,7 +500,8 @@ impl Library for Proved {
     feature = "listed",
     feature = "write",
     feature = "resource",
-    feature = "sets"
+    feature = "sets",
+    feature = "archive"
 )))]
 fn not_linked<A, B>(_: A) -> B {
     panic!("this function of the library is not linked")

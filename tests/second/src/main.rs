@@ -4,6 +4,7 @@
 
 #![deny(unsafe_code)]
 
+mod archive;
 mod compare;
 mod escaping;
 #[cfg(test)]
@@ -29,11 +30,14 @@ mod shape;
 mod shrink;
 mod stepping;
 mod steps;
+mod stretches;
 mod strings;
 #[cfg(test)]
 mod tests;
 mod unit;
 mod writer;
+#[cfg(test)]
+mod wrong_archive;
 #[cfg(test)]
 mod wrong_places;
 #[cfg(test)]
@@ -48,7 +52,7 @@ use session::Plan;
 
 const USAGE: &str = "\
 second compare [--long] [--minutes N] [--seed N]
-               [--only check,read,run,next,runs,listed,write,resource,sets]
+               [--only check,read,run,next,runs,listed,write,resource,sets,archive]
 second answer|units|runs|write   lines of hexadecimal octets on standard input
 second step                      lines `place gl gr directions marked texted handed octets`";
 
@@ -122,7 +126,7 @@ fn number(word: &str) -> Result<u64, String> {
 fn only(names: &str) -> Result<Functions, String> {
     let names: Vec<&str> = names.split(',').collect();
     let known = [
-        "check", "read", "run", "next", "runs", "listed", "write", "resource", "sets",
+        "check", "read", "run", "next", "runs", "listed", "write", "resource", "sets", "archive",
     ];
     if let Some(name) = names.iter().find(|name| !known.contains(name)) {
         return Err(format!("unknown function {name}"));
@@ -137,5 +141,6 @@ fn only(names: &str) -> Result<Functions, String> {
         write: ffi::LINKED.write && names.contains(&"write"),
         resource: ffi::LINKED.resource && names.contains(&"resource"),
         sets: ffi::LINKED.sets && names.contains(&"sets"),
+        archive: ffi::LINKED.archive && names.contains(&"archive"),
     })
 }

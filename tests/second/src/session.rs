@@ -13,11 +13,16 @@ use crate::reader::{self, State};
 use crate::shrink::shrink;
 use crate::stepping::show_position;
 use crate::steps::Position;
+use crate::stretches;
 use crate::strings;
 use crate::unit::{Unit, LIMIT};
 
 /// After so many differences the comparison ends.
 const ENOUGH: u64 = 20;
+
+/// Of the stretches every so many is compared by all functions: a number that falls
+/// on all turns by which they are made.
+const SOME: u64 = 5;
 
 const BETWEEN_REPORTS: Duration = Duration::from_secs(5);
 
@@ -55,6 +60,8 @@ struct Session<L: Library> {
     strings: u64,
     /// The strings over which an opened reader was stepped.
     stepped: u64,
+    /// The strings that the archive reader was compared on.
+    archived: u64,
     /// The readers made by hand, each with a string.
     readers: u64,
     lists: u64,
@@ -81,6 +88,7 @@ impl<L: Library> Session<L> {
             random: Random::new(plan.seed),
             strings: 0,
             stepped: 0,
+            archived: 0,
             readers: 0,
             lists: 0,
             resources: 0,
@@ -98,6 +106,8 @@ impl<L: Library> Session<L> {
         self.all_designations();
         self.all_short_strings();
         self.random_strings(200_000);
+        self.all_stretches();
+        self.random_stretches(20_000);
         self.all_readers();
         self.random_readers(200_000);
         self.random_lists(100_000);
@@ -162,6 +172,33 @@ impl<L: Library> Session<L> {
             }
             let s = strings::random_string(&mut self.random);
             self.string(&s);
+        }
+    }
+
+    /// Strings that are hard for the archive reader: all of them for both readers,
+    /// and some for every function, which takes longer.
+    fn all_stretches(&mut self) {
+        stretches::all(&mut |s| {
+            self.stretch(s);
+            self.goes_on()
+        });
+    }
+
+    fn random_stretches(&mut self, count: usize) {
+        for _ in 0..count {
+            if !self.goes_on() {
+                return;
+            }
+            let s = stretches::random_string(&mut self.random);
+            self.stretch(&s);
+        }
+    }
+
+    fn stretch(&mut self, s: &[u8]) {
+        if self.strings.is_multiple_of(SOME) {
+            self.string(s);
+        } else {
+            self.readings(s);
         }
     }
 
@@ -241,12 +278,13 @@ impl<L: Library> Session<L> {
         }
     }
 
-    /// All strings of three octets, then random strings, readers, lists and
-    /// resource strings until the time is over.
+    /// All strings of three octets, then random strings, stretches, readers, lists
+    /// and resource strings until the time is over.
     fn long_part(&mut self, time: Duration) {
         self.all_strings(&[], &strings::every_octet(), 3);
         while self.goes_on() && self.started.elapsed() < time {
             self.random_strings(20_000);
+            self.random_stretches(20_000);
             self.random_readers(20_000);
             self.random_lists(20_000);
             self.random_resources(5_000);
@@ -274,6 +312,7 @@ impl<L: Library> Session<L> {
         }
         self.strings += 1;
         self.compare_string(s, Comparer::string);
+        self.archive(s);
         if self.comparer.functions.next {
             self.stepped += 1;
             self.compare_string(s, Comparer::opened);
@@ -285,6 +324,24 @@ impl<L: Library> Session<L> {
             self.compare_string(s, Comparer::listed_runs);
         }
         self.report();
+    }
+
+    /// The check and the list reader of both readers alone.
+    fn readings(&mut self, s: &[u8]) {
+        if !self.goes_on() {
+            return;
+        }
+        self.strings += 1;
+        self.compare_string(s, Comparer::readings);
+        self.archive(s);
+        self.report();
+    }
+
+    fn archive(&mut self, s: &[u8]) {
+        if self.comparer.functions.archive {
+            self.archived += 1;
+            self.compare_string(s, Comparer::archive);
+        }
     }
 
     fn compare_string(&mut self, s: &[u8], compare: StringComparison<L>) {
@@ -424,10 +481,12 @@ impl<L: Library> Session<L> {
 
     fn summary(&self) -> String {
         format!(
-            "second: {} strings ({} stepped), {} readers made by hand, {} lists, \
-             {} resource strings, {} rows of sets, {} designations compared, {} differences",
+            "second: {} strings ({} stepped, {} by the archive reader), {} readers made by hand, \
+             {} lists, {} resource strings, {} rows of sets, {} designations compared, \
+             {} differences",
             self.strings,
             self.stepped,
+            self.archived,
             self.readers,
             self.lists,
             self.resources,
@@ -491,6 +550,7 @@ mod tests {
     use super::*;
     use crate::faults::{Call, Fault, Faulty};
     use crate::unit::*;
+    use crate::wrong_archive::WrongArchive;
     use crate::wrong_places::WrongPlace;
     use crate::wrong_rules::WrongRule;
 
@@ -505,6 +565,7 @@ mod tests {
             write: true,
             resource: true,
             sets: true,
+            archive: true,
         };
         let plan = Plan {
             functions: all,
@@ -541,6 +602,8 @@ mod tests {
         let mut session = session(Fault::None);
         session.all_strings(&[0x1B], &strings::FEW, 3);
         session.random_strings(2_000);
+        session.random_stretches(500);
+        assert_eq!(session.archived, session.strings);
         session.random_readers(2_000);
         session.random_lists(2_000);
         session.all_resources(&forms::TELLING, 3);
@@ -551,8 +614,9 @@ mod tests {
         session.all_designations();
         assert_eq!(session.differences, 0);
         assert_eq!((session.rows, session.designations), (256, 1 << 24));
-        assert_eq!(session.strings, 12 * 12 * 12 + 2_000);
-        assert_eq!(session.stepped, session.strings);
+        assert_eq!(session.strings, 12 * 12 * 12 + 2_000 + 500);
+        // Of the stretches a fifth.
+        assert_eq!(session.stepped, session.strings - 400);
         assert_eq!(session.readers, 2_000);
         assert_eq!(session.lists, 2_000);
     }
@@ -677,6 +741,82 @@ mod tests {
         let (smallest, call) = found(Fault::WritesInput, s);
         assert_eq!(smallest.len(), 2);
         assert_eq!(call, "the string among its guards after all calls");
+    }
+
+    #[test]
+    fn faults_of_the_archive_reader_are_found_and_shrunk() {
+        let found = |wrong, s: &[u8]| {
+            assert_eq!(smallest_is_right(wrong, s), Ok(()));
+            smallest_by(Comparer::archive, Fault::Archive(wrong), s)
+        };
+        let s = [0x41, 0x1B, 0x29, 0x49, 0xB0, 0x20, 0x09, 0xA0, 0x42];
+        let (smallest, call) = found(WrongArchive::Entry((1, 0, 0xA0)), &s);
+        assert_eq!(smallest, [0x1B, 0x29, 0x49, 0xA0]);
+        assert_eq!(call, "ctext_archive_check");
+        let (smallest, call) = found(WrongArchive::LooksBehind, &[0x41, 0x1B, 0x28]);
+        assert_eq!(smallest, [0x1B]);
+        assert_eq!(call, "ctext_archive_check");
+        let (smallest, call) = found(WrongArchive::StaleSet, &[0x41, 0xE9, 0x09, 0xE9]);
+        assert_eq!(smallest, [0x41, 0xE9]);
+        assert_eq!(
+            call,
+            "ctext_archive_read into a list of 2, the records after it"
+        );
+        let (smallest, call) = found(WrongArchive::ListOfRefusal, &s);
+        assert_eq!(smallest, [0x41, 0x1B]);
+        assert_eq!(
+            call,
+            "ctext_archive_read into a list of 1, the records after it"
+        );
+        let (smallest, call) = found(WrongArchive::RecordTooMany, &s[..7]);
+        assert_eq!(smallest, []);
+        assert_eq!(
+            call,
+            "ctext_archive_read into a list of 0, the records after it"
+        );
+        let (smallest, call) = found(WrongArchive::StoredTooEarly, &s[..7]);
+        assert_eq!(smallest.len(), 2);
+        assert_eq!(
+            call,
+            "ctext_archive_read into a list of 1, the records after it"
+        );
+    }
+
+    /// The first reader is held to the archive reader too.
+    #[test]
+    fn the_two_readers_are_compared_with_each_other() {
+        let found =
+            |call| smallest_by(Comparer::archive, Fault::PlaceOf(call), &[0x09, 0x1B, 0x28]);
+        let (smallest, call) = found(Call::Check);
+        assert_eq!(smallest, [0x1B]);
+        assert_eq!(call, "ctext_check, and ctext_archive_check");
+        let (smallest, call) = found(Call::Read);
+        assert_eq!(smallest, [0x1B]);
+        assert_eq!(call, "ctext_read, and ctext_archive_read into a list of 0");
+    }
+
+    /// The first reader of a library whose archive reader is wrong.
+    fn smallest_is_right(wrong: WrongArchive, s: &[u8]) -> Compared {
+        session(Fault::Archive(wrong)).comparer.string(s)
+    }
+
+    /// Every wrong archive reader shows in the stretches.
+    #[test]
+    fn wrong_archive_readers_are_found_in_stretches() {
+        for wrong in WrongArchive::ALL {
+            let mut comparer = session(Fault::Archive(wrong)).comparer;
+            // The first reader is right, and takes its time.
+            comparer.functions = Functions {
+                archive: true,
+                ..Functions::NONE
+            };
+            let mut differences = 0;
+            stretches::all(&mut |s| {
+                differences += u64::from(comparer.archive(s).is_err());
+                differences < ENOUGH
+            });
+            assert_eq!(differences, ENOUGH, "{wrong:?}");
+        }
     }
 
     /// How often each fault in the table of sets shows, and first where.
