@@ -1,14 +1,15 @@
 -- The list that `archive::read` fills, record by record at a cursor, is the list of its contract (`filled`), and the cursor of each record that is
 -- stored is one from which a unit is next (`ready`): the laws of `read` on any way to read the unit at a cursor, for the unit of the elements.
-use Rattle.element.proofs.Names.{ℕ, _<_, arith, _≡_, refl, List, length, UnitRecord, State}
+use Rattle.element.proofs.Names.{ℕ, _<_, arith, _≡_, refl, ap, sym, _∙_, List, length, UnitRecord, State}
 use Rattle.units.specs.Next.{nextOf}
 use Rattle.units.specs.declared.Outcome.{Outcome}
+use Rattle.walks.proofs.Filling.{length-fill}
 use Rattle.cursor.specs.Cursor.{cursor, first, stateIn, elementTurn}
 use Rattle.cursor.specs.declared.Cursor.{Cursor}
 use Rattle.cursor.proofs.Free.{Like, like}
 use Rattle.cursor.proofs.Turns.{Alike, alike, next-ahead, by-element}
 use Rattle.read.specs.Listing.{readAnswer, storedOf, listAfter}
-use Rattle.read.proofs.Filled.{filledBy, cursorBy, Advances, filled-by, each-by, short-stored}
+use Rattle.read.proofs.Filled.{unitBy, afterBy, filledBy, cursorBy, Advances, filled-by, each-by, short-stored}
 use Rattle.archive.specs.Turns.{rowed, Ready}
 
 advances : Advances elementTurn
@@ -39,3 +40,6 @@ module _ (s : List ℕ) (ys : List UnitRecord) where
 
   pub filled : got n ≡ listAfter s ys
   filled = filled-by elementTurn advances s ys
+
+  pub length-after : length (listAfter s ys) ≡ length ys
+  length-after = ap length (sym filled) ∙ length-fill (unitBy elementTurn s) (afterBy elementTurn s) n first ys

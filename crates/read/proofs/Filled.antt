@@ -1,8 +1,8 @@
 -- The list that a reader fills, record by record at a cursor, is the list of the contract of `read` (`filled`, `filled-by`): by induction on the
 -- elements of the string, the cursor stands where the next unit is that of the elements that are left. It is shown of any way to read the unit
 -- at a cursor, of which `Advances` holds; `read` itself reads it by `advanceOf`.
-use Rattle.element.proofs.Names.{ℕ, zero, suc, _+_, _≤_, _<_, zero-le, not-suc-le-zero, arith, _≡_, refl, ap, sym, _∙_, subst, Bool, true, false, List}
-use Rattle.element.proofs.Names.{[], _∷_, _++_, ltb, length, drop, eq-eqb, ne-eqb, ltb-false, refusedAt, pick, Answer, UnitRecord, State}
+use Rattle.element.proofs.Names.{ℕ, zero, suc, _+_, _≤_, _<_, zero-le, not-suc-le-zero, arith, _≡_, refl, ap, sym, _∙_, subst, Bool, true, false}
+use Rattle.element.proofs.Names.{List, [], _∷_, _++_, ltb, length, drop, eq-eqb, ne-eqb, ltb-false, refusedAt, pick, Answer, UnitRecord, State}
 use native.Mathlib.Nat.{le-of-suc-le-suc}
 use Rattle.base.specs.Limit as limit
 use Rattle.base.specs.Refusal as refusal

@@ -4,8 +4,8 @@
 -- knows their contracts alone.
 -- Assumes nothing.
 use Rattle.walks.proofs.Names.{_≡_, refl, sym, ap, subst, ℕ, suc, _-_, _*_, _≤_, _<_, _^_, [], _∷_, List, length, fullShare, named, w64, Val, vint}
-use Rattle.walks.proofs.Names.{SProp, id⊢, fst∗, snd∗, GName, Fml, flft, fobs, ‵, _⊛_, prop, atRet, Sq, _$_, !, move, let-go, join, fsplit, fjoin, look}
-use Rattle.walks.proofs.Names.{lit, of-opd, bin, no-more, Is, u8, RefT, sliceVal, Room, heres, Held, owned}
+use Rattle.walks.proofs.Names.{SProp, id⊢, fst∗, snd∗, GName, Fml, flft, fobs, ‵, _⊛_, atRet, _$_, !, move, let-go, join, fsplit, fjoin, look, lit}
+use Rattle.walks.proofs.Names.{of-opd, bin, no-more, Is, u8, RefT, sliceVal, Room, heres, Held, owned}
 use Rattle.walks.proofs.Names as kit
 use native.Mathlib.Nat.{le-antisymm}
 use Rattle.element.proofs.Names.{add-one, arith, ltb→lt, nltb→le, lit<, afterTurn, Answer, UnitRecord}
@@ -266,8 +266,9 @@ module _ {M : Type 1} (𝓤 : kit.URA M) (H : kit.Heap 𝓤) (𝓜 : kit.Model �
       (kit.factI 𝓤 _ (kit.emp 𝓤) is-table) ans (λ r e. id⊢ 𝓤 _) an-answer (arg ! 25 refl (arg ! 23 refl (arg ! 9 refl (no-more !))))
       (λ is-ans ok. lands-in ! 19 refl ok $
       calls ! 𝓣 0 refl twice stored.ended (stored.clauses 𝓤 H A (𝓜 .mem) (𝓡 .run))
-      (cites 𝓤 H 𝓜 𝓖 𝓡 code.env code.calls-archive·stored (stored.Met.met 𝓤 H 𝓜 𝓖 𝓡)) ((tt, tt, tt, (ans, tt), (N′.lowered ans ∷ [], tt)), tt)
-      (none W Tokens) (plain W O an-answer ans is-ans & all) (id⊢ 𝓤 _) n (λ r e. id⊢ 𝓤 _) number (arg ! 19 refl (no-more !))
+      (cites 𝓤 H 𝓜 𝓖 𝓡 code.env code.calls-archive·stored (stored.Met.met 𝓤 H 𝓜 𝓖 𝓡))
+      ((tt, tt, tt, (ans, tt), (N′.lowered ans ∷ [], tt)), tt) (none W Tokens)
+      (plain W O an-answer ans is-ans & all) (id⊢ 𝓤 _) n (λ r e. id⊢ 𝓤 _) number (arg ! 19 refl (no-more !))
       (λ is-n ok. lands-in ! 17 refl ok $
       calls ! 𝓣 0 refl twice first-fn.ended (first-fn.clauses 𝓤 H A (𝓜 .mem) (𝓡 .run))
       (cites 𝓤 H 𝓜 𝓖 𝓡 code.env code.calls-archive·turns·RowCursor·first (first-fn.Met.met 𝓤 H 𝓜 𝓖 𝓡)) ((tt, tt, tt, tt, tt), tt)
