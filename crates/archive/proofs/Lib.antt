@@ -1,3 +1,5 @@
 pub mod Passes
 pub mod Counted
 pub mod Turn
+pub mod Filled
+pub mod Ready

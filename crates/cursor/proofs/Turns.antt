@@ -1,6 +1,6 @@
 -- The unit at a cursor of a string, if one is ahead, is that of the elements from there on (`advance-ahead`), where the cursor's sets are
--- theirs. An element that is not refused is the same under such a state (`by-element`); what is taken for text is the element or is left to
--- it (`text-turns`); and a designation that is passed is the element (`passed-on`).
+-- theirs. An element that is not refused is the same under such a state (`next-ahead`, `by-element`); what is taken for text is the element
+-- or is left to it (`text-turns`); and a designation that is passed is the element (`passed-on`).
 use Rattle.element.proofs.Names.{ℕ, _+_, _%_, _^_, _≤_, _<_, arith, _≡_, refl, ap, sym, _∙_, subst, Bool, true, false, List, [], _∷_, eqb, ltb}
 use Rattle.element.proofs.Names.{length, le-ltb, ltb-true, pick, from, UnitRecord, no-set, designatedOf, State, Directions, Part, Element, End, Refused}
 use Rattle.element.proofs.Names.{Silent, Found}
@@ -36,24 +36,38 @@ silent-is same-silent = refl
 found-is : {p : Part} {next : State} {e : Element} → Same (Found p next) e → (d : Directions) × (e ≡ Found p (state (next .sets) d))
 found-is (same-found {d = d}) = (d, refl)
 
+-- an outcome that gives a unit, and the same by other directions
+pub data Alike : Outcome → Outcome → Type 0 where
+  alike : {u : UnitRecord} {place : ℕ} {st : State} {d : Directions} → Alike (Gives u place (state (st .sets) d)) (Gives u place st)
+
 module _ (s : List ℕ) where
-  alike : {at : ℕ} {st to : State} {es : Elements} → Ahead s at st es → Like st to → 1 ≤ length (recordsFrom es) → (c : Cursor)
-      → Turns (outcomeTurn c (outcomeOf to (ahead s at to))) (outcomeOf st es)
-  unfolding recordsFrom outcomeOf outcomeTurn
-  alike (ends e) l h c = absurd (omega arith)
-  alike (stops f e) l h c = absurd (omega arith)
-  alike {at} {st} (passes t e a) like h c =
+  same-next : {at : ℕ} {st to : State} {es : Elements} → Ahead s at st es → Like st to → 1 ≤ length (recordsFrom es)
+      → Alike (outcomeOf to (ahead s at to)) (outcomeOf st es)
+  unfolding recordsFrom outcomeOf
+  same-next (ends e) l h = absurd (omega arith)
+  same-next (stops f e) l h = absurd (omega arith)
+  same-next {at} {st} (passes t e a) like h =
       let i = silent-is (rw (t .is) at (same-element (from at s) st)) in
-      rw (at-passed s at (freed (st .sets)) _ refl is-silent i) (alike a like h c)
-  alike {at} {st} (reads t m e a) like h c =
+      rw (at-passed s at (freed (st .sets)) _ refl is-silent i) (same-next a like h)
+  same-next {at} {st} (reads t m e a) like h =
       let i = found-is (rw (t .is) at (same-element (from at s) st)) in
-      rw (at-passed s at (freed (st .sets)) _ refl is-found (i .1)) (turns like)
+      rw (at-passed s at (freed (st .sets)) _ refl is-found (i .1)) alike
+
+turned : {o given : Outcome} (c : Cursor) → Alike o given → Turns (outcomeTurn c o) given
+unfolding outcomeTurn
+turned c alike = turns like
 
 module _ (s : List ℕ) (short : length s ≤ limit.octets) where
-  by-element : {at : ℕ} {st to : State} {es : Elements} → Ahead s at st es → Like st to → 1 ≤ length (recordsFrom es)
+  -- the unit that is next by the elements
+  pub next-ahead : {at : ℕ} {st to : State} {es : Elements} → Ahead s at st es → Like st to → 1 ≤ length (recordsFrom es)
+      → Alike (nextOf s at to) (outcomeOf st es)
+  unfolding nextOf pick
+  next-ahead a l h = rw (le-ltb limit.octets (length s) short) (same-next s a l h)
+
+  pub by-element : {at : ℕ} {st to : State} {es : Elements} → Ahead s at st es → Like st to → 1 ≤ length (recordsFrom es)
       → Turns (elementTurn s (cursor at to)) (outcomeOf st es)
-  unfolding elementTurn nextOf pick
-  by-element {at} {st} a like h = rw (le-ltb limit.octets (length s) short) (alike s a like h (cursor at (freed (st .sets))))
+  unfolding elementTurn
+  by-element {at} {st} a like h = turned (cursor at (freed (st .sets))) (next-ahead a like h)
 
   -- ---- text
 

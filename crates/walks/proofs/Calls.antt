@@ -13,6 +13,7 @@
 -- own, P, which can be had twice. So a call leaves the context as it was.
 --     Parts, PartsBut         each part of a formula X ∗ (Y ∗ .. ∗ true), as what the arguments own is, had from P; but one of them from Q
 --     plain                   a part that is plain data, and so had from anything
+--     both-twice              what two such own, in one entry
 --     Spares                  the tokens that a call asks, out of those there are, and back
 --     gets                    a call whose parameters are plain data and `&`s, and whose result owns something, as a part of a slice does
 --     calls                   the same, with a result that is plain data
@@ -27,7 +28,7 @@ use Rattle.walks.proofs.Names.{lasts, ℕ, length, fullShare, cells, Ar
 use Rattle.walks.proofs.Names.{codedHoleys, Held, lends-slice, slice-back, row, opens-slice, closes-slice, lft-new, lft-end, Stays, walkOf, ends-at}
 use mir.Syntax.{Name, Place, Opd as Operand, Body, seq, call, Lifetime}
 use mir.Val.{WT, hasTy}
-use base.Logic.{comm∗, assoc∗, mono∗, monoL, monoR, emp∗, exI}
+use base.Logic.{comm∗, assoc∗, assoc′, mono∗, monoL, monoR, emp∗, exI}
 use base.Fml.{fdead}
 use contract.Monad.{top}
 use types.Kit.{Post, lands, Seq, regoal, updating, mean, nth, del, push, pop, unpull, aim, use0, now as at-once}
@@ -52,6 +53,12 @@ module _ {M : Type 1} {𝓤 : URA M} {H : Heap 𝓤} {A : Atoms 𝓤} (W : Given
   -- what can be had twice
   abbrev pub Twice : Item 𝓤 → Type 1
   Twice P = ent 𝓤 (mean 𝓤 H A P) (mean 𝓤 H A (P ⊛ P))
+
+  -- of two such, both
+  pub both-twice : (P Q : Item 𝓤) → Twice P → Twice Q → Twice (P ⊛ Q)
+  both-twice P Q p q =
+      qed W (P ∷ Q ∷ []) ∵ use1 W (P ⊛ P) p $ split ! $ move ! (2 ∷ []) $ use1 W (Q ⊛ Q) q $ split ! $ move ! (2 ∷ 0 ∷ []) $ join ! $
+      move ! (0 ∷ 2 ∷ 1 ∷ []) $ done !
 
   module _ (D : Ended) (c : Clauses 𝓤 D) where
     abbrev pub Meant : Contract 𝓤
@@ -313,6 +320,19 @@ module _ {M : Type 1} {𝓤 : URA M} {H : Heap 𝓤} {A : Atoms 𝓤} (W : Given
         give = qed W (raw X ∷ raw X₁ ∷ []) ∵ nothing ! $ joins ! 1 refl $ done !;
         back = via 𝓤 _ (monoL 𝓤 X (fst∗ 𝓤 X₁ (emp 𝓤))) (comm∗ 𝓤 X₁ X);
       }
+
+      module _ (κ₂ : Lft) (q₂ : Share) where
+        abbrev X₂ : SProp 𝓤
+        X₂ = A .lft κ₂ q₂
+
+        -- all three that there are
+        pub beside-two : Spares 𝓤 (sep 𝓤 (sep 𝓤 X X₁) X₂) (sep 𝓤 X (sep 𝓤 X₁ (sep 𝓤 X₂ (emp 𝓤))))
+        beside-two = record {
+          rest = emp 𝓤;
+          give = qed W ((raw X ⊛ raw X₁) ∷ raw X₂ ∷ []) ∵ split ! $ nothing ! $ joins ! 2 refl $ joins ! 1 refl $ joins ! 0 refl $ nothing ! $
+              move ! (1 ∷ 0 ∷ []) $ done !;
+          back = via 𝓤 _ (fst∗ 𝓤 _ (emp 𝓤)) (via 𝓤 _ (monoR 𝓤 X (monoR 𝓤 X₁ (fst∗ 𝓤 X₂ (emp 𝓤)))) (assoc′ 𝓤 X X₁ X₂));
+        }
 
 -- ---- the call
 module _ {M : Type 1} {𝓤 : URA M} {H : Heap 𝓤} {A : Atoms 𝓤} {K : Type 0} {W : Given 𝓤 H A} {E : Env 𝓤 H}

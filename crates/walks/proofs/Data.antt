@@ -1,13 +1,14 @@
 -- What a walk asks of the types of a function's parameters and of its result.
 --     Data                         a type of plain data: its machine value, which is of the MIR type, and that it owns nothing but facts
---     number, flag, struct, enum   a `usize`, a `bool`, a declared struct, a declared enum
+--     number, flag, octet, array   a `usize`, a `bool`, a `u8`, an array
+--     struct, enum                 a declared struct, a declared enum
 --     Param                        how a parameter is passed, and what is had of it at exit
 --     shared, lent, given          a `&[T]`; a `&mut [T]` that is still had at exit, or that was given to a call for good
 --     by-value                     plain data
 --     Params                       of all parameters, with what `denote.Triple.Walked` asks of them
-use Rattle.walks.proofs.Names.{_≡_, List, [], _∷_, ℕ, URA, named, w64, Val, vint, ftrue, Heap, Atoms, Given, RattleType, yes, Is, usize}
-use Rattle.walks.proofs.Names.{uint-tells, uint-makes, slice-vals, shr-slice-tells, shr-slice-lawful, Slot, plain, Stays, stay-none, stay-none-slice}
-use Rattle.walks.proofs.Names.{goes-none, goes-none-slice}
+use Rattle.walks.proofs.Names.{_≡_, List, [], _∷_, ℕ, URA, named, w8, w64, Val, vint, ftrue, Heap, Atoms, Given, RattleType, yes, Is, u8, usize}
+use Rattle.walks.proofs.Names.{only, uint-tells, uint-makes, slice-vals, shr-slice-tells, shr-slice-lawful, Slot, plain, Stays, stay-none}
+use Rattle.walks.proofs.Names.{stay-none-slice, goes-none, goes-none-slice}
 use lib.Dec.{T as Holds}
 use mir.Val.{vbool, WT, hasTy}
 use contract.Lifetimes.{Lfts, lftAt}
@@ -15,6 +16,7 @@ use denote.Exit.{Kept, Last, left}
 use denote.Laws.{Tells, Makes, Lawful, Lawfuls, Spells, Tellss, Ises}
 use denote.Memory.{lone}
 use denote.Builtin.{bool}
+use denote.Array.{Array, array-vals, array-tells, array-lawful, array-makes}
 use denote.Plain.{uint-lawful, bool-tells, bool-lawful, bool-makes}
 use denote.Slice.{mut-slice-tells, mut-slice-lawful}
 use denote.Struct.Struct.{Plains}
@@ -51,6 +53,24 @@ flag = record {
   typed = λ 𝓤 H A W x is. bool-lawful 𝓤 H A W .typed x _ is .0;
   lawful = λ 𝓤 H A W. bool-lawful 𝓤 H A W;
   makes = λ 𝓤 H A W. bool-makes 𝓤 H A W;
+}
+
+abbrev pub octet : Data u8
+octet = record {
+  val = vint w8;
+  tells = uint-tells w8;
+  typed = λ 𝓤 H A W x is. uint-lawful 𝓤 H A W w8 .typed x _ is .0;
+  lawful = λ 𝓤 H A W. uint-lawful 𝓤 H A W w8;
+  makes = λ 𝓤 H A W. uint-makes 𝓤 H A W w8;
+}
+
+abbrev pub array : {R : RattleType} → Data R → (n : ℕ) → Data (Array R n)
+array {R} d n = record {
+  val = λ xs. only (array-vals (λ x. d .val x ∷ []) xs);
+  tells = array-tells R (λ x. d .val x ∷ []) (d .tells) n;
+  typed = λ 𝓤 H A W x is. array-lawful 𝓤 H A W R (d .lawful 𝓤 H A W) n .typed x _ is .0;
+  lawful = λ 𝓤 H A W. array-lawful 𝓤 H A W R (d .lawful 𝓤 H A W) n;
+  makes = λ 𝓤 H A W. array-makes 𝓤 H A W R (d .makes 𝓤 H A W) n;
 }
 
 abbrev pub struct : (T : S.Declared) → LL.Laws T → Plains (S.fields T) → Data (S.row T)

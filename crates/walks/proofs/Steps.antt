@@ -1,6 +1,7 @@
 -- Shorter forms of the steps that a proof by hand takes most.
 --     var, arg          the value of a local, and one more of them in a list of operands
 --     part              the value of a field of a local
+--     large             a large constant
 --     sets, resets      a local that is empty, or that holds something, is assigned to; `resets-last` where the assignment ends a turn
 --     lands-in          what a call answers is stored to a local that is empty; `lands-over`, to one that holds something
 --     recasts           what a cell holds, written another way
@@ -15,13 +16,14 @@ use Rattle.walks.proofs.Names.{_≡_, refl, sym, _∙_, ap, subst, ℕ,
 use Rattle.walks.proofs.Names.{vptr, id⊢, Lft, Fml, fsep, fat, Heap, Env, Calls, Loops, Atoms, sem, join, Given, Item, ‵, prop, runs, _$_, _⊛_}
 use Rattle.walks.proofs.Names.{move, let-go as drop, use1, split, rewrite, fsplit, fjoin, look, init, store, stop, hop, fld, from, load, addr}
 use Rattle.walks.proofs.Names.{and-then, no-more, assigns, assigns-last, agg, whole, sub, look-in, RattleType, usize, uint-makes, Is, RefT, sliceVal}
-use Rattle.walks.proofs.Names.{ShrSlice, shr-slice-copy, owned}
+use Rattle.walks.proofs.Names.{ShrSlice, shr-slice-copy, owned, via}
 use Prim.Native.Nat.{zero}
 use mathlib.Core.Option.{some}
 use lib.Dec.{T}
-use mir.Syntax.{Lifetime, Sym, Ty, Tys, tyStruct, tyEnum, ttnil, tyInt, deref, field, place, Opd as Operand, copy, Rv as RValue, addrOf, aggregate, Body, seq}
-use mir.Syntax.{assign}
-use mir.Val.{vstruct, Vals, ofList, WT, hasTy}
+use mir.Syntax.{Lifetime, Width, Sym, Ty, Tys, tyStruct, tyEnum, ttnil, tyInt, deref, field, place, Opd as Operand, copy, intBig, Rv as RValue, addrOf}
+use mir.Syntax.{aggregate, Body, seq, assign}
+use mir.Val.{vstruct, Vals, ofList, WT, Fits, bits, hasTy}
+use base.Logic.{guardI}
 use mir.Fields.{getV}
 use base.Fml.{froom}
 use prog.Memory.{fieldOf, fieldAt}
@@ -65,6 +67,10 @@ module _ {M : Type 1} {𝓤 : URA M} {H : Heap 𝓤} {A : Atoms 𝓤} {K : Type 
     pub arg : K → (n : ℕ) {i : ℕ} {v : Val} {xs : List Operand} {vs : List Val} → nth 𝓤 H A n Γ ≡ holding (spot E i) v → Opds K W Γ E xs vs
         → Opds K W Γ E (copy (place i []) ∷ xs) (v ∷ vs)
     arg t n e os = and-then t (var t n e) os
+
+    -- a constant above 1023, whose bound is shown
+    pub large : K → {w : Width} {n : ℕ} → n < 2 ^ bits w → Opd K W Γ E (intBig w n) (vint w n)
+    large t {w} {n} h = record { go = λ Kt k. via 𝓤 (Kt (vint w n)) k (guardI 𝓤 (Fits w n) (Kt (vint w n)) (record { fits = h })) }
 
     -- local i, a struct, at entry n
     module _ {i : ℕ} {ν : Sym} {τs : Tys} {vs : Vals} where

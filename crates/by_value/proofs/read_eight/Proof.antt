@@ -6,14 +6,14 @@ use Rattle.walks.proofs.Names.{flft, sem, ‵, raw, _⊛_, later, _$_, !, move,
 use Rattle.walks.proofs.Names.{mem, u8, RefT, sliceVal, finally, nothing}
 use Rattle.walks.proofs.Names as kit
 use Rattle.element.proofs.Names.{lit<, Answer, UnitRecord}
-use denote.Array.{Array, array-vals, array-lawful, array-makes, arrayVal}
+use denote.Array.{Array, arrayVal}
 use denote.Struct.Laws as LL
 use Rattle.base.proofs.Unit as U
 use Rattle.base.proofs.Unit.Laws as U′
 use Rattle.base.proofs.Answer as N
 use Rattle.base.proofs.Answer.Laws as N′
 use Rattle.walks.proofs.Body.{𝓣of}
-use Rattle.walks.proofs.Data.{Data, struct, Params, shared, by-value, stays}
+use Rattle.walks.proofs.Data.{Data, struct, array, Params, shared, by-value, stays}
 use Rattle.walks.proofs.Entry.{Bound, End, Walk, walk-in, cites}
 use Rattle.walks.proofs.Calls.{calls-ends}
 use Rattle.walks.proofs.Frame.{leaves}
@@ -27,8 +27,14 @@ use Rattle.by_value.proofs.read_eight.Code as code
 abbrev an-answer : Data N.the-row
 an-answer = struct N.the-type N′.the-laws N′.the-plain
 
+abbrev a-record : Data U.the-row
+a-record = struct U.the-type U′.the-laws U′.the-plain
+
+abbrev a-list : Data (Array U.the-row 8)
+a-list = array a-record 8
+
 abbrev params : Params (eight.ended .signature .params) (eight.ended .kept)
-params = (shared 0 tt u8, (by-value (struct U.the-type U′.the-laws U′.the-plain) (λ x f. refl), tt))
+params = (shared 0 tt u8, (by-value a-record (λ x f. refl), tt))
 
 module _ {M : Type 1} (𝓤 : kit.URA M) (H : kit.Heap 𝓤) (𝓜 : kit.Model 𝓤 H) (𝓖 : kit.GhostRules 𝓤 H) (𝓡 : kit.Running 𝓤 H 𝓜)
     (κ : kit.Lft) (q : kit.Share) (s : RefT (List ℕ)) (mark : UnitRecord) (is-mark : Is U.the-row mark (U′.lowered mark ∷ [])) where
@@ -75,7 +81,7 @@ module _ {M : Type 1} (𝓤 : kit.URA M) (H : kit.Heap 𝓤) (𝓜 : kit.Model �
 
   -- the machine value of a list
   abbrev low : List UnitRecord → Val
-  low zs = kit.only (array-vals (LL.vals U.the-type U′.the-laws) zs)
+  low zs = a-list .val zs
 
   exits : (zs : List UnitRecord) → zs ≡ listAfter xs marks
       → Sq W (‵ (Array U.the-row 8 .own zs (low zs ∷ [])) ∷ ‵ ftrue ∷ ‵ (flft κ q) ∷ ‵ Own ∷ []) (prop (Post (low zs)))
@@ -118,13 +124,11 @@ module _ {M : Type 1} (𝓤 : kit.URA M) (H : kit.Heap 𝓤) (𝓜 : kit.Model �
       -- [the token of s; what s owns; what the mark owns; the locals]
       let array : ℕ = bs .1 .1 .1 .0 in
       move ! (2 ∷ []) $ let-go ! $
-      sets ! 8 (kit.rep ! 8 (var ! 10 refl)) refl (array-lawful 𝓤 H A W U.the-row (LL.lawful U.the-type U′.the-laws 𝓤 H A W)
-      8 .typed marks _ is-marks .0) $
+      sets ! 8 (kit.rep ! 8 (var ! 10 refl)) refl (a-list .typed 𝓤 H A W marks is-marks) $
       sets ! 4 (kit.addr ! (kit.from ! (kit.stop !))) refl (tt, tt) $
       sets ! 2 (kit.agg ! (arg ! 4 refl (kit.and-then ! (lit ! tt) (kit.no-more !)))) refl (sliced (lit< tt)) $
       -- the array is lent for a lifetime ν of the call
-      move ! (8 ∷ []) $ kit.owned ! (Array U.the-row 8) (Is (Array U.the-row 8))
-      (array-makes 𝓤 H A W U.the-row (LL.makes U.the-type U′.the-plain 𝓤 H A) 8) marks _ is-marks $ move ! (1 ∷ 0 ∷ []) $
+      move ! (8 ∷ []) $ kit.owned ! (Array U.the-row 8) (Is (Array U.the-row 8)) (a-list .makes 𝓤 H A W) marks _ is-marks $ move ! (1 ∷ 0 ∷ []) $
       use2 W (‵ (kit.cells (mem U.the-row) marks array 0)) (array-out 𝓤 H A W U.the-row 8 marks array tt v₀) $
       kit.lft-new ! tt (λ ν. move ! (1 ∷ []) $
       use1 W (later (kit.some (λ (δ : GName). ‵ (Lent array ν δ) ⊛ ‵ (kit.flent (ν ∷ []) (kit.Held U.the-row 8 array 0 δ)))))
@@ -149,8 +153,7 @@ module _ {M : Type 1} (𝓤 : kit.URA M) (H : kit.Heap 𝓤) (𝓜 : kit.Model �
       move ! (1 ∷ []) $ kit.peeks ! (Array U.the-row 8) (Is (Array U.the-row 8)) (kit.shows 𝓤 H A (Array U.the-row 8)) zs (low zs ∷ []) (λ is-zs.
       move ! (1 ∷ 0 ∷ []) $
       -- [_3; what it owns; true; the token of s; what s owns; the other locals]
-      sets ! 16 (kit.of-opd ! (var ! 0 refl)) refl
-      (array-lawful 𝓤 H A W U.the-row (LL.lawful U.the-type U′.the-laws 𝓤 H A W) 8 .typed zs _ is-zs .0) $
+      sets ! 16 (kit.of-opd ! (var ! 0 refl)) refl (a-list .typed 𝓤 H A W zs is-zs) $
       kit.returns ! (kit.look ! 16 refl) $ move ! (1 ∷ 2 ∷ 3 ∷ 4 ∷ 5 ∷ 6 ∷ 7 ∷ 8 ∷ 9 ∷ 10 ∷ 0 ∷ []) $ leaves ! 4 refl refl $
       exits zs e)))))
 
