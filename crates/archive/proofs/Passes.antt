@@ -3,47 +3,58 @@
 -- `stretch` has shown which element it is.
 use Rattle.element.proofs.Names.{ℕ, zero, suc, _+_, _*_, _-_, _/_, _%_, _<_, _≤_, arith, _≡_, refl, ap, sym, _∙_, subst, Bool, true, false, List, _∷_}
 use Rattle.element.proofs.Names.{length, getD, pick, from, from-octet, Side, GL, GR, State, Sets, formOf, form-96, eqb-true}
-use Rattle.element.proofs.Names.{⊎-elim}
+use Rattle.element.proofs.Names.{⊎-elim, test, ltb, ltb-true, ltb-false, fresh, no-set, on, put}
 use native.Mathlib.Nat.{eq-or-lt-of-le}
 use Rattle.charset.specs.Charsets.{form-94}
 use Rattle.text.specs.Text.{graphicOf}
 use Rattle.element.specs.Element.{shapeOf, elementOf}
 use Rattle.element.specs.Start.{Start, usedIn, startIn}
 use Rattle.element.specs.Start as start
-use Rattle.element.proofs.Sizes.{found}
+use Rattle.element.proofs.Sizes.{found, silent}
 use Rattle.element.proofs.Starts.{On, wideIn, Starts, starts, graphic, graphic-used, all-used}
 use Rattle.element.proofs.Starts as starts-of
 use Rattle.grammar.specs.Reading.{answerOf}
 use Rattle.grammar.proofs.Places.{at-passed, step-passed}
+use Rattle.designations.specs.Designation.{designationAt}
+use Rattle.designations.specs.declared.Designation.{Designation}
+use Rattle.designations.proofs.Designations.{designation-silent}
+use Rattle.state.specs.State.{state}
 use Rattle.octet_table.specs.Table.{numberOf, classOf, ruleOf, rowOf}
 use Rattle.octet_table.proofs.Rule.{row-rule, row-96, class-number}
 use Rattle.stretch.specs.Characters.{settledOf}
 use Rattle.stretch.proofs.Law.{One}
 use Rattle.stretch.proofs.Starts.{Blank, Text, Lone, blank, text, left-start, one-start, written-two, lone-one}
 use Rattle.stretch.proofs.Starts as text-of
-use Rattle.archive.specs.Passes.{Leaves, Passes, Classed, Within}
+use Rattle.archive.specs.Passes.{Leads, Leaves, Passes, Reaches, Classed, Ones, Within}
 
 -- ---- one after another
 
-module _ (st : State) (s : List ℕ) where
-  pub leaves-none : (at : ℕ) → at ≤ length s → Leaves st s at at 0
-  leaves-none at h =
+module _ (s : List ℕ) where
+  pub leads-none : (st : State) (at : ℕ) → at ≤ length s → Leads s at st at st 0
+  leads-none st at h =
       record {
         since = omega arith;
         within = h;
         same = λ count. let e : count + 0 ≡ count = omega arith in rw e refl;
       }
 
-  pub leaves-more : (at i j n m : ℕ) → Leaves st s at i n → Leaves st s i j m → Leaves st s at j (n + m)
-  leaves-more at i j n m a b =
+  pub leads-more : (at i j n m : ℕ) (st to too : State) → Leads s at st i to n → Leads s i to j too m → Leads s at st j too (n + m)
+  leads-more at i j n m st to too a b =
       record {
         since = omega (arith, a .since, b .since);
         within = b .within;
         same = λ count. let e : count + (n + m) ≡ count + n + m = omega arith in rw e (b .same (count + n) ∙ a .same count);
       }
 
+module _ (st : State) (s : List ℕ) where
+  leaves-none : (at : ℕ) → at ≤ length s → Leaves st s at at 0
+  leaves-none = leads-none s st
+
+  leaves-more : (at i j n m : ℕ) → Leaves st s at i n → Leaves st s i j m → Leaves st s at j (n + m)
+  leaves-more at i j n m = leads-more s at i j n m st st st
+
   -- an element that gives a unit and leaves the state
-  pub leaves-one : (at w : ℕ) → One w st (elementOf (from at s) st) → Leaves st s at (at + w) 1
+  leaves-one : (at w : ℕ) → One w st (elementOf (from at s) st) → Leaves st s at (at + w) 1
   unfolding answerOf
   leaves-one at w u =
       let t = step-passed s at st (elementOf (from at s) st) refl found (u .is) in
@@ -231,9 +242,6 @@ module _ (row : ℕ) (s : List ℕ) (at k r : ℕ) (c : Classed row s at k) wher
       ones-pass 0xA0 0xFF w (λ st q b l m.
       text (one-start (st .sets) b GR l (all-used _ b (row-96 (st .sets) (rw (← q) at f))) (right-narrow st q e)))
 
-  pub ones-none : at ≤ length s → Passes row s at at (at - at)
-  ones-none h = let e : at - at ≡ 0 = omega arith in rw e (passes-none row s at h)
-
 -- and the same of characters of two octets, n of them
 module _ (row : ℕ) (s : List ℕ) (at k m n : ℕ) (c : Classed row s at k) (e : m ≡ 2 * n) where
   twos-pass : (d : Side) (first last : ℕ) → last < 256 → Within first last s at (at + m) → ((st : State) → rowOf (st .sets) ≡ row → wideIn d (st .sets) ≡ true)
@@ -259,37 +267,146 @@ module _ (row : ℕ) (s : List ℕ) (at k m n : ℕ) (c : Classed row s at k) (e
       twos-pass GR 0xA1 0xFE (omega arith) w (λ st q. two-is (st .sets) (getD s at 0) GR (rw f at (here row s at k m c st q)) .1 .1)
       (λ b l h. (omega arith, graphic (b % 128) (omega arith) (omega arith)))
 
--- ---- as the loops go
+-- ---- units of one octet, by their classes
+
+module _ (row : ℕ) (s : List ℕ) (at : ℕ) where
+  pub ones-none : at ≤ length s → Ones row s at at
+  ones-none h = record { since = omega arith; within = h; each = λ j l m. absurd (omega arith) }
+
+  pub ones-both : (i j : ℕ) → Ones row s at i → Ones row s i j → Ones row s at j
+  ones-both i j a b =
+      record {
+        since = omega (arith, a .since, b .since);
+        within = b .within;
+        each = λ k l m. test (ltb k i) (λ e. a .each k l (ltb-true k i e)) (λ e. b .each k (ltb-false k i e) m);
+      }
+
+  pub ones-one : (k : ℕ) → Classed row s at k → k ≤ 4 → Ones row s at (at + 1)
+  ones-one k c h =
+      record {
+        since = omega arith;
+        within = omega (arith, c .inside);
+        each = λ j l m. let e : j ≡ at = omega arith in rw e (c .octet, rw (← (c .is)) h);
+      }
+
+pub ones-four : (row : ℕ) (s : List ℕ) (at k l m n : ℕ) → Classed row s at k → k ≤ 4 → Classed row s (at + 1) l → l ≤ 4
+    → Classed row s (at + 1 + 1) m → m ≤ 4 → Classed row s (at + 1 + 1 + 1) n → n ≤ 4 → Ones row s at (at + 4)
+ones-four row s at k l m n a ha b hb c hc d hd =
+    let e : at + 1 + 1 + 1 + 1 ≡ at + 4 = omega arith in
+    let two = ones-both row s at (at + 1) (at + 1 + 1) (ones-one row s at k a ha) (ones-one row s (at + 1) l b hb) in
+    let three = ones-both row s at (at + 1 + 1) (at + 1 + 1 + 1) two (ones-one row s (at + 1 + 1) m c hc) in
+    subst (Ones row s at) e (ones-both row s at (at + 1 + 1 + 1) (at + 1 + 1 + 1 + 1) three (ones-one row s (at + 1 + 1 + 1) n d hd))
+
+-- a law on each octet goes over all of them, one by one
+module _ (row : ℕ) (st : State) (s : List ℕ) (each : (at : ℕ) → at < length s → getD s at 0 < 256 → ruleOf (row + getD s at 0) ≤ 4 → Leaves st s at (at + 1) 1)
+  where
+    ones-by : (n at : ℕ) → Ones row s at (at + n) → Leaves st s at (at + n) n
+    ones-by zero at o =
+        let e : at + 0 ≡ at = omega arith in
+        rw e (leaves-none st s at (omega (arith, o .within)))
+    ones-by (suc n) at o =
+        let e : at + 1 + n ≡ at + suc n = omega arith in
+        let f : 1 + n ≡ suc n = omega arith in
+        let h = o .each at (omega arith) (omega arith) in
+        let rest : Ones row s (at + 1) (at + 1 + n) = record { since = omega arith; within = omega (arith, o .within); each = λ j l m. o .each j (omega arith) (omega arith) } in
+        subst (Leaves st s at (at + suc n)) f
+        (leaves-more st s at (at + 1) (at + suc n) 1 n (each at (omega (arith, o .within)) (h .0) (h .1))
+        (subst (λ (j : ℕ). Leaves st s (at + 1) j n) e (ones-by n (at + 1) rest)))
+
+    pub ones-leads : (at i : ℕ) → Ones row s at i → Leaves st s at i (i - at)
+    ones-leads at i o =
+        let e : at + (i - at) ≡ i = omega (arith, o .since) in
+        subst (λ (j : ℕ). Leaves st s at j (i - at)) e (ones-by (i - at) at (subst (Ones row s at) (sym e) o))
+
+-- under a state of the row that text leaves as it is
+pub ones-passes : (row : ℕ) (s : List ℕ) (at i : ℕ) → Ones row s at i → Passes row s at i (i - at)
+ones-passes row s at i o =
+    record {
+      since = omega (arith, o .since);
+      within = o .within;
+      leaves = λ st r settled.
+          ones-leads row st s (λ j h b k. leaves-lone st settled s j h (lone-is (st .sets) (getD s j 0) row _ b r refl k)) at i o;
+    }
+
+-- ---- as the code goes
 
 module _ (row : ℕ) (s : List ℕ) (at : ℕ) where
   -- the place by the octets that were passed
   pub passes-at : (i n : ℕ) → Passes row s at i n → Passes row s at (at + (i - at)) n
   passes-at i n a = let e : at + (i - at) ≡ i = omega (arith, a .since) in rw e a
 
-  -- one unit more, of w octets
-  pub passes-next : (i n w : ℕ) → Passes row s at i n → (0 < w → Passes row s i (i + w) 1) → (w ≡ 0 → ⊥) → Passes row s at (i + w) (n + 1)
-  passes-next i n w a b h = passes-more row s at i (i + w) n 1 a (b (omega (arith, h)))
-
-  pub passes-four : (k l m n : ℕ) → Classed row s at k → k ≤ 4 → Classed row s (at + 1) l → l ≤ 4 → Classed row s (at + 1 + 1) m → m ≤ 4
-      → Classed row s (at + 1 + 1 + 1) n → n ≤ 4 → Passes row s at (at + 4) 4
-  passes-four k l m n a ha b hb c hc d hd =
-      let e : at + 1 + 1 + 1 + 1 ≡ at + 4 = omega arith in
-      let two = passes-more row s at (at + 1) (at + 1 + 1) 1 1 (passes-one row s at k a ha) (passes-one row s (at + 1) l b hb) in
-      let three = passes-more row s at (at + 1 + 1) (at + 1 + 1 + 1) 2 1 two (passes-one row s (at + 1 + 1) m c hc) in
-      subst (λ (i : ℕ). Passes row s at i 4) e
-      (passes-more row s at (at + 1 + 1 + 1) (at + 1 + 1 + 1 + 1) 3 1 three (passes-one row s (at + 1 + 1 + 1) n d hd))
-
-  -- units of one octet
-  pub ones-first : at ≤ length s → Passes row s at at (at - at)
-  ones-first h = let e : at - at ≡ 0 = omega arith in rw e (passes-none row s at h)
-
-  pub ones-more : (i j m : ℕ) → Passes row s at i (i - at) → Passes row s i j m → m ≡ j - i → Passes row s at j (j - at)
-  ones-more i j m a b e =
-      let f : i - at + m ≡ j - at = omega (arith, a .since, b .since, e) in
-      subst (Passes row s at j) f (passes-more row s at i j (i - at) m a b)
+  pub passes-first : at ≤ length s → Passes row s at (at + 0) 0
+  passes-first h = let e : at + 0 ≡ at = omega arith in rw e (passes-none row s at h)
 
   -- two stretches, by their octets
   pub passes-both : (k n l m : ℕ) → Passes row s at (at + k) n → Passes row s (at + k) (at + k + l) m → Passes row s at (at + (k + l)) (n + m)
   passes-both k n l m a b =
       let e : at + k + l ≡ at + (k + l) = omega arith in
       subst (λ (i : ℕ). Passes row s at i (n + m)) e (passes-more row s at (at + k) (at + k + l) n m a b)
+
+  pub ones-first : at ≤ length s → Passes row s at at (at - at)
+  ones-first h = let e : at - at ≡ 0 = omega arith in rw e (passes-none row s at h)
+
+  pub ones-more : (i j : ℕ) → Passes row s at i (i - at) → Ones row s i j → Passes row s at (at + (j - at)) (j - at)
+  ones-more i j a o =
+      let b = ones-passes row s i j o in
+      let f : i - at + (j - i) ≡ j - at = omega (arith, a .since, o .since) in
+      passes-at j (j - at) (subst (Passes row s at j) f (passes-more row s at i j (i - at) (j - i) a b))
+
+-- ---- under sets that designations change
+
+-- a designation that is found has octets, and they are in the string
+pub designation-some : (s : List ℕ) (i : ℕ) (x : Designation) → x ≡ designationAt (from i s) → x .set < no-set
+    → (1 ≤ x .octets) × (i + x .octets ≤ length s)
+designation-some s i x e h =
+    let t = step-passed s i fresh (elementOf (from i s) fresh) refl silent (sym (designation-silent (from i s) fresh x e h)) in
+    (t .some, t .fits)
+
+module _ (s : List ℕ) (at : ℕ) (a : Sets) where
+  pub reaches-none : at ≤ length s → Reaches s at a at a 0
+  reaches-none h = record { since = omega arith; within = h; leads = λ d k. leads-none s (state a d) at h }
+
+  pub reaches-more : (i j n m : ℕ) (b c : Sets) → Reaches s at a i b n → Reaches s i b j c m → Reaches s at a j c (n + m)
+  reaches-more i j n m b c x y =
+      record {
+        since = omega (arith, x .since, y .since);
+        within = y .within;
+        leads = λ d k. leads-more s at i j n m (state a d) (state b d) (state c d) (x .leads d k) (y .leads d k);
+      }
+
+  pub reaches-units : (i j n m row : ℕ) (b : Sets) → Reaches s at a i b n → row ≡ rowOf b → Passes row s i j m → Reaches s at a j b (n + m)
+  reaches-units i j n m row b x e p =
+      reaches-more i j n m b b x
+      (record { since = p .since; within = p .within; leads = λ d k. p .leaves (state b d) (sym e) k })
+
+  -- a designation
+  pub reaches-designation : (i n : ℕ) (b : Sets) → Reaches s at a i b n → (x : Designation) → x ≡ designationAt (from i s) → x .set < no-set
+      → Reaches s at a (i + x .octets) (put (on (x .side) (x .set)) b) n
+  unfolding answerOf
+  reaches-designation i n b r x e h =
+      let z : n + 0 ≡ n = omega arith in
+      subst (Reaches s at a (i + x .octets) (put (on (x .side) (x .set)) b)) z
+      (reaches-more i (i + x .octets) n 0 b (put (on (x .side) (x .set)) b) r
+      (record {
+        since = omega arith;
+        within = designation-some s i x e h .1;
+        leads = λ d k.
+            let is = designation-silent (from i s) (state b d) x e h in
+            record {
+              since = omega arith;
+              within = designation-some s i x e h .1;
+              same = λ count.
+                  let f : count + 0 ≡ count = omega arith in
+                  rw f (sym (ap (answerOf count) (at-passed s i (state b d) (elementOf (from i s) (state b d)) refl silent (sym is))));
+            };
+      }))
+
+  pub reaches-side : (i n : ℕ) (b : Sets) → Reaches s at a i b n → (x : Designation) → x ≡ designationAt (from i s) → x .set < no-set
+      → (d : Side) → x .side ≡ d → Reaches s at a (i + x .octets) (put (on d (x .set)) b) n
+  reaches-side i n b r x e h d f =
+      subst (λ (y : Side). Reaches s at a (i + x .octets) (put (on y (x .set)) b) n) f (reaches-designation i n b r x e h)
+
+  pub reaches-on : (i j n : ℕ) (b c : Sets) → Reaches s at a i b n → Reaches s i b j c 0 → Reaches s at a j c n
+  reaches-on i j n b c x y =
+      let e : n + 0 ≡ n = omega arith in
+      subst (Reaches s at a j c) e (reaches-more i j n 0 b c x y)

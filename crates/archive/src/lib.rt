@@ -13,6 +13,7 @@ use base::refusal;
 
 mod blocks;
 mod classes;
+mod quick;
 mod stretches;
 mod turns;
 mod whole;

@@ -4,7 +4,7 @@ ghost use mathlib.Core.Bool.{true};
 ghost use Prim.Native.Nat.{_+_, _*_, _-_, _≤_, _<_};
 ghost use lib.ListN.{length};
 ghost use Rattle.octet_table.specs.Table.{table};
-ghost use Rattle.archive.specs.Passes.{Passes, Within, Classed};
+ghost use Rattle.archive.specs.Passes.{Passes, Ones, Within, Classed};
 use crate::blocks::blocks;
 use crate::classes::class_at;
 use octet_table::ONE_GR;
@@ -13,11 +13,8 @@ use octet_table::TWO_GL;
 use octet_table::TWO_GR;
 use stretch::characters::Stretch;
 
-// How far is gone octet by octet before blocks are tried.
-const NEAR: usize = 32;
-
 // The octets of the unit at a place: 1, 2, or 0 where none is found by the classes.
-fn width(t: &[u8], s: &[u8], at: usize, row: usize) -> usize
+pub fn width(t: &[u8], s: &[u8], at: usize, row: usize) -> usize
     requires { ⌜ (now t ≡ table) × (row ≤ 1280) × (at < length (now s)) ⌝ }
     ensures { λ r. ⌜ (0 < r → Passes row (now (s .entry)) at (at + r) 1) ⌝ }
 {
@@ -37,34 +34,10 @@ fn width(t: &[u8], s: &[u8], at: usize, row: usize) -> usize
     0
 }
 
-// The units from a place on, up to an end.
-fn near(t: &[u8], s: &[u8], at: usize, end: usize, row: usize) -> Stretch
-    requires { ⌜ (now t ≡ table) × (row ≤ 1280) × (at ≤ length (now s)) × (end ≤ length (now s)) ⌝ }
-    ensures { λ r. ⌜ Passes row (now (s .entry)) at (at + r .octets) (r .units) ⌝ }
-{
-    let mut i = at;
-    let mut n: usize = 0;
-    while i < end {
-        let w = width(t, s, i, row);
-        if w == 0 {
-            return Stretch {
-                octets: i - at,
-                units: n,
-            };
-        }
-        i += w;
-        n += 1;
-    }
-    Stretch {
-        octets: i - at,
-        units: n,
-    }
-}
-
 // Whether the four octets at a place are units by themselves.
 fn four(t: &[u8], s: &[u8], at: usize, row: usize) -> bool
     requires { ⌜ (now t ≡ table) × (row ≤ 1280) × (at + 4 ≤ length (now s)) ⌝ }
-    ensures { λ r. ⌜ (r ≡ true → Passes row (now (s .entry)) at (at + 4) 4) ⌝ }
+    ensures { λ r. ⌜ (r ≡ true → Ones row (now (s .entry)) at (at + 4)) ⌝ }
 {
     if class_at(t, s, at, row) <= ONE_GR {
         if class_at(t, s, at + 1, row) <= ONE_GR {
@@ -79,9 +52,9 @@ fn four(t: &[u8], s: &[u8], at: usize, row: usize) -> bool
 }
 
 // The place after the units of one octet that start at a place, four by four.
-fn fours(t: &[u8], s: &[u8], at: usize, row: usize) -> usize
+pub fn fours(t: &[u8], s: &[u8], at: usize, row: usize) -> usize
     requires { ⌜ (now t ≡ table) × (row ≤ 1280) × (at ≤ length (now s)) ⌝ }
-    ensures { λ r. ⌜ Passes row (now (s .entry)) at r (r - at) ⌝ }
+    ensures { λ r. ⌜ Ones row (now (s .entry)) at r ⌝ }
 {
     let mut i = at;
     while 4 <= s.len() - i {
@@ -124,10 +97,16 @@ fn twos(s: &[u8], at: usize, first: u8, last: u8) -> Stretch
 }
 
 // The stretch at a place, by blocks, and then four by four where its units have one octet.
-fn far(t: &[u8], s: &[u8], at: usize, row: usize) -> Stretch
-    requires { ⌜ (now t ≡ table) × (row ≤ 1280) × (at < length (now s)) ⌝ }
+pub fn far(t: &[u8], s: &[u8], at: usize, row: usize) -> Stretch
+    requires { ⌜ (now t ≡ table) × (row ≤ 1280) × (at ≤ length (now s)) ⌝ }
     ensures { λ r. ⌜ Passes row (now (s .entry)) at (at + r .octets) (r .units) ⌝ }
 {
+    if s.len() <= at {
+        return Stretch {
+            octets: 0,
+            units: 0,
+        };
+    }
     let k = class_at(t, s, at, row);
     if k == TWO_GL {
         return twos(s, at, 0x21, 0x7E);
@@ -139,28 +118,5 @@ fn far(t: &[u8], s: &[u8], at: usize, row: usize) -> Stretch
     Stretch {
         octets: n,
         units: n,
-    }
-}
-
-// The stretch at a place: octet by octet, and where nothing has ended it so far, by blocks.
-pub fn stretch_by(t: &[u8], s: &[u8], at: usize, row: usize) -> Stretch
-    requires { ⌜ (now t ≡ table) × (row ≤ 1280) × (at < length (now s)) ⌝ }
-    ensures { λ r. ⌜ Passes row (now (s .entry)) at (at + r .octets) (r .units) ⌝ }
-{
-    if s.len() - at <= NEAR {
-        return near(t, s, at, s.len(), row);
-    }
-    let a = near(t, s, at, at + NEAR, row);
-    let next = at + a.octets;
-    if a.octets < NEAR {
-        return a;
-    }
-    if s.len() <= next {
-        return a;
-    }
-    let b = far(t, s, next, row);
-    Stretch {
-        octets: a.octets + b.octets,
-        units: a.units + b.units,
     }
 }

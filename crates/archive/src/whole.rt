@@ -1,38 +1,78 @@
 // The check of a whole string, by the table that is lent.
 ghost use mathlib.Core.Path.{_≡_};
-ghost use Prim.Native.Nat.{_+_, _<_};
+ghost use Prim.Native.Nat.{_≤_};
 ghost use lib.ListN.{length};
 ghost use Rattle.grammar.specs.Reading.{checkOf};
 ghost use Rattle.octet_table.specs.Table.{table};
-ghost use Rattle.archive.specs.Passes.{Leaves};
-use crate::stretches::stretch_by;
+ghost use Rattle.state.specs.State.{sets, state};
+ghost use Rattle.archive.specs.Passes.{textClass, Leads};
+use crate::classes::class_at;
+use crate::quick::Reach;
+use crate::quick::blanks;
+use crate::quick::quick;
 use base::Answer;
 use base::limit;
 use base::refusal;
-use charset::NO_SET;
-use designations::designation_at;
+use octet_table::ONE_GR;
+use octet_table::SPACE;
+use octet_table::TWO_GR;
 use octet_table::row_of;
+use state::Sets;
 use state::State;
 use state::directions::Step;
 use state::elements::Shape;
-use stretch::characters::Stretch;
 use stretch::characters::settled;
-use stretch::characters::stretch_at;
 
-// The stretch at a place: by the table where text leaves the state as it is, and else of tabs and newlines alone.
-fn run_at(t: &[u8], s: &[u8], at: usize, st: State) -> Stretch
-    requires { ⌜ (now t ≡ table) × (at < length (now s)) ⌝ }
-    ensures { λ r. ⌜ (0 < r .octets → Leaves st (now (s .entry)) at (at + r .octets) (r .units)) ⌝ }
+// A class of text: a space, or what a character starts with.
+fn text_class(k: u8) -> bool
+    ensures { λ r. ⌜ r ≡ textClass k ⌝ }
 {
-    let directions = st.directions;
-    if settled(directions) {
-        let sets = st.sets;
-        return stretch_by(t, s, at, row_of(sets.gl, sets.gr));
+    if k <= SPACE {
+        return true;
     }
-    stretch_at(s, at, st)
+    if k < ONE_GR {
+        return false;
+    }
+    k <= TWO_GR
 }
 
-// Whether a string is accepted, and what of it is refused. Designations and stretches are passed at once, and any other element by itself.
+// The state at a place where text is next and neither text nor a mark was read: text was read, which that element says too if it is not refused.
+fn begun(t: &[u8], s: &[u8], at: usize, st: State) -> State
+    requires { ⌜ (now t ≡ table) × (at ≤ length (now s)) ⌝ }
+    ensures { λ r. ⌜ Leads (now (s .entry)) at st at r 0 ⌝ }
+{
+    let mut directions = st.directions;
+    let sets = st.sets;
+    if directions.marked || directions.texted || s.len() <= at {
+        return st;
+    }
+    if text_class(class_at(t, s, at, row_of(sets.gl, sets.gr))) {
+        directions.texted = true;
+        return st.directed(directions);
+    }
+    st
+}
+
+// What is passed at a place at once.
+fn passed(t: &[u8], s: &[u8], at: usize, st: State) -> Reach
+    requires { ⌜ (now t ≡ table) × (at ≤ length (now s)) × (length (now s) ≤ 65535) ⌝ }
+    ensures { λ r. ⌜ Leads (now (s .entry)) at st (r .place) (state (sets (r .gl) (r .gr)) (st .directions)) (r .units) ⌝ }
+{
+    let directions = st.directions;
+    let sets = st.sets;
+    if settled(directions) {
+        return quick(t, s, at, sets.gl, sets.gr);
+    }
+    let i = blanks(t, s, at);
+    Reach {
+        place: i,
+        units: i - at,
+        gl: sets.gl,
+        gr: sets.gr,
+    }
+}
+
+// Whether a string is accepted, and what of it is refused. Units and designations are passed at once, and any other element by itself.
 pub fn check_by(t: &[u8], s: &[u8]) -> Answer
     requires { ⌜ now t ≡ table ⌝ }
     ensures { λ r. ⌜ r ≡ checkOf (now (s .entry)) ⌝ }
@@ -43,27 +83,20 @@ pub fn check_by(t: &[u8], s: &[u8]) -> Answer
     let mut at: usize = 0;
     let mut count: usize = 0;
     let mut st = State::FRESH;
-    while at < s.len() {
-        if s[at] == 0x1B {
-            let d = designation_at(s, at);
-            let set = d.set;
-            if set < NO_SET {
-                let side = d.side;
-                at += d.octets;
-                st = st.designated(side, set);
-                continue;
-            }
-        } else {
-            let run = run_at(t, s, at, st);
-            let octets = run.octets;
-            if 0 < octets {
-                at += octets;
-                count += run.units;
-                continue;
-            }
-        }
-        let sets = st.sets;
+    loop {
+        st = begun(t, s, at, st);
         let directions = st.directions;
+        let p = passed(t, s, at, st);
+        at = p.place;
+        count += p.units;
+        let sets = Sets { gl: p.gl, gr: p.gr };
+        st = State {
+            directions: directions,
+            sets: sets,
+        };
+        if s.len() <= at {
+            return Answer::accepted(at, count);
+        }
         let shape = element::shape(s, at, sets);
         match shape {
             Shape::Ends => {
@@ -92,5 +125,4 @@ pub fn check_by(t: &[u8], s: &[u8]) -> Answer
             }
         }
     }
-    Answer::accepted(at, count)
 }

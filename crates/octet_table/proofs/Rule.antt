@@ -27,6 +27,9 @@ row-most s =
     let h = right-most (formOf (s .gr)) in
     pick-by (λ n. n ≤ 1280) _ (λ _. omega (arith, h)) (λ _. omega (arith, h))
 
+pub row-low : (row : ℕ) (s : Sets) → row ≡ rowOf s → row ≤ 1280
+row-low row s e = rw e (row-most s)
+
 -- a row with a set of 96 in GR
 right-96 : (form : ℕ) → rightOf form ≡ 256 → form ≡ form-96
 unfolding rightOf

@@ -1,6 +1,6 @@
 -- `archive::stretches::four` meets its contract: four octets of classes of one octet are four units.
 use Rattle.element.proofs.Names.{_≤_, arith, leb-true, false≢true}
-use Rattle.archive.proofs.Passes.{passes-four}
+use Rattle.archive.proofs.Passes.{ones-four}
 use Rattle.archive.proofs.stretches.four.Statement.{statement}
 use Rattle.archive.proofs.stretches.four.Tie as tie
 
@@ -21,7 +21,7 @@ four-spec =
     (λ c h. let third = c .before .before in
     let second = third .before .before in
     let first = second .before .before in
-    passes-four _ _ _ _ _ _ _ (first .class-at .ensures) (second .before .if1 .taken) (second .class-at2 .ensures) (third .before .if2 .taken)
+    ones-four _ _ _ _ _ _ _ (first .class-at .ensures) (second .before .if1 .taken) (second .class-at2 .ensures) (third .before .if2 .taken)
     (third .class-at3 .ensures) (c .before .if3 .taken) (c .class-at4 .ensures) (leb-true _ _ h))
     (λ c h. absurd (false≢true h))
     (λ c h. absurd (false≢true h))
