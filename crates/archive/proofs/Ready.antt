@@ -4,6 +4,7 @@
 use Rattle.element.proofs.Names.{ℕ, _+_, _*_, _%_, _/_, _^_, _<_, _≤_, arith, _≡_, refl, ap, sym, _∙_, subst, Bool, true, false, List, [], _∷_, ltb}
 use Rattle.element.proofs.Names.{length, getD, eqb, ltb-true, ltb-false, pick, pick-by, test, clash, from, from-octet, from-end, UnitRecord, no-set, Side}
 use Rattle.element.proofs.Names.{GL, GR, part, next, get, put, designatedOf, stepOf, writtenOf, State, Sets, Part, Element, Refused, Silent, Found}
+use Rattle.element.proofs.Names.{Shape, Gives as Makes, on-lt, on-ge, End, le-ltb, on}
 use native.Mathlib.Nat.{mod-eq-of-lt}
 use Rattle.base.specs.Kind as kind
 use Rattle.base.specs.Limit as limit
@@ -29,6 +30,7 @@ use Rattle.cursor.specs.declared.Turn.{Turn}
 use Rattle.cursor.proofs.Free.{Like, like}
 use Rattle.cursor.proofs.Turns.{Turns, turns, advance-ahead}
 use Rattle.octet_table.specs.Table.{numberOf, classOf, rowOf}
+use Rattle.octet_table.proofs.Rule.{row-most, class-number}
 use Rattle.archive.specs.Passes.{Classed}
 use Rattle.archive.specs.Turns.{rowed, cursorIn, movedBy, turnOf, Ready, ifCharacter, setBy, oneRecord}
 use Rattle.archive.specs.declared.turns.RowCursor.{RowCursor}
@@ -63,13 +65,17 @@ data Two (s : Sets) (p : Part) : Element → Type 0 where
 abbrev twoPart : ℕ → ℕ → ℕ → Part
 twoPart b y set = part kind.character set (b % 128 * 256 + y % 128) 0 2 true
 
+free-text : (s : Sets) (p : Part) → p .text ≡ true → directedOf (Makes p) (freed s) ≡ Found p (freed s)
+unfolding directedOf steppedOf stepOf writtenOf pick
+free-text s p e = rw e refl
+
 two-found : (b y : ℕ) (t : List ℕ) (s : Sets) (d : Side)
     → Two s (twoPart b y (get d s)) (directedOf (begunBy (start.two d) b (y ∷ t) s) (freed s))
-unfolding begunBy secondOctetOf next directedOf steppedOf stepOf writtenOf
+unfolding begunBy secondOctetOf next directedOf
 two-found b y t s d =
-    pick-by (λ x. Two s (twoPart b y (get d s)) (directedOf x (freed s))) (eqb (y / 128) (b / 128))
-    (λ _. pick-by (λ x. Two s (twoPart b y (get d s)) (directedOf x (freed s))) (graphicOf (y % 128)) (λ _. ?) (λ _. refused))
-    (λ _. refused)
+    let P : Shape → Type 0 = λ x. Two s (twoPart b y (get d s)) (directedOf x (freed s)) in
+    let e = free-text s (twoPart b y (get d s)) refl in
+    pick-by P (eqb (y / 128) (b / 128)) (λ _. pick-by P (graphicOf (y % 128)) (λ _. subst (Two s _) (sym e) found) (λ _. refused)) (λ _. refused)
 
 two-cut : (b : ℕ) (s : Sets) (d : Side) → Two s (twoPart b 0 (get d s)) (directedOf (begunBy (start.two d) b [] s) (freed s))
 unfolding begunBy secondOctetOf next directedOf
@@ -78,7 +84,22 @@ two-cut b s d = refused
 -- ---- a unit that is next
 
 gives-stops : {u : UnitRecord} {p n m at : ℕ} {a st : State} {X : Type 0} → Gives u p a ≡ Stops n m at st → X
-gives-stops e = absurd ?
+gives-stops e = clash (cc)
+
+-- elements that give a unit have a record
+some-record : (st : State) (es : Elements) {u : UnitRecord} {p : ℕ} {a : State} → outcomeOf st es ≡ Gives u p a → 1 ≤ length (recordsFrom es)
+unfolding outcomeOf recordsFrom
+some-record st (end-at at) e = gives-stops (sym e)
+some-record st (refused-at at n o) e = gives-stops (sym e)
+some-record st (silent-at at k next es) e = some-record next es e
+some-record st (found-at at p next es) e = omega arith
+
+next-short : (s : List ℕ) (at : ℕ) (st : State) → length s ≤ limit.octets → nextOf s at st ≡ outcome s at st
+unfolding nextOf pick
+next-short s at st h = rw (le-ltb limit.octets (length s) h) refl
+
+given-turn : {r : Turn} {u : UnitRecord} {p : ℕ} {a : State} → Turns r (Gives u p a) → r ≡ turn u (cursor p a)
+given-turn (turns like) = refl
 
 module _ (s : List ℕ) (c : RowCursor) (ready : Ready s c) where
   abbrev k : Cursor
@@ -90,13 +111,46 @@ module _ (s : List ℕ) (c : RowCursor) (ready : Ready s c) where
   abbrev at : ℕ
   at = c .place
 
-  short-by : (b : Bool) → ltb limit.octets (length s) ≡ b
-      → pick b (Stops 1 0 at st) (outcome s at st) ≡ Gives (ready .unit) (ready .place) (ready .after)
-      → (length s ≤ limit.octets) × (outcome s at st ≡ Gives (ready .unit) (ready .place) (ready .after))
-  unfolding pick
-  short-by true e h = gives-stops (sym h)
-  short-by false e h = (ltb-false _ _ e, h)
+  -- what is next, as it is given
+  abbrev given : Outcome
+  given = Gives (ready .unit) (ready .place) (ready .after)
 
-  facts : (length s ≤ limit.octets) × (outcome s at st ≡ Gives (ready .unit) (ready .place) (ready .after))
-  unfolding nextOf
-  facts = short-by (ltb limit.octets (length s)) refl (ready .next)
+  short : length s ≤ limit.octets
+  unfolding nextOf pick
+  short =
+      test (ltb limit.octets (length s)) (λ e. gives-stops (sym (rw e at (ready .next)))) (λ e. ltb-false _ _ e)
+
+  gives : outcome s at st ≡ given
+  gives = sym (next-short s at st short) ∙ ready .next
+
+  abbrev turned : UnitRecord → ℕ → State → RowTurn
+  turned u p a = record { unit = u; cursor = rowed (cursor p a) }
+
+  -- the turn is that of the unit that the elements give
+  turn-is : {u : UnitRecord} {p : ℕ} {a : State} → Gives u p a ≡ outcome s at st → turned u p a ≡ turnOf s k
+  unfolding elementTurn outcomeTurn
+  turn-is e =
+      ap (λ (o : Outcome). record { unit = outcomeTurn k o .unit; cursor = rowed (outcomeTurn k o .cursor) }) (e ∙ sym (next-short s at st short))
+
+  no-refusal : {n o : ℕ} {X : Type 0} → Refused n o ≡ elementOf (from at s) st → X
+  no-refusal e = gives-stops (sym gives ∙ sym (gives-refused s at st _ e refl))
+
+  pub inside : at < length s
+  inside =
+      test (ltb at (length s)) (ltb-true _ _)
+      (λ e. let f = ap (λ (t : List ℕ). elementOf t st) (from-end s at (ltb-false _ _ e)) ∙ at-nothing st in
+      gives-stops (sym gives ∙ sym (gives-end s at st _ refl f)))
+
+  pub row-fits : c .row ≤ 1280
+  row-fits = rw (ready .row) (row-most (st .sets))
+
+  -- a unit of so many octets, which leaves the sets
+  found-turn : (p : Part) (n : ℕ) (r : UnitRecord) (j : RowCursor) → Found p st ≡ elementOf (from at s) st → p .skip ≡ 0 → p .octets ≡ n
+      → r ≡ record { kind = p .kind; set = p .set; code = p .code; start = at % 2 ^ 32; length = n } → j ≡ movedBy c n
+      → record { unit = r; cursor = j } ≡ turnOf s k
+  found-turn p n r j e z l i m =
+      let q : at % 2 ^ 32 ≡ at + p .skip = mod-eq-of-lt (omega (arith, inside, short)) ∙ (let x : at ≡ at + p .skip = omega arith in x) in
+      let o : at + n ≡ at + size p = omega arith in
+      let f : r ≡ recordOf p at = i ∙ rw (q, l) refl in
+      let g : j ≡ rowed (cursor (at + size p) st) = m ∙ rw (ready .row, o) refl in
+      rw (f, g) (turn-is (gives-found s at st _ e refl refl))
