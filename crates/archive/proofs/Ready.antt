@@ -8,6 +8,7 @@ use Rattle.element.proofs.Names.{Shape, Gives as Makes, on-lt, on-ge, End, le-l
 use native.Mathlib.Nat.{mod-eq-of-lt}
 use Rattle.base.specs.Kind as kind
 use Rattle.base.specs.Limit as limit
+use Rattle.base.specs.Refusal as refusal
 use Rattle.text.specs.Text.{secondOctetOf, graphicOf}
 use Rattle.element.specs.Element.{shapeOf, steppedOf, directedOf, elementOf}
 use Rattle.element.specs.Start.{Start, startIn, begunBy}
@@ -77,9 +78,9 @@ two-found b y t s d =
     let e = free-text s (twoPart b y (get d s)) refl in
     pick-by P (eqb (y / 128) (b / 128)) (λ _. pick-by P (graphicOf (y % 128)) (λ _. subst (Two s _) (sym e) found) (λ _. refused)) (λ _. refused)
 
-two-cut : (b : ℕ) (s : Sets) (d : Side) → Two s (twoPart b 0 (get d s)) (directedOf (begunBy (start.two d) b [] s) (freed s))
+two-cut : (b : ℕ) (s : Sets) (d : Side) → Refused refusal.cut 1 ≡ directedOf (begunBy (start.two d) b [] s) (freed s)
 unfolding begunBy secondOctetOf next directedOf
-two-cut b s d = refused
+two-cut b s d = refl
 
 -- ---- a unit that is next
 
@@ -97,6 +98,13 @@ some-record st (found-at at p next es) e = omega arith
 next-short : (s : List ℕ) (at : ℕ) (st : State) → length s ≤ limit.octets → nextOf s at st ≡ outcome s at st
 unfolding nextOf pick
 next-short s at st h = rw (le-ltb limit.octets (length s) h) refl
+
+abbrev turned : UnitRecord → ℕ → State → RowTurn
+turned u p a = record { unit = u; cursor = rowed (cursor p a) }
+
+turn-given : (s : List ℕ) (j : Cursor) {u : UnitRecord} {p : ℕ} {a : State} → nextOf s (j .place) (stateIn j) ≡ Gives u p a → turned u p a ≡ turnOf s j
+unfolding elementTurn outcomeTurn
+turn-given s j e = ap (λ (o : Outcome). record { unit = outcomeTurn j o .unit; cursor = rowed (outcomeTurn j o .cursor) }) (sym e)
 
 given-turn : {r : Turn} {u : UnitRecord} {p : ℕ} {a : State} → Turns r (Gives u p a) → r ≡ turn u (cursor p a)
 given-turn (turns like) = refl
@@ -123,14 +131,9 @@ module _ (s : List ℕ) (c : RowCursor) (ready : Ready s c) where
   gives : outcome s at st ≡ given
   gives = sym (next-short s at st short) ∙ ready .next
 
-  abbrev turned : UnitRecord → ℕ → State → RowTurn
-  turned u p a = record { unit = u; cursor = rowed (cursor p a) }
-
   -- the turn is that of the unit that the elements give
   turn-is : {u : UnitRecord} {p : ℕ} {a : State} → Gives u p a ≡ outcome s at st → turned u p a ≡ turnOf s k
-  unfolding elementTurn outcomeTurn
-  turn-is e =
-      ap (λ (o : Outcome). record { unit = outcomeTurn k o .unit; cursor = rowed (outcomeTurn k o .cursor) }) (e ∙ sym (next-short s at st short))
+  turn-is e = turn-given s k (next-short s at st short ∙ sym e)
 
   no-refusal : {n o : ℕ} {X : Type 0} → Refused n o ≡ elementOf (from at s) st → X
   no-refusal e = gives-stops (sym gives ∙ sym (gives-refused s at st _ e refl))
@@ -154,3 +157,90 @@ module _ (s : List ℕ) (c : RowCursor) (ready : Ready s c) where
       let f : r ≡ recordOf p at = i ∙ rw (q, l) refl in
       let g : j ≡ rowed (cursor (at + size p) st) = m ∙ rw (ready .row, o) refl in
       rw (f, g) (turn-is (gives-found s at st _ e refl refl))
+
+  -- any unit, as `advance` reads it
+  pub any-turn : (r : Turn) (j : RowCursor) → r ≡ advanceOf s k → j ≡ rowed (r .cursor) → record { unit = r .unit; cursor = j } ≡ turnOf s k
+  any-turn r j e m =
+      let a = advance-ahead s short (ahead-from s at st) like (some-record st (ahead s at st) gives) in
+      let f = e ∙ given-turn (rw gives at a) in
+      rw m (ap (λ (x : Turn). record { unit = x .unit; cursor = rowed (x .cursor) }) f ∙ turn-is (sym gives))
+
+  -- ---- by the class of the octet at the cursor
+
+  module _ (n : ℕ) (x : Classed (c .row) s at n) where
+    abbrev b : ℕ
+    b = getD s at 0
+
+    abbrev begins : Start → List ℕ → Element
+    begins i t = directedOf (begunBy i b t (st .sets)) st
+
+    number : numberOf (startIn (st .sets) b) ≡ n
+    number = number-is (st .sets) b (c .row) n (x .octet) (sym (ready .row)) (x .is)
+
+    begun : begins (startIn (st .sets) b) (from (at + 1) s) ≡ elementOf (from at s) st
+    unfolding shapeOf
+    begun = ap (λ (t : List ℕ). elementOf t st) (sym (from-octet s at inside))
+
+    pub one-turn : (r : UnitRecord) (j : RowCursor) → n ≤ 4 → r ≡ oneRecord at b n (setBy n (c .gl) (c .gr)) → j ≡ movedBy c 1
+        → record { unit = r; cursor = j } ≡ turnOf s k
+    one-turn r j h i m =
+        let e = sym (one-found b (from (at + 1) s) (st .sets) (startIn (st .sets) b) (rw number h)) ∙ begun in
+        found-turn (onePart b n (st .sets)) 1 r j (rw number at e) refl refl i m
+
+    module _ (d : Side) (e : n ≡ numberOf (start.two d)) where
+      pair : begins (start.two d) (from (at + 1) s) ≡ elementOf (from at s) st
+      pair =
+          let f = sym (class-number (startIn (st .sets) b)) ∙ ap classOf (number ∙ e) ∙ class-number (start.two d) in
+          rw f at begun
+
+      pub two-inside : at + 1 < length s
+      two-inside =
+          test (ltb (at + 1) (length s)) (ltb-true _ _)
+          (λ f. no-refusal (two-cut b (st .sets) d ∙ ap (begins (start.two d)) (sym (from-end s (at + 1) (ltb-false _ _ f))) ∙ pair))
+
+      not-refused : {p : Part} {o : Element} → Two (st .sets) p o → o ≡ elementOf (from at s) st → Found p st ≡ elementOf (from at s) st
+      not-refused refused i = no-refusal i
+      not-refused found i = i
+
+      pub two-turn : (r : UnitRecord) (j : RowCursor) → r ≡ twoOf at b (getD s (at + 1) 0) (get d (st .sets)) → j ≡ movedBy c 2
+          → record { unit = r; cursor = j } ≡ turnOf s k
+      two-turn r j i m =
+          let y = getD s (at + 1) 0 in
+          let f = ap (begins (start.two d)) (sym (from-octet s (at + 1) two-inside)) ∙ pair in
+          found-turn (twoPart b y (get d (st .sets))) 2 r j (not-refused (two-found b y (from (at + 1 + 1) s) (st .sets) d) f) refl refl i m
+
+  -- ---- a designation at the cursor
+
+  -- the cursor after it, as the code makes it
+  pub placed-is : (d : Designation) (row : ℕ) (v : Side) → d ≡ designationAt (from at s) → d .set < no-set → d .side ≡ v
+      → row ≡ rowOf (put (on v (d .set)) (st .sets))
+      → record { place = at + d .octets; row = row; gl = put (on v (d .set)) (st .sets) .gl; gr = put (on v (d .set)) (st .sets) .gr }
+      ≡ rowed (passedOf s k)
+  unfolding passedOf placedOf
+  placed-is d row v e h i q =
+      let f = on-lt (d .set) no-set _ _ k h refl in
+      rw (q, ← i) (ap rowed (f ∙ ap (placedOf k) e))
+
+  pub none-is : (d : Designation) → d ≡ designationAt (from at s) → no-set ≤ d .set → c ≡ rowed (passedOf s k)
+  unfolding passedOf placedOf
+  none-is d e h =
+      let f : c ≡ rowed k = ap (λ (n : ℕ). record { place = at; row = n; gl = c .gl; gr = c .gr }) (ready .row) in
+      f ∙ ap rowed (on-ge (d .set) no-set k _ k h refl ∙ ap (placedOf k) e)
+
+  -- what is next after it is what was next
+  placed-next : nextOf s (passedOf s k .place) (stateIn (passedOf s k)) ≡ given
+  unfolding passedOf placedOf
+  placed-next =
+      let d = designationAt (from at s) in
+      pick-by (λ j. nextOf s (j .place) (stateIn j) ≡ given) (ltb (d .set) no-set)
+      (λ h. next-short s _ _ short ∙ gives-silent s at st _ (designation-silent (from at s) st d refl (ltb-true _ _ h)) refl ∙ gives)
+      (λ _. ready .next)
+
+  module _ (j : RowCursor) (e : j ≡ rowed (passedOf s k)) where
+    pub ready-passed : Ready s j
+    ready-passed =
+        subst (Ready s) (sym e) (record { row = refl; unit = ready .unit; place = ready .place; after = ready .after; next = placed-next })
+
+    pub turn-passed : turnOf s (cursorIn j) ≡ turnOf s k
+    turn-passed =
+        ap (λ (i : RowCursor). turnOf s (cursorIn i)) e ∙ sym (turn-given s (passedOf s k) placed-next) ∙ turn-given s k (ready .next)
