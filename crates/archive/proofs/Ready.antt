@@ -1,10 +1,10 @@
 -- The unit at a cursor from which one is next, by the class of the octet there: the element is what the class starts, under directions that refuse
 -- nothing, and since a unit is next it is not refused (`one-turn`, `two-turn`). A designation that is passed changes nothing of what is next
 -- (`ready-passed`, `turn-passed`), and the unit of `advance` is the one of the elements (`any-turn`).
-use Rattle.element.proofs.Names.{ℕ, _+_, _*_, _%_, _/_, _^_, _<_, _≤_, arith, _≡_, refl, ap, sym, _∙_, subst, Bool, true, false, List, [], _∷_, ltb}
-use Rattle.element.proofs.Names.{length, getD, eqb, ltb-true, ltb-false, pick, pick-by, test, clash, from, from-octet, from-end, UnitRecord, no-set, Side}
-use Rattle.element.proofs.Names.{GL, GR, part, next, get, put, designatedOf, stepOf, writtenOf, State, Sets, Part, Element, Refused, Silent, Found}
-use Rattle.element.proofs.Names.{Shape, Gives as Makes, on-lt, on-ge, End, le-ltb, on}
+use Rattle.element.proofs.Names.{ℕ, _+_, _*_, _%_, _/_, _^_, _<_, _≤_, arith, _≡_, refl, ap, sym, _∙_, subst, true, List, [], _∷_, eqb, ltb}
+use Rattle.element.proofs.Names.{length, getD, le-ltb, ltb-true, ltb-false, pick, pick-by, test, clash, on-lt, on-ge, from, from-octet, from-end}
+use Rattle.element.proofs.Names.{UnitRecord, no-set, Side, GL, GR, part, next, get, put, on, stepOf, writtenOf, State, Sets, Part, Shape, Gives as Makes}
+use Rattle.element.proofs.Names.{Element, Refused, Found}
 use native.Mathlib.Nat.{mod-eq-of-lt}
 use Rattle.base.specs.Kind as kind
 use Rattle.base.specs.Limit as limit
@@ -15,7 +15,7 @@ use Rattle.element.specs.Start.{Start, startIn, begunBy}
 use Rattle.element.specs.Start as start
 use Rattle.grammar.specs.Reading.{Elements, end-at, refused-at, silent-at, found-at, size}
 use Rattle.grammar.proofs.Elements.{at-nothing}
-use Rattle.grammar.proofs.Places.{ahead, ahead-from, ahead-is}
+use Rattle.grammar.proofs.Places.{ahead, ahead-from}
 use Rattle.designations.specs.Designation.{designationAt}
 use Rattle.designations.specs.declared.Designation.{Designation}
 use Rattle.designations.proofs.Designations.{designation-silent}
@@ -24,11 +24,10 @@ use Rattle.units.specs.Next.{outcomeOf, nextOf}
 use Rattle.units.specs.declared.Outcome.{Outcome}
 use Rattle.units.specs.declared.Outcome.the-variants.{Gives, Stops}
 use Rattle.units.proofs.Turn.{outcome, gives-end, gives-refused, gives-silent, gives-found}
-use Rattle.state.specs.State.{sets}
 use Rattle.cursor.specs.Cursor.{freed, cursor, stateIn, turn, outcomeTurn, elementTurn, placedOf, passedOf, twoOf, advanceOf}
 use Rattle.cursor.specs.declared.Cursor.{Cursor}
 use Rattle.cursor.specs.declared.Turn.{Turn}
-use Rattle.cursor.proofs.Free.{Like, like}
+use Rattle.cursor.proofs.Free.{like}
 use Rattle.cursor.proofs.Turns.{Turns, turns, advance-ahead}
 use Rattle.octet_table.specs.Table.{numberOf, classOf, rowOf}
 use Rattle.octet_table.proofs.Rule.{row-most, class-number}
@@ -36,7 +35,7 @@ use Rattle.archive.specs.Passes.{Classed}
 use Rattle.archive.specs.Turns.{rowed, cursorIn, movedBy, turnOf, Ready, ifCharacter, setBy, oneRecord}
 use Rattle.archive.specs.declared.turns.RowCursor.{RowCursor}
 use Rattle.archive.specs.declared.turns.RowTurn.{RowTurn}
-use Rattle.archive.proofs.Passes.{class-is, number-is}
+use Rattle.archive.proofs.Passes.{number-is}
 
 -- ---- what an octet gives, under directions that refuse nothing
 
@@ -66,6 +65,7 @@ data Two (s : Sets) (p : Part) : Element → Type 0 where
 abbrev twoPart : ℕ → ℕ → ℕ → Part
 twoPart b y set = part kind.character set (b % 128 * 256 + y % 128) 0 2 true
 
+-- text is not refused
 free-text : (s : Sets) (p : Part) → p .text ≡ true → directedOf (Makes p) (freed s) ≡ Found p (freed s)
 unfolding directedOf steppedOf stepOf writtenOf pick
 free-text s p e = rw e refl
@@ -84,6 +84,7 @@ two-cut b s d = refl
 
 -- ---- a unit that is next
 
+-- what gives a unit does not stop
 gives-stops : {u : UnitRecord} {p n m at : ℕ} {a st : State} {X : Type 0} → Gives u p a ≡ Stops n m at st → X
 gives-stops e = clash (cc)
 
@@ -95,6 +96,7 @@ some-record st (refused-at at n o) e = gives-stops (sym e)
 some-record st (silent-at at k next es) e = some-record next es e
 some-record st (found-at at p next es) e = omega arith
 
+-- what is next in a string that is not too long, and the turn of it
 next-short : (s : List ℕ) (at : ℕ) (st : State) → length s ≤ limit.octets → nextOf s at st ≡ outcome s at st
 unfolding nextOf pick
 next-short s at st h = rw (le-ltb limit.octets (length s) h) refl
@@ -102,7 +104,8 @@ next-short s at st h = rw (le-ltb limit.octets (length s) h) refl
 abbrev turned : UnitRecord → ℕ → State → RowTurn
 turned u p a = record { unit = u; cursor = rowed (cursor p a) }
 
-turn-given : (s : List ℕ) (j : Cursor) {u : UnitRecord} {p : ℕ} {a : State} → nextOf s (j .place) (stateIn j) ≡ Gives u p a → turned u p a ≡ turnOf s j
+turn-given : (s : List ℕ) (j : Cursor) {u : UnitRecord} {p : ℕ} {a : State} → nextOf s (j .place) (stateIn j) ≡ Gives u p a
+    → turned u p a ≡ turnOf s j
 unfolding elementTurn outcomeTurn
 turn-given s j e = ap (λ (o : Outcome). record { unit = outcomeTurn j o .unit; cursor = rowed (outcomeTurn j o .cursor) }) (sym e)
 
@@ -123,6 +126,7 @@ module _ (s : List ℕ) (c : RowCursor) (ready : Ready s c) where
   abbrev given : Outcome
   given = Gives (ready .unit) (ready .place) (ready .after)
 
+  -- the string is not too long, so it is what the elements give
   short : length s ≤ limit.octets
   unfolding nextOf pick
   short =
@@ -135,6 +139,7 @@ module _ (s : List ℕ) (c : RowCursor) (ready : Ready s c) where
   turn-is : {u : UnitRecord} {p : ℕ} {a : State} → Gives u p a ≡ outcome s at st → turned u p a ≡ turnOf s k
   turn-is e = turn-given s k (next-short s at st short ∙ sym e)
 
+  -- neither a refusal nor the end stands at the cursor
   no-refusal : {n o : ℕ} {X : Type 0} → Refused n o ≡ elementOf (from at s) st → X
   no-refusal e = gives-stops (sym gives ∙ sym (gives-refused s at st _ e refl))
 
@@ -177,6 +182,7 @@ module _ (s : List ℕ) (c : RowCursor) (ready : Ready s c) where
     number : numberOf (startIn (st .sets) b) ≡ n
     number = number-is (st .sets) b (c .row) n (x .octet) (sym (ready .row)) (x .is)
 
+    -- the element is what the class of its first octet starts
     begun : begins (startIn (st .sets) b) (from (at + 1) s) ≡ elementOf (from at s) st
     unfolding shapeOf
     begun = ap (λ (t : List ℕ). elementOf t st) (sym (from-octet s at inside))

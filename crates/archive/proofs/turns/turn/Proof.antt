@@ -1,5 +1,5 @@
 -- `archive::turns::turn` meets its contract: a designation that is passed changes nothing of what is next.
-use Rattle.element.proofs.Names.{arith, _∙_}
+use Rattle.element.proofs.Names.{_∙_}
 use Rattle.archive.proofs.Ready.{inside, ready-passed, turn-passed}
 use Rattle.archive.proofs.turns.turn.Statement.{statement}
 use Rattle.archive.proofs.turns.turn.Tie as tie
