@@ -1,19 +1,21 @@
 -- The unit at a cursor from which one is next, by the class of the octet there: the element is what the class starts, under directions that refuse
 -- nothing, and since a unit is next it is not refused (`one-turn`, `two-turn`). A designation that is passed changes nothing of what is next
 -- (`ready-passed`, `turn-passed`), and the unit of `advance` is the one of the elements (`any-turn`).
-use Rattle.element.proofs.Names.{ℕ, _+_, _*_, _%_, _/_, _^_, _<_, _≤_, arith, _≡_, refl, ap, sym, _∙_, subst, Bool, true, false, List, [], _∷_, ltb}
-use Rattle.element.proofs.Names.{length, getD, eqb, ltb-true, ltb-false, pick, pick-by, test, clash, from, from-octet, from-end, UnitRecord, no-set, Side}
-use Rattle.element.proofs.Names.{GL, GR, part, next, get, put, designatedOf, stepOf, writtenOf, State, Sets, Part, Element, Refused, Silent, Found}
+use Rattle.element.proofs.Names.{ℕ, _+_, _*_, _%_, _/_, _^_, _<_, _≤_, arith, _≡_, refl, ap, sym, _∙_, subst, true, List, [], _∷_, eqb, ltb}
+use Rattle.element.proofs.Names.{length, getD, le-ltb, ltb-true, ltb-false, pick, pick-by, test, clash, on-lt, on-ge, from, from-octet, from-end}
+use Rattle.element.proofs.Names.{UnitRecord, no-set, Side, GL, GR, part, next, get, put, on, stepOf, writtenOf, State, Sets, Part, Shape, Gives as Makes}
+use Rattle.element.proofs.Names.{Element, Refused, Found}
 use native.Mathlib.Nat.{mod-eq-of-lt}
 use Rattle.base.specs.Kind as kind
 use Rattle.base.specs.Limit as limit
+use Rattle.base.specs.Refusal as refusal
 use Rattle.text.specs.Text.{secondOctetOf, graphicOf}
 use Rattle.element.specs.Element.{shapeOf, steppedOf, directedOf, elementOf}
 use Rattle.element.specs.Start.{Start, startIn, begunBy}
 use Rattle.element.specs.Start as start
 use Rattle.grammar.specs.Reading.{Elements, end-at, refused-at, silent-at, found-at, size}
 use Rattle.grammar.proofs.Elements.{at-nothing}
-use Rattle.grammar.proofs.Places.{ahead, ahead-from, ahead-is}
+use Rattle.grammar.proofs.Places.{ahead, ahead-from}
 use Rattle.designations.specs.Designation.{designationAt}
 use Rattle.designations.specs.declared.Designation.{Designation}
 use Rattle.designations.proofs.Designations.{designation-silent}
@@ -22,18 +24,18 @@ use Rattle.units.specs.Next.{outcomeOf, nextOf}
 use Rattle.units.specs.declared.Outcome.{Outcome}
 use Rattle.units.specs.declared.Outcome.the-variants.{Gives, Stops}
 use Rattle.units.proofs.Turn.{outcome, gives-end, gives-refused, gives-silent, gives-found}
-use Rattle.state.specs.State.{sets}
 use Rattle.cursor.specs.Cursor.{freed, cursor, stateIn, turn, outcomeTurn, elementTurn, placedOf, passedOf, twoOf, advanceOf}
 use Rattle.cursor.specs.declared.Cursor.{Cursor}
 use Rattle.cursor.specs.declared.Turn.{Turn}
-use Rattle.cursor.proofs.Free.{Like, like}
+use Rattle.cursor.proofs.Free.{like}
 use Rattle.cursor.proofs.Turns.{Turns, turns, advance-ahead}
 use Rattle.octet_table.specs.Table.{numberOf, classOf, rowOf}
+use Rattle.octet_table.proofs.Rule.{row-most, class-number}
 use Rattle.archive.specs.Passes.{Classed}
 use Rattle.archive.specs.Turns.{rowed, cursorIn, movedBy, turnOf, Ready, ifCharacter, setBy, oneRecord}
 use Rattle.archive.specs.declared.turns.RowCursor.{RowCursor}
 use Rattle.archive.specs.declared.turns.RowTurn.{RowTurn}
-use Rattle.archive.proofs.Passes.{class-is, number-is}
+use Rattle.archive.proofs.Passes.{number-is}
 
 -- ---- what an octet gives, under directions that refuse nothing
 
@@ -63,22 +65,52 @@ data Two (s : Sets) (p : Part) : Element → Type 0 where
 abbrev twoPart : ℕ → ℕ → ℕ → Part
 twoPart b y set = part kind.character set (b % 128 * 256 + y % 128) 0 2 true
 
+-- text is not refused
+free-text : (s : Sets) (p : Part) → p .text ≡ true → directedOf (Makes p) (freed s) ≡ Found p (freed s)
+unfolding directedOf steppedOf stepOf writtenOf pick
+free-text s p e = rw e refl
+
 two-found : (b y : ℕ) (t : List ℕ) (s : Sets) (d : Side)
     → Two s (twoPart b y (get d s)) (directedOf (begunBy (start.two d) b (y ∷ t) s) (freed s))
-unfolding begunBy secondOctetOf next directedOf steppedOf stepOf writtenOf
-two-found b y t s d =
-    pick-by (λ x. Two s (twoPart b y (get d s)) (directedOf x (freed s))) (eqb (y / 128) (b / 128))
-    (λ _. pick-by (λ x. Two s (twoPart b y (get d s)) (directedOf x (freed s))) (graphicOf (y % 128)) (λ _. ?) (λ _. refused))
-    (λ _. refused)
-
-two-cut : (b : ℕ) (s : Sets) (d : Side) → Two s (twoPart b 0 (get d s)) (directedOf (begunBy (start.two d) b [] s) (freed s))
 unfolding begunBy secondOctetOf next directedOf
-two-cut b s d = refused
+two-found b y t s d =
+    let P : Shape → Type 0 = λ x. Two s (twoPart b y (get d s)) (directedOf x (freed s)) in
+    let e = free-text s (twoPart b y (get d s)) refl in
+    pick-by P (eqb (y / 128) (b / 128)) (λ _. pick-by P (graphicOf (y % 128)) (λ _. subst (Two s _) (sym e) found) (λ _. refused)) (λ _. refused)
+
+two-cut : (b : ℕ) (s : Sets) (d : Side) → Refused refusal.cut 1 ≡ directedOf (begunBy (start.two d) b [] s) (freed s)
+unfolding begunBy secondOctetOf next directedOf
+two-cut b s d = refl
 
 -- ---- a unit that is next
 
+-- what gives a unit does not stop
 gives-stops : {u : UnitRecord} {p n m at : ℕ} {a st : State} {X : Type 0} → Gives u p a ≡ Stops n m at st → X
-gives-stops e = absurd ?
+gives-stops e = clash (cc)
+
+-- elements that give a unit have a record
+some-record : (st : State) (es : Elements) {u : UnitRecord} {p : ℕ} {a : State} → outcomeOf st es ≡ Gives u p a → 1 ≤ length (recordsFrom es)
+unfolding outcomeOf recordsFrom
+some-record st (end-at at) e = gives-stops (sym e)
+some-record st (refused-at at n o) e = gives-stops (sym e)
+some-record st (silent-at at k next es) e = some-record next es e
+some-record st (found-at at p next es) e = omega arith
+
+-- what is next in a string that is not too long, and the turn of it
+next-short : (s : List ℕ) (at : ℕ) (st : State) → length s ≤ limit.octets → nextOf s at st ≡ outcome s at st
+unfolding nextOf pick
+next-short s at st h = rw (le-ltb limit.octets (length s) h) refl
+
+abbrev turned : UnitRecord → ℕ → State → RowTurn
+turned u p a = record { unit = u; cursor = rowed (cursor p a) }
+
+turn-given : (s : List ℕ) (j : Cursor) {u : UnitRecord} {p : ℕ} {a : State} → nextOf s (j .place) (stateIn j) ≡ Gives u p a
+    → turned u p a ≡ turnOf s j
+unfolding elementTurn outcomeTurn
+turn-given s j e = ap (λ (o : Outcome). record { unit = outcomeTurn j o .unit; cursor = rowed (outcomeTurn j o .cursor) }) (sym e)
+
+given-turn : {r : Turn} {u : UnitRecord} {p : ℕ} {a : State} → Turns r (Gives u p a) → r ≡ turn u (cursor p a)
+given-turn (turns like) = refl
 
 module _ (s : List ℕ) (c : RowCursor) (ready : Ready s c) where
   abbrev k : Cursor
@@ -90,13 +122,131 @@ module _ (s : List ℕ) (c : RowCursor) (ready : Ready s c) where
   abbrev at : ℕ
   at = c .place
 
-  short-by : (b : Bool) → ltb limit.octets (length s) ≡ b
-      → pick b (Stops 1 0 at st) (outcome s at st) ≡ Gives (ready .unit) (ready .place) (ready .after)
-      → (length s ≤ limit.octets) × (outcome s at st ≡ Gives (ready .unit) (ready .place) (ready .after))
-  unfolding pick
-  short-by true e h = gives-stops (sym h)
-  short-by false e h = (ltb-false _ _ e, h)
+  -- what is next, as it is given
+  abbrev given : Outcome
+  given = Gives (ready .unit) (ready .place) (ready .after)
 
-  facts : (length s ≤ limit.octets) × (outcome s at st ≡ Gives (ready .unit) (ready .place) (ready .after))
-  unfolding nextOf
-  facts = short-by (ltb limit.octets (length s)) refl (ready .next)
+  -- the string is not too long, so it is what the elements give
+  short : length s ≤ limit.octets
+  unfolding nextOf pick
+  short =
+      test (ltb limit.octets (length s)) (λ e. gives-stops (sym (rw e at (ready .next)))) (λ e. ltb-false _ _ e)
+
+  gives : outcome s at st ≡ given
+  gives = sym (next-short s at st short) ∙ ready .next
+
+  -- the turn is that of the unit that the elements give
+  turn-is : {u : UnitRecord} {p : ℕ} {a : State} → Gives u p a ≡ outcome s at st → turned u p a ≡ turnOf s k
+  turn-is e = turn-given s k (next-short s at st short ∙ sym e)
+
+  -- neither a refusal nor the end stands at the cursor
+  no-refusal : {n o : ℕ} {X : Type 0} → Refused n o ≡ elementOf (from at s) st → X
+  no-refusal e = gives-stops (sym gives ∙ sym (gives-refused s at st _ e refl))
+
+  pub inside : at < length s
+  inside =
+      test (ltb at (length s)) (ltb-true _ _)
+      (λ e. let f = ap (λ (t : List ℕ). elementOf t st) (from-end s at (ltb-false _ _ e)) ∙ at-nothing st in
+      gives-stops (sym gives ∙ sym (gives-end s at st _ refl f)))
+
+  pub row-fits : c .row ≤ 1280
+  row-fits = rw (ready .row) (row-most (st .sets))
+
+  -- a unit of so many octets, which leaves the sets
+  found-turn : (p : Part) (n : ℕ) (r : UnitRecord) (j : RowCursor) → Found p st ≡ elementOf (from at s) st → p .skip ≡ 0 → p .octets ≡ n
+      → r ≡ record { kind = p .kind; set = p .set; code = p .code; start = at % 2 ^ 32; length = n } → j ≡ movedBy c n
+      → record { unit = r; cursor = j } ≡ turnOf s k
+  found-turn p n r j e z l i m =
+      let q : at % 2 ^ 32 ≡ at + p .skip = mod-eq-of-lt (omega (arith, inside, short)) ∙ (let x : at ≡ at + p .skip = omega arith in x) in
+      let o : at + n ≡ at + size p = omega arith in
+      let f : r ≡ recordOf p at = i ∙ rw (q, l) refl in
+      let g : j ≡ rowed (cursor (at + size p) st) = m ∙ rw (ready .row, o) refl in
+      rw (f, g) (turn-is (gives-found s at st _ e refl refl))
+
+  -- any unit, as `advance` reads it
+  pub any-turn : (r : Turn) (j : RowCursor) → r ≡ advanceOf s k → j ≡ rowed (r .cursor) → record { unit = r .unit; cursor = j } ≡ turnOf s k
+  any-turn r j e m =
+      let a = advance-ahead s short (ahead-from s at st) like (some-record st (ahead s at st) gives) in
+      let f = e ∙ given-turn (rw gives at a) in
+      rw m (ap (λ (x : Turn). record { unit = x .unit; cursor = rowed (x .cursor) }) f ∙ turn-is (sym gives))
+
+  -- ---- by the class of the octet at the cursor
+
+  module _ (n : ℕ) (x : Classed (c .row) s at n) where
+    abbrev b : ℕ
+    b = getD s at 0
+
+    abbrev begins : Start → List ℕ → Element
+    begins i t = directedOf (begunBy i b t (st .sets)) st
+
+    number : numberOf (startIn (st .sets) b) ≡ n
+    number = number-is (st .sets) b (c .row) n (x .octet) (sym (ready .row)) (x .is)
+
+    -- the element is what the class of its first octet starts
+    begun : begins (startIn (st .sets) b) (from (at + 1) s) ≡ elementOf (from at s) st
+    unfolding shapeOf
+    begun = ap (λ (t : List ℕ). elementOf t st) (sym (from-octet s at inside))
+
+    pub one-turn : (r : UnitRecord) (j : RowCursor) → n ≤ 4 → r ≡ oneRecord at b n (setBy n (c .gl) (c .gr)) → j ≡ movedBy c 1
+        → record { unit = r; cursor = j } ≡ turnOf s k
+    one-turn r j h i m =
+        let e = sym (one-found b (from (at + 1) s) (st .sets) (startIn (st .sets) b) (rw number h)) ∙ begun in
+        found-turn (onePart b n (st .sets)) 1 r j (rw number at e) refl refl i m
+
+    module _ (d : Side) (e : n ≡ numberOf (start.two d)) where
+      pair : begins (start.two d) (from (at + 1) s) ≡ elementOf (from at s) st
+      pair =
+          let f = sym (class-number (startIn (st .sets) b)) ∙ ap classOf (number ∙ e) ∙ class-number (start.two d) in
+          rw f at begun
+
+      pub two-inside : at + 1 < length s
+      two-inside =
+          test (ltb (at + 1) (length s)) (ltb-true _ _)
+          (λ f. no-refusal (two-cut b (st .sets) d ∙ ap (begins (start.two d)) (sym (from-end s (at + 1) (ltb-false _ _ f))) ∙ pair))
+
+      not-refused : {p : Part} {o : Element} → Two (st .sets) p o → o ≡ elementOf (from at s) st → Found p st ≡ elementOf (from at s) st
+      not-refused refused i = no-refusal i
+      not-refused found i = i
+
+      pub two-turn : (r : UnitRecord) (j : RowCursor) → r ≡ twoOf at b (getD s (at + 1) 0) (get d (st .sets)) → j ≡ movedBy c 2
+          → record { unit = r; cursor = j } ≡ turnOf s k
+      two-turn r j i m =
+          let y = getD s (at + 1) 0 in
+          let f = ap (begins (start.two d)) (sym (from-octet s (at + 1) two-inside)) ∙ pair in
+          found-turn (twoPart b y (get d (st .sets))) 2 r j (not-refused (two-found b y (from (at + 1 + 1) s) (st .sets) d) f) refl refl i m
+
+  -- ---- a designation at the cursor
+
+  -- the cursor after it, as the code makes it
+  pub placed-is : (d : Designation) (row : ℕ) (v : Side) → d ≡ designationAt (from at s) → d .set < no-set → d .side ≡ v
+      → row ≡ rowOf (put (on v (d .set)) (st .sets))
+      → record { place = at + d .octets; row = row; gl = put (on v (d .set)) (st .sets) .gl; gr = put (on v (d .set)) (st .sets) .gr }
+      ≡ rowed (passedOf s k)
+  unfolding passedOf placedOf
+  placed-is d row v e h i q =
+      let f = on-lt (d .set) no-set _ _ k h refl in
+      rw (q, ← i) (ap rowed (f ∙ ap (placedOf k) e))
+
+  pub none-is : (d : Designation) → d ≡ designationAt (from at s) → no-set ≤ d .set → c ≡ rowed (passedOf s k)
+  unfolding passedOf placedOf
+  none-is d e h =
+      let f : c ≡ rowed k = ap (λ (n : ℕ). record { place = at; row = n; gl = c .gl; gr = c .gr }) (ready .row) in
+      f ∙ ap rowed (on-ge (d .set) no-set k _ k h refl ∙ ap (placedOf k) e)
+
+  -- what is next after it is what was next
+  placed-next : nextOf s (passedOf s k .place) (stateIn (passedOf s k)) ≡ given
+  unfolding passedOf placedOf
+  placed-next =
+      let d = designationAt (from at s) in
+      pick-by (λ j. nextOf s (j .place) (stateIn j) ≡ given) (ltb (d .set) no-set)
+      (λ h. next-short s _ _ short ∙ gives-silent s at st _ (designation-silent (from at s) st d refl (ltb-true _ _ h)) refl ∙ gives)
+      (λ _. ready .next)
+
+  module _ (j : RowCursor) (e : j ≡ rowed (passedOf s k)) where
+    pub ready-passed : Ready s j
+    ready-passed =
+        subst (Ready s) (sym e) (record { row = refl; unit = ready .unit; place = ready .place; after = ready .after; next = placed-next })
+
+    pub turn-passed : turnOf s (cursorIn j) ≡ turnOf s k
+    turn-passed =
+        ap (λ (i : RowCursor). turnOf s (cursorIn i)) e ∙ sym (turn-given s (passedOf s k) placed-next) ∙ turn-given s k (ready .next)

@@ -1,0 +1,7 @@
+-- `archive::turns::RowCursor::first` meets its contract, by the row of its sets.
+use Rattle.element.proofs.Names.{arith}
+use Rattle.archive.proofs.turns.RowCursor.first.Statement.{statement}
+use Rattle.archive.proofs.turns.RowCursor.first.Tie as tie
+
+pub first-spec : {M : Type 1} → statement M
+first-spec = tie.close (tie.spec (search arith) (λ c. rw (c .row-of .ensures)))
