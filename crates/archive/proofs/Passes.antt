@@ -54,7 +54,7 @@ module _ (st : State) (s : List ℕ) where
   leaves-more at i j n m = leads-more s at i j n m st st st
 
   -- an element that gives a unit and leaves the state
-  leaves-one : (at w : ℕ) → One w st (elementOf (from at s) st) → Leaves st s at (at + w) 1
+  pub leaves-one : (at w : ℕ) → One w st (elementOf (from at s) st) → Leaves st s at (at + w) 1
   unfolding answerOf
   leaves-one at w u =
       let t = step-passed s at st (elementOf (from at s) st) refl found (u .is) in

@@ -1,9 +1,105 @@
--- A turn of the loop of `check_by`: what it passes at once leads on (`turn-leads`), and so does text that is next, where neither text nor a mark
--- was read, with text marked as read (`begun-leads`). The other turns are those of the first reader's check (check_string/proofs/Turn).
-use Rattle.element.proofs.Names.{ℕ, _+_, _<_, _≤_, arith, _≡_, refl, ap, sym, _∙_, List, length, State}
+-- A turn of the loop of `check_by`: what it passes at once leads on (`turn-on`): tabs and newlines, whatever the state (`blanks-lead`), and text
+-- that is next, where neither text nor a mark was read, with text marked as read (`begun-leads`). The other turns are those of the first
+-- reader's check (check_string/proofs/Turn).
+use Rattle.element.proofs.Names.{ℕ, _+_, _-_, _<_, _≤_, arith, _≡_, refl, ap, sym, _∙_, true, false, false≢true, List, [], _∷_, leb, length, getD, le-leb}
+use Rattle.element.proofs.Names.{from, from-octet, pick, pick-by, eqb, ltb, directions, writtenOf, stepOf, next, get, State, Sets, Directions, Part, Shape}
+use Rattle.element.proofs.Names.{Refuses, Gives, Goes, form-94x94}
+use Rattle.base.proofs.Bools.{upTo, up-to-where, implies}
+use Rattle.state.specs.State.{directedTo}
+use Rattle.text.specs.Text.{graphicOf, secondOctetOf}
+use Rattle.element.specs.Element.{shapeOf, steppedOf, directedOf, elementOf}
+use Rattle.element.specs.Start.{Start, startOf, leftStart, characterStart, usedIn, startIn, begunBy}
+use Rattle.element.specs.Start as start
+use Rattle.grammar.specs.Reading.{Elements, elements, onward, answerOf}
 use Rattle.check_string.proofs.Turn.{Head}
-use Rattle.archive.specs.Passes.{Leads}
+use Rattle.octet_table.specs.Table.{numberOf, ruleOf, rowOf}
+use Rattle.stretch.specs.Characters.{glOctet, grOctet, singleOf, oneAt}
+use Rattle.stretch.proofs.Starts.{blank-octet}
+use Rattle.archive.specs.Passes.{Leads, Leaves, Classed, Ones, textClass}
+use Rattle.archive.proofs.Passes.{leaves-one, ones-leads, number-is}
 
 module _ (s : List ℕ) (at count : ℕ) (st : State) (h : Head s at count st) where
-  pub turn-leads : (i n : ℕ) (to : State) → Leads s at st i to n → Head s i (count + n) to
+  turn-leads : (i n : ℕ) (to : State) → Leads s at st i to n → Head s i (count + n) to
   turn-leads i n to l = record { within = l .within; few = omega (arith, h .few, l .since); same = l .same count ∙ h .same }
+
+-- the two of a turn, one after the other
+pub turn-on : (s : List ℕ) (at count : ℕ) (st : State) → Head s at count st → (to : State) → Leads s at st at to 0 → (i n : ℕ) (too : State)
+    → Leads s at to i too n → Head s i (count + n) too
+turn-on s at count st h to a i n too b =
+    let e : count + 0 ≡ count = omega arith in
+    turn-leads s at count to (rw e at (turn-leads s at count st h at 0 to a)) i n too b
+
+-- ---- tabs and newlines
+
+-- of the row of two octets in GL and GR they alone are units of one octet: a test that antt computes
+blank-rule : upTo 256 (λ b. implies (leb (ruleOf (1280 + b)) 4) (singleOf form-94x94 0 b)) ≡ true
+unfolding ruleOf numberOf startOf leftStart characterStart usedIn graphicOf singleOf glOctet grOctet pick
+blank-rule = refl
+
+pub blanks-lead : (st : State) (s : List ℕ) (at i : ℕ) → Ones 1280 s at i → Leaves st s at i (i - at)
+unfolding oneAt
+blanks-lead st s at i o =
+    ones-leads 1280 st s
+    (λ j h b k.
+    let e = up-to-where 256 (λ x. leb (ruleOf (1280 + x)) 4) (λ x. singleOf form-94x94 0 x) blank-rule (getD s j 0) b (le-leb _ _ k) in
+    leaves-one st s j 1 (rw (from-octet s j h) (blank-octet st (getD s j 0) (from (j + 1) s) e)))
+    at i o
+
+-- ---- text, where no mark was read
+
+-- the directions after text
+abbrev pub texted : Directions → Directions
+texted d = directions (d .depth) (d .levels) (d .marked) true
+
+-- a shape that is refused, or gives text
+data Textual : Shape → Type 0 where
+  refuses : {n o : ℕ} → Textual (Refuses n o)
+  gives : {p : Part} → p .text ≡ true → Textual (Gives p)
+
+second-textual : (set b : ℕ) (t : List ℕ) → Textual (secondOctetOf set b t)
+unfolding secondOctetOf next
+second-textual set b [] = refuses
+second-textual set b (y ∷ t) =
+    pick-by Textual _ (λ _. pick-by Textual _ (λ _. gives refl) (λ _. refuses)) (λ _. refuses)
+
+textual : (c : Start) (b : ℕ) (t : List ℕ) (s : Sets) → textClass (numberOf c) ≡ true → Textual (begunBy c b t s)
+unfolding begunBy numberOf textClass pick
+textual start.escape b t s h = absurd (false≢true h)
+textual start.mark b t s h = absurd (false≢true h)
+textual start.tab b t s h = absurd (false≢true h)
+textual start.newline b t s h = absurd (false≢true h)
+textual start.space b t s h = gives refl
+textual start.unused b t s h = absurd (false≢true h)
+textual (start.one d) b t s h = gives refl
+textual (start.two d) b t s h = second-textual (get d s) b t
+
+-- is the same element with text marked as read
+module _ (st : State) (unmarked : st .directions .marked ≡ false) where
+  abbrev to : State
+  to = directedTo (texted (st .directions)) st
+
+  goes : writtenOf (st .directions) ≡ Goes (texted (st .directions))
+  unfolding writtenOf pick
+  goes = rw unmarked
+
+  goes-on : writtenOf (to .directions) ≡ Goes (texted (st .directions))
+  unfolding writtenOf pick
+  goes-on = rw unmarked
+
+  same-directed : {x : Shape} → Textual x → directedOf x to ≡ directedOf x st
+  unfolding directedOf stepOf steppedOf pick
+  same-directed refuses = refl
+  same-directed (gives {p} e) = rw (e, goes, goes-on)
+
+  pub begun-leads : (s : List ℕ) (at k : ℕ) → Classed (rowOf (st .sets)) s at k → textClass k ≡ true → Leads s at st at to 0
+  unfolding elements shapeOf
+  begun-leads s at k c h =
+      let n = number-is (st .sets) (getD s at 0) (rowOf (st .sets)) k (c .octet) refl (c .is) in
+      let e = same-directed (textual (startIn (st .sets) (getD s at 0)) (getD s at 0) (from (at + 1) s) (st .sets) (rw n h)) in
+      record {
+        since = omega arith;
+        within = omega (arith, c .inside);
+        same = λ count.
+            let z : count + 0 ≡ count = omega arith in
+            rw (z, from-octet s at (c .inside)) (ap (λ x. answerOf count (onward at x (λ m next. elements (from (at + 1) s) m (at + 1) next))) e);
+      }

@@ -43,7 +43,13 @@ fn begun(t: &[u8], s: &[u8], at: usize, st: State) -> State
 {
     let mut directions = st.directions;
     let sets = st.sets;
-    if directions.marked || directions.texted || s.len() <= at {
+    if directions.marked {
+        return st;
+    }
+    if directions.texted {
+        return st;
+    }
+    if s.len() <= at {
         return st;
     }
     if text_class(class_at(t, s, at, row_of(sets.gl, sets.gr))) {

@@ -25,13 +25,13 @@ designated-spec =
     (λ c. rw (c .reached .ensures) (c .before .before .before .loop .inv))
     (λ c. let found = c .before .before in
     omega (arith, designation-some _ _ _ (found .designation-at .ensures) (c .before .if1 .left) .1))
-    (λ c. tt)
+    (search arith)
     (λ c. let found = c .before .before .before .before in
     let some = designation-some _ _ _ (found .designation-at .ensures) (c .before .before .before .if1 .left) in omega (arith, some .0, some .1))
     (λ c. let found = c .before .before .before .before in
     reaches-side _ _ _ _ _ _ (found .before .loop .inv) _ (found .designation-at .ensures) (c .before .before .before .if1 .left) GL
     (c .enum-told .given .1))
-    (λ c. tt)
+    (search arith)
     (λ c. let found = c .before .before .before .before in
     let some = designation-some _ _ _ (found .designation-at .ensures) (c .before .before .before .if1 .left) in omega (arith, some .0, some .1))
     (λ c. let found = c .before .before .before .before in

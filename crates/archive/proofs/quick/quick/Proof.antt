@@ -24,19 +24,29 @@ quick-spec =
     (λ c κs. tt)
     (λ c κs. let pre = c .before .before .before .pre in omega (arith, pre .1, pre .2))
     (λ c. (reaches-none _ _ _ (c .before .before .before .before .pre .1), c .before .row-of .ensures, c .nearer .ensures (omega arith)))
-    (λ c κs. ?)
-    (λ c κs. ?)
-    (λ c. ?)
-    (λ c. ?)
-    (λ c κs. ?)
-    (λ c. ?)
-    (λ c. ?)
-    (λ c κs. ?)
+    (λ c κs. let pre = c .before .before .before .before .before .before .pre in (pre .0, row-low _ _ (c .before .loop .inv .1), c .loop-test .taken))
+    (λ c κs. let pre = c .before .before .before .before .before .before .before .before .pre in
+    (pre .0, row-low _ _ (c .before .before .before .loop .inv .1), c .if1 .taken, c .before .width .ensures (c .if1 .taken)))
+    (λ c. omega (arith, c .before .onward .ensures .1 .within))
+    (λ c. let inv = c .before .before .before .before .before .before .loop .inv in
+    let u = c .before .before .onward .ensures .1 in omega (arith, inv .0 .since, u .since, u .within))
+    (λ c κs. let pre = c .before .before .before .before .before .before .before .before .before .before .before .pre in
+    omega (arith, c .before .before .onward .ensures .1 .within, pre .2))
+    (λ c. let u = c .before .before .before .onward .ensures in omega (arith, u .0, u .1 .within))
+    (λ c. let inv = c .before .before .before .before .before .before .before .loop .inv in
+    (reaches-units _ _ _ _ _ _ _ _ _ (inv .0) (inv .1) (c .before .before .before .onward .ensures .1), inv .1, c .nearer2 .ensures (inv .2)))
+    (λ c κs. omega (arith, c .before .before .loop-test .taken))
     (λ c κs. tt)
     (λ c. rw (c .reached .ensures) (c .before .before .before .before .before .before .before .loop .inv .0))
     (λ c κs. tt)
-    (λ c κs. ?)
-    (λ c. ?)
-    (λ c. ?)
+    (λ c κs. let pre = c .before .before .before .before .before .before .before .before .before .before .before .before .pre in
+    omega (arith, c .before .before .before .designated .ensures .within, pre .2))
+    (λ c. let d = c .before .before .before .before .designated .ensures in
+    omega (arith, d .since, d .within, c .before .before .if2 .left))
+    (λ c. let inv = c .before .before .before .before .before .before .before .before .loop .inv in (
+      reaches-on _ _ _ _ _ _ _ _ (inv .0) (c .before .before .before .before .designated .ensures),
+      c .before .row-of2 .ensures,
+      c .nearer3 .ensures (omega arith),
+    ))
     (λ c κs. tt)
     (λ c. rw (c .reached2 .ensures) (c .before .before .loop .inv .0)))

@@ -1,0 +1,162 @@
+-- `archive::whole::check_by` meets its contract: at each turn of the loop what is left answers what the whole string does (`Head`). What is passed at
+-- once leads on (`turn-on`), and the element after it is a turn of the first reader's check.
+use Rattle.element.proofs.Names.{_-_, arith, _∙_, length, on-lt, on-ge}
+use Rattle.grammar.specs.Reading.{checkOf}
+use Rattle.check_string.proofs.Turn.{Head, head-first, turn-done, turn-ends, turn-short, turn-refuses, turn-designates, turn-stops, turn-goes}
+use Rattle.archive.proofs.Turn.{turn-on}
+use Rattle.archive.proofs.whole.check_by.Statement.{statement}
+use Rattle.archive.proofs.whole.check_by.Tie as tie
+
+abbrev Inv-loop : tie.InvT-loop
+Inv-loop t s at₀ count₀ st₀ at count st = Head s at count st
+
+abbrev μ-loop : tie.MeasureT-loop
+μ-loop t s at₀ count₀ st₀ at count st = length s - at
+
+returns-2 : tie.Need-returns-2 Inv-loop μ-loop
+unfolding checkOf
+returns-2 c =
+    let passed = c .before .before .before in
+    let head = turn-on _ _ _ _ (passed .before .before .before .loop .inv) _ (passed .before .before .begun .ensures) _ _ _ (passed .passed .ensures) in
+    on-ge _ _ _ _ _ (passed .before .before .before .before .if1 .left) (c .accepted .ensures ∙ turn-done _ _ _ _ head (c .before .if2 .taken))
+
+returns-3 : tie.Need-returns-3 Inv-loop μ-loop
+unfolding checkOf
+returns-3 c =
+    let formed = c .before .before .before in
+    let head = turn-on _ _ _ _ (formed .before .before .before .before .before .before .loop .inv) _ (formed .before .before .before .before .before .begun .ensures) _ _ _ (formed .before .before .before .passed .ensures) in
+    let h = turn-ends _ _ _ _ head _ (formed .shape .ensures) (c .before .enum-told .given .1) in
+    on-ge _ _ _ _ _ (formed .before .before .before .before .before .before .before .if1 .left) (c .accepted2 .ensures ∙ h)
+
+add-place : tie.Need-add-place Inv-loop μ-loop
+add-place c =
+    let formed = c .before .before .before in
+    let head = turn-on _ _ _ _ (formed .before .before .before .before .before .before .loop .inv) _ (formed .before .before .before .before .before .begun .ensures) _ _ _ (formed .before .before .before .passed .ensures) in
+    let h = turn-short _ _ _ _ head _ (formed .shape .ensures) (c .before .shape2 .given .1) in
+    omega (arith, h)
+
+returns-4 : tie.Need-returns-4 Inv-loop μ-loop
+unfolding checkOf
+returns-4 c =
+    let formed = c .before .before .before .before in
+    let head = turn-on _ _ _ _ (formed .before .before .before .before .before .before .loop .inv) _ (formed .before .before .before .before .before .begun .ensures) _ _ _ (formed .before .before .before .passed .ensures) in
+    let h = turn-refuses _ _ _ _ head _ (formed .shape .ensures) (c .before .before .shape2 .given .1) in
+    on-ge _ _ _ _ _ (formed .before .before .before .before .before .before .before .if1 .left) (c .refused2 .ensures ∙ h)
+
+add-at : tie.Need-add-at Inv-loop μ-loop
+add-at c =
+    let formed = c .before .before .before in
+    let head = turn-on _ _ _ _ (formed .before .before .before .before .before .before .loop .inv) _ (formed .before .before .before .before .before .begun .ensures) _ _ _ (formed .before .before .before .passed .ensures) in
+    let h = turn-designates _ _ _ _ head _ (formed .shape .ensures) (c .before .shape3 .given .1) in
+    omega (arith, h .fits)
+
+loop-less : tie.Need-loop-less Inv-loop μ-loop
+loop-less c =
+    let formed = c .before .before .before .before in
+    let head = turn-on _ _ _ _ (formed .before .before .before .before .before .before .loop .inv) _ (formed .before .before .before .before .before .begun .ensures) _ _ _ (formed .before .before .before .passed .ensures) in
+    let h = turn-designates _ _ _ _ head _ (formed .shape .ensures) (c .before .before .shape3 .given .1) in
+    omega (arith, h .fits, h .some, formed .before .before .before .passed .ensures .since)
+
+loop-again : tie.Need-loop-again Inv-loop μ-loop
+loop-again c =
+    let formed = c .before .before .before .before in
+    let head = turn-on _ _ _ _ (formed .before .before .before .before .before .before .loop .inv) _ (formed .before .before .before .before .before .begun .ensures) _ _ _ (formed .before .before .before .passed .ensures) in
+    let h = turn-designates _ _ _ _ head _ (formed .shape .ensures) (c .before .before .shape3 .given .1) in
+    rw (c .designated .ensures) (h .head)
+
+returns-5 : tie.Need-returns-5 Inv-loop μ-loop
+unfolding checkOf
+returns-5 c =
+    let asked = c .before .before .before .before in
+    let formed = asked .before .before .before .before in
+    let head = turn-on _ _ _ _ (formed .before .before .before .before .before .before .loop .inv) _ (formed .before .before .before .before .before .begun .ensures) _ _ _ (formed .before .before .before .passed .ensures) in
+    let h = turn-stops _ _ _ _ head _ (formed .shape .ensures) (asked .before .before .shape4 .given .1) (asked .step .ensures)
+    (c .before .before .step2 .given .1) in
+    on-ge _ _ _ _ _ (formed .before .before .before .before .before .before .before .if1 .left) (c .refused3 .ensures ∙ h)
+
+add-at-2 : tie.Need-add-at-2 Inv-loop μ-loop
+add-at-2 c =
+    let asked = c .before .before .before .before in
+    let formed = asked .before .before .before .before in
+    let head = turn-on _ _ _ _ (formed .before .before .before .before .before .before .loop .inv) _ (formed .before .before .before .before .before .begun .ensures) _ _ _ (formed .before .before .before .passed .ensures) in
+    let h = turn-goes _ _ _ _ head _ (formed .shape .ensures) (asked .before .before .shape4 .given .1) (asked .step .ensures)
+    (c .before .before .step3 .given .1) in
+    omega (arith, h .fits, formed .before .before .before .before .before .before .before .if1 .left)
+
+add-at-3 : tie.Need-add-at-3 Inv-loop μ-loop
+add-at-3 c =
+    let asked = c .before .before .before .before in
+    let formed = asked .before .before .before .before in
+    let head = turn-on _ _ _ _ (formed .before .before .before .before .before .before .loop .inv) _ (formed .before .before .before .before .before .begun .ensures) _ _ _ (formed .before .before .before .passed .ensures) in
+    let h = turn-goes _ _ _ _ head _ (formed .shape .ensures) (asked .before .before .shape4 .given .1) (asked .step .ensures)
+    (c .before .before .step3 .given .1) in
+    omega (arith, h .fits, formed .before .before .before .before .before .before .before .if1 .left)
+
+add-count-2 : tie.Need-add-count-2 Inv-loop μ-loop
+add-count-2 c =
+    let asked = c .before .before .before .before .before in
+    let formed = asked .before .before .before .before in
+    let head = turn-on _ _ _ _ (formed .before .before .before .before .before .before .loop .inv) _ (formed .before .before .before .before .before .begun .ensures) _ _ _ (formed .before .before .before .passed .ensures) in
+    let h = turn-goes _ _ _ _ head _ (formed .shape .ensures) (asked .before .before .shape4 .given .1) (asked .step .ensures)
+    (c .before .before .before .step3 .given .1) in
+    omega (arith, h .head .few, h .fits, formed .before .before .before .before .before .before .before .if1 .left)
+
+loop-less-2 : tie.Need-loop-less-2 Inv-loop μ-loop
+loop-less-2 c =
+    let asked = c .before .before .before .before .before in
+    let formed = asked .before .before .before .before in
+    let head = turn-on _ _ _ _ (formed .before .before .before .before .before .before .loop .inv) _ (formed .before .before .before .before .before .begun .ensures) _ _ _ (formed .before .before .before .passed .ensures) in
+    let h = turn-goes _ _ _ _ head _ (formed .shape .ensures) (asked .before .before .shape4 .given .1) (asked .step .ensures)
+    (c .before .before .before .step3 .given .1) in
+    omega (arith, h .fits, h .some, formed .before .before .before .passed .ensures .since)
+
+loop-again-2 : tie.Need-loop-again-2 Inv-loop μ-loop
+loop-again-2 c =
+    let asked = c .before .before .before .before .before in
+    let formed = asked .before .before .before .before in
+    let head = turn-on _ _ _ _ (formed .before .before .before .before .before .before .loop .inv) _ (formed .before .before .before .before .before .begun .ensures) _ _ _ (formed .before .before .before .passed .ensures) in
+    let h = turn-goes _ _ _ _ head _ (formed .shape .ensures) (asked .before .before .shape4 .given .1) (asked .step .ensures)
+    (c .before .before .before .step3 .given .1) in
+    rw (c .directed .ensures) (h .head)
+
+pub check-by-spec : {M : Type 1} → statement M
+unfolding checkOf
+check-by-spec =
+    tie.close
+    (tie.spec
+    Inv-loop
+    μ-loop
+    (search arith)
+    (λ c. on-lt _ _ _ _ _ (c .before .if1 .taken) (c .refused .ensures))
+    (λ c. head-first _)
+    (λ c κs. (c .before .before .before .before .pre, c .loop .inv .within))
+    (λ c κs. (c .before .before .before .before .before .before .pre, c .before .before .loop .inv .within, omega (arith, c .before .before .before .if1 .left)))
+    (λ c. let inv = c .before .before .before .before .loop .inv in
+    let p = c .before .passed .ensures in omega (arith, inv .few, p .since, p .within))
+    (search arith)
+    returns-2
+    (search arith)
+    (search arith)
+    (search arith)
+    returns-3
+    (search arith)
+    add-place
+    (search arith)
+    returns-4
+    (search arith)
+    add-at
+    (search arith)
+    loop-less
+    loop-again
+    (search arith)
+    (search arith)
+    (search arith)
+    (search arith)
+    returns-5
+    (search arith)
+    add-at-2
+    add-at-3
+    (search arith)
+    add-count-2
+    loop-less-2
+    loop-again-2)
