@@ -3,7 +3,7 @@
 -- `stretch` has shown which element it is.
 use Rattle.element.proofs.Names.{ℕ, zero, suc, _+_, _*_, _-_, _/_, _%_, _<_, _≤_, arith, _≡_, refl, ap, sym, _∙_, subst, Bool, true, false, List, _∷_}
 use Rattle.element.proofs.Names.{length, getD, pick, from, from-octet, Side, GL, GR, State, Sets, formOf, form-96, eqb-true}
-use Rattle.element.proofs.Names.{⊎-elim, test, ltb, ltb-true, ltb-false, fresh, no-set, on, put}
+use Rattle.element.proofs.Names.{⊎-elim, on-eq, test, ltb, ltb-true, ltb-false, fresh, no-set, on, put}
 use native.Mathlib.Nat.{eq-or-lt-of-le}
 use Rattle.charset.specs.Charsets.{form-94}
 use Rattle.text.specs.Text.{graphicOf}
@@ -15,9 +15,9 @@ use Rattle.element.proofs.Starts.{On, wideIn, Starts, starts, graphic, graphic-
 use Rattle.element.proofs.Starts as starts-of
 use Rattle.grammar.specs.Reading.{answerOf}
 use Rattle.grammar.proofs.Places.{at-passed, step-passed}
-use Rattle.designations.specs.Designation.{designationAt}
+use Rattle.designations.specs.Designation.{sequenceOf, designationAt}
 use Rattle.designations.specs.declared.Designation.{Designation}
-use Rattle.designations.proofs.Designations.{designation-silent}
+use Rattle.designations.proofs.Designations.{designation-silent, on-four}
 use Rattle.state.specs.State.{state}
 use Rattle.octet_table.specs.Table.{numberOf, classOf, ruleOf, rowOf}
 use Rattle.octet_table.proofs.Rule.{row-rule, row-96, class-number}
@@ -25,7 +25,7 @@ use Rattle.stretch.specs.Characters.{settledOf}
 use Rattle.stretch.proofs.Law.{One}
 use Rattle.stretch.proofs.Starts.{Blank, Text, Lone, blank, text, left-start, one-start, written-two, lone-one}
 use Rattle.stretch.proofs.Starts as text-of
-use Rattle.archive.specs.Passes.{Leads, Leaves, Passes, Reaches, Classed, Ones, Within}
+use Rattle.archive.specs.Passes.{Leads, Leaves, Passes, Places, Reaches, Classed, Ones, Within}
 
 -- ---- one after another
 
@@ -45,6 +45,11 @@ module _ (s : List ℕ) where
         within = b .within;
         same = λ count. let e : count + (n + m) ≡ count + n + m = omega arith in rw e (b .same (count + n) ∙ a .same count);
       }
+
+  pub leads-on : (at i j m : ℕ) (st to too : State) → Leads s at st i to 0 → Leads s i to j too m → Leads s at st j too m
+  leads-on at i j m st to too a b =
+      let e : 0 + m ≡ m = omega arith in
+      subst (Leads s at st j too) e (leads-more at i j 0 m st to too a b)
 
 module _ (st : State) (s : List ℕ) where
   leaves-none : (at : ℕ) → at ≤ length s → Leaves st s at at 0
@@ -362,11 +367,41 @@ designation-some s i x e h =
     let t = step-passed s i fresh (elementOf (from i s) fresh) refl silent (sym (designation-silent (from i s) fresh x e h)) in
     (t .some, t .fits)
 
+-- a designation by its four octets
+pub sequence-at : (s : List ℕ) (i : ℕ) (x : Designation) → 4 ≤ length s - i → getD s i 0 ≡ 0x1B
+    → x ≡ sequenceOf (getD s (i + 1) 0) (getD s (i + 1 + 1) 0) (getD s (i + 1 + 1 + 1) 0) → x ≡ designationAt (from i s)
+sequence-at s i x h e f = on-four s i x (omega arith) h (on-eq _ _ _ _ _ e f)
+
 module _ (s : List ℕ) (at : ℕ) (a : Sets) where
+  pub places-none : at ≤ length s → Places s at a at a
+  places-none h = record { since = omega arith; within = h; leads = λ d. leads-none s (state a d) at h }
+
+  -- one designation more
+  pub places-more : (i : ℕ) (b : Sets) → Places s at a i b → (x : Designation) → x ≡ designationAt (from i s) → x .set < no-set
+      → (d : Side) → x .side ≡ d → Places s at a (i + x .octets) (put (on d (x .set)) b)
+  unfolding answerOf
+  places-more i b p x e h d f =
+      let some = designation-some s i x e h in
+      subst (λ (y : Side). Places s at a (i + x .octets) (put (on y (x .set)) b)) f
+      (record {
+        since = omega (arith, p .since);
+        within = some .1;
+        leads = λ z.
+            let is = designation-silent (from i s) (state b z) x e h in
+            leads-more s at i (i + x .octets) 0 0 (state a z) (state b z) (state (put (on (x .side) (x .set)) b) z) (p .leads z)
+            (record {
+              since = omega arith;
+              within = some .1;
+              same = λ count.
+                  let g : count + 0 ≡ count = omega arith in
+                  rw g (sym (ap (answerOf count) (at-passed s i (state b z) (elementOf (from i s) (state b z)) refl silent (sym is))));
+            });
+      })
+
   pub reaches-none : at ≤ length s → Reaches s at a at a 0
   reaches-none h = record { since = omega arith; within = h; leads = λ d k. leads-none s (state a d) at h }
 
-  pub reaches-more : (i j n m : ℕ) (b c : Sets) → Reaches s at a i b n → Reaches s i b j c m → Reaches s at a j c (n + m)
+  reaches-more : (i j n m : ℕ) (b c : Sets) → Reaches s at a i b n → Reaches s i b j c m → Reaches s at a j c (n + m)
   reaches-more i j n m b c x y =
       record {
         since = omega (arith, x .since, y .since);
@@ -374,39 +409,15 @@ module _ (s : List ℕ) (at : ℕ) (a : Sets) where
         leads = λ d k. leads-more s at i j n m (state a d) (state b d) (state c d) (x .leads d k) (y .leads d k);
       }
 
+  -- units of a row
   pub reaches-units : (i j n m row : ℕ) (b : Sets) → Reaches s at a i b n → row ≡ rowOf b → Passes row s i j m → Reaches s at a j b (n + m)
   reaches-units i j n m row b x e p =
       reaches-more i j n m b b x
       (record { since = p .since; within = p .within; leads = λ d k. p .leaves (state b d) (sym e) k })
 
-  -- a designation
-  pub reaches-designation : (i n : ℕ) (b : Sets) → Reaches s at a i b n → (x : Designation) → x ≡ designationAt (from i s) → x .set < no-set
-      → Reaches s at a (i + x .octets) (put (on (x .side) (x .set)) b) n
-  unfolding answerOf
-  reaches-designation i n b r x e h =
-      let z : n + 0 ≡ n = omega arith in
-      subst (Reaches s at a (i + x .octets) (put (on (x .side) (x .set)) b)) z
-      (reaches-more i (i + x .octets) n 0 b (put (on (x .side) (x .set)) b) r
-      (record {
-        since = omega arith;
-        within = designation-some s i x e h .1;
-        leads = λ d k.
-            let is = designation-silent (from i s) (state b d) x e h in
-            record {
-              since = omega arith;
-              within = designation-some s i x e h .1;
-              same = λ count.
-                  let f : count + 0 ≡ count = omega arith in
-                  rw f (sym (ap (answerOf count) (at-passed s i (state b d) (elementOf (from i s) (state b d)) refl silent (sym is))));
-            };
-      }))
-
-  pub reaches-side : (i n : ℕ) (b : Sets) → Reaches s at a i b n → (x : Designation) → x ≡ designationAt (from i s) → x .set < no-set
-      → (d : Side) → x .side ≡ d → Reaches s at a (i + x .octets) (put (on d (x .set)) b) n
-  reaches-side i n b r x e h d f =
-      subst (λ (y : Side). Reaches s at a (i + x .octets) (put (on y (x .set)) b) n) f (reaches-designation i n b r x e h)
-
-  pub reaches-on : (i j n : ℕ) (b c : Sets) → Reaches s at a i b n → Reaches s i b j c 0 → Reaches s at a j c n
+  -- designations
+  pub reaches-on : (i j n : ℕ) (b c : Sets) → Reaches s at a i b n → Places s i b j c → Reaches s at a j c n
   reaches-on i j n b c x y =
       let e : n + 0 ≡ n = omega arith in
-      subst (Reaches s at a j c) e (reaches-more i j n 0 b c x y)
+      subst (Reaches s at a j c) e
+      (reaches-more i j n 0 b c x (record { since = omega (arith, y .since); within = y .within; leads = λ d k. y .leads d }))

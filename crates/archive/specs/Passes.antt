@@ -32,6 +32,12 @@ pub record Passes (row : ℕ) (s : List ℕ) (at i n : ℕ) : Type 0 where
   pub within : i ≤ length s
   pub leaves : (st : State) → rowOf (st .sets) ≡ row → settledOf (st .directions) ≡ true → Leaves st s at i n
 
+-- nothing but designations stands from a place under sets to another under sets, whatever the directions
+pub record Places (s : List ℕ) (at : ℕ) (a : Sets) (i : ℕ) (b : Sets) : Type 0 where
+  pub since : at ≤ i
+  pub within : i ≤ length s
+  pub leads : (d : Directions) → Leads s at (state a d) i (state b d) 0
+
 -- from a place under sets to another under sets, whatever the directions that text leaves as they are
 pub record Reaches (s : List ℕ) (at : ℕ) (a : Sets) (i : ℕ) (b : Sets) (n : ℕ) : Type 0 where
   pub since : at + n ≤ i

@@ -5,14 +5,18 @@ ghost use lib.ListN.{length};
 ghost use Rattle.grammar.specs.Reading.{checkOf};
 ghost use Rattle.octet_table.specs.Table.{table};
 ghost use Rattle.state.specs.State.{sets, state};
-ghost use Rattle.archive.specs.Passes.{textClass, Leads};
+ghost use Rattle.archive.specs.Passes.{textClass, Leads, Places};
 use crate::classes::class_at;
 use crate::quick::Reach;
 use crate::quick::blanks;
 use crate::quick::quick;
+use crate::quick::reached;
 use base::Answer;
 use base::limit;
 use base::refusal;
+use charset::NO_SET;
+use charset::Side;
+use designations::designation_at;
 use octet_table::ONE_GR;
 use octet_table::SPACE;
 use octet_table::TWO_GR;
@@ -59,7 +63,39 @@ fn begun(t: &[u8], s: &[u8], at: usize, st: State) -> State
     st
 }
 
-// What is passed at a place at once.
+// The designations at a place, as `designated` passes them: each by a call, since the compiler is to put those of text into one loop with it.
+fn placed(s: &[u8], at: usize, gl: u8, gr: u8) -> Reach
+    requires { ⌜ at ≤ length (now s) ⌝ }
+    ensures { λ r. ⌜ Places (now (s .entry)) at (sets gl gr) (r .place) (sets (r .gl) (r .gr)) ⌝ }
+{
+    let mut i = at;
+    let mut left = gl;
+    let mut right = gr;
+    while i < s.len() {
+        if s[i] != 0x1B {
+            return reached(i, 0, left, right);
+        }
+        let d = designation_at(s, i);
+        let set = d.set;
+        if NO_SET <= set {
+            return reached(i, 0, left, right);
+        }
+        let side = d.side;
+        i += d.octets;
+        match side {
+            Side::GL => {
+                left = set;
+            }
+            Side::GR => {
+                right = set;
+            }
+        }
+    }
+    reached(i, 0, left, right)
+}
+
+// What is passed at a place at once: units and designations where text leaves the directions as they are, else designations, and then tabs
+// and newlines.
 fn passed(t: &[u8], s: &[u8], at: usize, st: State) -> Reach
     requires { ⌜ (now t ≡ table) × (at ≤ length (now s)) × (length (now s) ≤ 65535) ⌝ }
     ensures { λ r. ⌜ Leads (now (s .entry)) at st (r .place) (state (sets (r .gl) (r .gr)) (st .directions)) (r .units) ⌝ }
@@ -69,13 +105,9 @@ fn passed(t: &[u8], s: &[u8], at: usize, st: State) -> Reach
     if settled(directions) {
         return quick(t, s, at, sets.gl, sets.gr);
     }
-    let i = blanks(t, s, at);
-    Reach {
-        place: i,
-        units: i - at,
-        gl: sets.gl,
-        gr: sets.gr,
-    }
+    let d = placed(s, at, sets.gl, sets.gr);
+    let i = blanks(t, s, d.place);
+    reached(i, i - d.place, d.gl, d.gr)
 }
 
 // Whether a string is accepted, and what of it is refused. Units and designations are passed at once, and any other element by itself.

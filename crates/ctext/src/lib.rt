@@ -25,7 +25,7 @@ pub extern "C" fn ctext_check(s: &[u8]) -> Answer
 pub extern "C" fn ctext_archive_check(s: &[u8]) -> Answer
     ensures { λ r. ⌜ r ≡ checkOf (now (s .entry)) ⌝ }
 {
-    check_string::answer(s)
+    archive::check(s)
 }
 
 // Where the k-th run of a string lies, and its numbers. Each call checks the string and reads it up to the run that is asked for: for all

@@ -22,7 +22,7 @@ pub extern "C" fn ctext_archive_read(s: &[u8], units: &mut [Unit]) -> Answer
     ensures { λ r. ⌜ (r ≡ readAnswer (now (s .entry)) (length (now (units .entry))))
         × (now (units .exit) ≡ listAfter (now (s .entry)) (now (units .entry))) ⌝ }
 {
-    read::read(s, units)
+    archive::read(s, units)
 }
 
 // The units of a list, whose extended segments stand in the octets lent, are written as the shortest string, or the answer says why not.

@@ -48,8 +48,8 @@ fn multi_octet(b: u8, last: u8) -> Designation
     }
 }
 
-// The three octets after 1B.
-fn sequence(b: u8, c: u8, d: u8) -> Designation
+// The designation that 1B and these three octets begin with.
+pub fn sequence(b: u8, c: u8, d: u8) -> Designation
     ensures { λ r. ⌜ r ≡ sequenceOf b c d ⌝ }
 {
     match b {

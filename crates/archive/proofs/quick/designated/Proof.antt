@@ -1,13 +1,13 @@
 -- `archive::quick::designated` meets its contract: each designation leads on, under the sets that it leaves.
-use Rattle.element.proofs.Names.{_-_, arith, length, GL, GR, put}
+use Rattle.element.proofs.Names.{_-_, arith, length, now, GL, GR, put}
 use Rattle.state.specs.State.{sets}
-use Rattle.archive.specs.Passes.{Reaches}
-use Rattle.archive.proofs.Passes.{reaches-none, reaches-side, designation-some}
+use Rattle.archive.specs.Passes.{Places}
+use Rattle.archive.proofs.Passes.{places-none, places-more, designation-some, sequence-at}
 use Rattle.archive.proofs.quick.designated.Statement.{statement}
 use Rattle.archive.proofs.quick.designated.Tie as tie
 
 abbrev Inv-loop : tie.InvT-loop
-Inv-loop s at gl gr i₀ left₀ right₀ i left right = Reaches s at (sets gl gr) i (sets left right) 0
+Inv-loop s at gl gr i₀ left₀ right₀ i left right = Places s at (sets gl gr) i (sets left right)
 
 abbrev μ-loop : tie.MeasureT-loop
 μ-loop s at gl gr i₀ left₀ right₀ i left right = length s - i
@@ -19,21 +19,39 @@ designated-spec =
     (tie.spec
     Inv-loop
     μ-loop
-    (λ c. reaches-none _ _ _ (c .before .pre))
+    (λ c. places-none _ _ _ (c .before .pre))
+    (λ c. c .loop .inv .within)
+    (search arith)
+    (λ c κs. tt)
+    (λ c. rw (c .reached .ensures) (c .before .before .before .before .loop .inv))
+    (search arith)
+    (search arith)
+    (search arith)
+    (search arith)
+    (search arith)
+    (search arith)
+    (search arith)
+    (search arith)
+    (search arith)
     (λ c κs. tt)
     (λ c κs. tt)
-    (λ c. rw (c .reached .ensures) (c .before .before .before .loop .inv))
+    (λ c. rw (c .reached2 .ensures) (c .before .before .before .before .before .before .before .before .before .loop .inv))
     (λ c. let found = c .before .before in
-    omega (arith, designation-some _ _ _ (found .designation-at .ensures) (c .before .if1 .left) .1))
+    let is = sequence-at (now (found .before .before .before .before .before .before .before .before .before .args .s)) _ _ (found .before .before .before .before .before .before .loop-test .taken) (found .before .before .before .before .if1 .left) (found .sequence .ensures) in
+    let some = designation-some _ _ _ is (c .before .if2 .left) in omega (arith, some .1))
     (search arith)
     (λ c. let found = c .before .before .before .before in
-    let some = designation-some _ _ _ (found .designation-at .ensures) (c .before .before .before .if1 .left) in omega (arith, some .0, some .1))
+    let is = sequence-at (now (found .before .before .before .before .before .before .before .before .before .args .s)) _ _ (found .before .before .before .before .before .before .loop-test .taken) (found .before .before .before .before .if1 .left) (found .sequence .ensures) in
+    let some = designation-some _ _ _ is (c .before .before .before .if2 .left) in omega (arith, some .0, some .1))
     (λ c. let found = c .before .before .before .before in
-    reaches-side _ _ _ _ _ _ (found .before .loop .inv) _ (found .designation-at .ensures) (c .before .before .before .if1 .left) GL
-    (c .enum-told .given .1))
+    let is = sequence-at (now (found .before .before .before .before .before .before .before .before .before .args .s)) _ _ (found .before .before .before .before .before .before .loop-test .taken) (found .before .before .before .before .if1 .left) (found .sequence .ensures) in
+    places-more _ _ _ _ _ (found .before .before .before .before .before .before .before .loop .inv) _ is (c .before .before .before .if2 .left) GL (c .enum-told .given .1))
     (search arith)
     (λ c. let found = c .before .before .before .before in
-    let some = designation-some _ _ _ (found .designation-at .ensures) (c .before .before .before .if1 .left) in omega (arith, some .0, some .1))
+    let is = sequence-at (now (found .before .before .before .before .before .before .before .before .before .args .s)) _ _ (found .before .before .before .before .before .before .loop-test .taken) (found .before .before .before .before .if1 .left) (found .sequence .ensures) in
+    let some = designation-some _ _ _ is (c .before .before .before .if2 .left) in omega (arith, some .0, some .1))
     (λ c. let found = c .before .before .before .before in
-    reaches-side _ _ _ _ _ _ (found .before .loop .inv) _ (found .designation-at .ensures) (c .before .before .before .if1 .left) GR
-    (c .enum-told2 .given .1)))
+    let is = sequence-at (now (found .before .before .before .before .before .before .before .before .before .args .s)) _ _ (found .before .before .before .before .before .before .loop-test .taken) (found .before .before .before .before .if1 .left) (found .sequence .ensures) in
+    places-more _ _ _ _ _ (found .before .before .before .before .before .before .before .loop .inv) _ is (c .before .before .before .if2 .left) GR (c .enum-told2 .given .1))
+    (λ c κs. tt)
+    (λ c. rw (c .reached3 .ensures) (c .before .before .loop .inv)))

@@ -22,31 +22,42 @@ quick-spec =
     Inv-loop
     μ-loop
     (λ c κs. tt)
-    (λ c κs. let pre = c .before .before .before .pre in omega (arith, pre .1, pre .2))
-    (λ c. (reaches-none _ _ _ (c .before .before .before .before .pre .1), c .before .row-of .ensures, c .nearer .ensures (omega arith)))
-    (λ c κs. let pre = c .before .before .before .before .before .before .pre in (pre .0, row-low _ _ (c .before .loop .inv .1), c .loop-test .taken))
-    (λ c κs. let pre = c .before .before .before .before .before .before .before .before .pre in
-    (pre .0, row-low _ _ (c .before .before .before .loop .inv .1), c .if1 .taken, c .before .width .ensures (c .if1 .taken)))
-    (λ c. omega (arith, c .before .onward .ensures .1 .within))
-    (λ c. let inv = c .before .before .before .before .before .before .loop .inv in
-    let u = c .before .before .onward .ensures .1 in omega (arith, inv .0 .since, u .since, u .within))
-    (λ c κs. let pre = c .before .before .before .before .before .before .before .before .before .before .before .pre in
-    omega (arith, c .before .before .onward .ensures .1 .within, pre .2))
-    (λ c. let u = c .before .before .before .onward .ensures in omega (arith, u .0, u .1 .within))
-    (λ c. let inv = c .before .before .before .before .before .before .before .loop .inv in
-    (reaches-units _ _ _ _ _ _ _ _ _ (inv .0) (inv .1) (c .before .before .before .onward .ensures .1), inv .1, c .nearer2 .ensures (inv .2)))
+    (λ c. let pre = c .before .before .before .pre in omega (arith, pre .1, pre .2))
+    (λ c. let pre = c .before .before .before .pre in (reaches-none _ _ _ (pre .1), c .row-of .ensures, omega (arith, pre .1, pre .2)))
+    (λ c κs. let pre = c .before .before .before .before .before .pre in (pre .0, row-low _ _ (c .before .loop .inv .1), c .loop-test .taken))
+    (λ c. omega (arith, c .before .width .ensures (c .if1 .taken) .within))
+    (λ c. let inv = c .before .before .before .loop .inv in omega (arith, inv .0 .since, inv .0 .within))
+    (λ c κs. let found = c .before in
+    let pre = found .before .before .before .before .before .before .before .pre in
+    (pre .0, row-low _ _ (found .before .before .before .loop .inv .1), found .before .width .ensures (found .if1 .taken) .within))
+    (λ c. omega (arith, c .before .far .ensures .within))
+    (λ c. let found = c .before .before .before .before in
+    let inv = found .before .before .before .loop .inv in
+    let u = found .before .width .ensures (found .if1 .taken) in
+    let more = c .before .before .far .ensures in omega (arith, inv .0 .since, u .since, more .since, more .within))
+    (λ c. let found = c .before .before .before .before in
+    let pre = found .before .before .before .before .before .before .before .pre in omega (arith, c .before .before .far .ensures .within, pre .2))
+    (λ c. let found = c .before .before .before .before in
+    let u = found .before .width .ensures (found .if1 .taken) in
+    let more = c .before .before .far .ensures in omega (arith, found .if1 .taken, u .within, more .since, more .within))
+    (λ c. let found = c .before .before .before .before in
+    let inv = found .before .before .before .loop .inv in
+    let u = reaches-units _ _ _ _ _ _ _ _ _ (inv .0) (inv .1) (found .before .width .ensures (found .if1 .taken)) in
+    let pre = found .before .before .before .before .before .before .before .pre in
+    (reaches-units _ _ _ _ _ _ _ _ _ u (inv .1) (c .before .before .far .ensures), inv .1, omega (arith, c .before .before .far .ensures .within, pre .2)))
+    (λ c. let found = c .before in omega (arith, found .if1 .taken, found .before .width .ensures (found .if1 .taken) .within))
+    (λ c. let found = c .before in
+    let inv = found .before .before .before .loop .inv in
+    (reaches-units _ _ _ _ _ _ _ _ _ (inv .0) (inv .1) (found .before .width .ensures (found .if1 .taken)), inv .1, inv .2))
     (λ c κs. omega (arith, c .before .before .loop-test .taken))
     (λ c κs. tt)
     (λ c. rw (c .reached .ensures) (c .before .before .before .before .before .before .before .loop .inv .0))
     (λ c κs. tt)
-    (λ c κs. let pre = c .before .before .before .before .before .before .before .before .before .before .before .before .pre in
-    omega (arith, c .before .before .before .designated .ensures .within, pre .2))
-    (λ c. let d = c .before .before .before .before .designated .ensures in
-    omega (arith, d .since, d .within, c .before .before .if2 .left))
-    (λ c. let inv = c .before .before .before .before .before .before .before .before .loop .inv in (
-      reaches-on _ _ _ _ _ _ _ _ (inv .0) (c .before .before .before .before .designated .ensures),
-      c .before .row-of2 .ensures,
-      c .nearer3 .ensures (omega arith),
-    ))
+    (λ c. let pre = c .before .before .before .before .before .before .before .before .before .before .before .pre in omega (arith, c .before .before .before .designated .ensures .within, pre .2))
+    (λ c. let d = c .before .before .before .designated .ensures in omega (arith, d .since, d .within, c .before .if3 .left))
+    (λ c. let inv = c .before .before .before .before .before .before .before .loop .inv in
+    let pre = c .before .before .before .before .before .before .before .before .before .before .before .pre in
+    let d = c .before .before .before .designated .ensures in
+    (reaches-on _ _ _ _ _ _ _ _ (inv .0) d, c .row-of2 .ensures, omega (arith, d .within, pre .2)))
     (λ c κs. tt)
     (λ c. rw (c .reached2 .ensures) (c .before .before .loop .inv .0)))

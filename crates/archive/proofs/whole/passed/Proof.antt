@@ -1,5 +1,6 @@
--- `archive::whole::passed` meets its contract, by what `quick` and `blanks` ensure.
+-- `archive::whole::passed` meets its contract, by what `quick`, `placed` and `blanks` ensure.
 use Rattle.element.proofs.Names.{arith, sym, _∙_}
+use Rattle.archive.proofs.Passes.{leads-on}
 use Rattle.archive.proofs.Turn.{blanks-lead}
 use Rattle.archive.proofs.whole.passed.Statement.{statement}
 use Rattle.archive.proofs.whole.passed.Tie as tie
@@ -11,6 +12,9 @@ passed-spec =
     (λ c κs. tt)
     (λ c κs. c .before .before .before .before .before .before .pre)
     (λ c. c .quick .ensures .leads _ (sym (c .before .before .settled .ensures) ∙ c .before .if1 .taken))
-    (λ c κs. let pre = c .before .before .before .before .before .before .pre in (pre .0, pre .1))
-    (λ c. c .blanks .ensures .since)
-    (λ c. blanks-lead _ _ _ _ (c .blanks .ensures)))
+    (λ c κs. c .before .before .before .before .before .before .pre .1)
+    (λ c κs. (c .before .before .before .before .before .before .before .pre .0, c .placed .ensures .within))
+    (λ c. c .before .blanks .ensures .since)
+    (λ c κs. tt)
+    (λ c. let placed = c .before .before .before .placed .ensures in
+    rw (c .reached .ensures) (leads-on _ _ _ _ _ _ _ _ (placed .leads _) (blanks-lead _ _ _ _ (c .before .before .blanks .ensures)))))

@@ -1,5 +1,5 @@
--- `ctext::lists::ctext_archive_read` meets its contract, which is that of `read::read`: its code is followed by hand, for the list lent is of
--- structs. It passes its two slices on, and what `read` leaves is what it leaves.
+-- `ctext::lists::ctext_archive_read` meets its contract, which is that of `archive::read`: its code is followed by hand, for the list lent is of
+-- structs. It passes its two slices on, and what `archive::read` leaves is what it leaves.
 -- Assumes nothing.
 use Rattle.walks.proofs.Names.{_≡_, refl, _$_, !, u8}
 use Rattle.walks.proofs.Names as kit
@@ -13,7 +13,7 @@ use Rattle.walks.proofs.Calls.{calls-whole}
 use Rattle.walks.proofs.Entry.{Start, bound, cites, Passes, pass-in}
 use Rattle.walks.proofs.Frame.{leaves}
 use Rattle.walks.proofs.Steps.{arg, sets, lands-in, behind, resliced, sliced}
-use Rattle.read.proofs.read as read
+use Rattle.archive.proofs.read as read
 use Rattle.ctext.proofs.lists.ctext_archive_read as ctext-archive-read
 use Rattle.ctext.proofs.lists.ctext_archive_read.Code as code
 
@@ -35,7 +35,7 @@ module _ {M : Type 1} (𝓤 : kit.URA M) (H : kit.Heap 𝓤) (𝓜 : kit.Model �
       sets ! 3 (behind ! 5 refl refl) refl (tt, tt) $
       sets ! 1 (resliced ! 3 5 refl refl refl) refl (sliced (z .are .1 .0 .0 .1 .0)) $
       calls-whole ! (kit.fmOf 𝓤 H (W .laws) (𝓣of 𝓤 H 𝓜 𝓖 𝓡 code.env)) read.signature (read.spec 𝓤 H (𝓖 .A) (𝓜 .mem) (𝓡 .run))
-      (cites 𝓤 H 𝓜 𝓖 𝓡 code.env code.calls-read·read (read.Met.met 𝓤 H 𝓜 𝓖 𝓡))
+      (cites 𝓤 H 𝓜 𝓖 𝓡 code.env code.calls-archive·read (read.Met.met 𝓤 H 𝓜 𝓖 𝓡))
       (bound 𝓤 H (𝓖 .A) read.ended params clauses z)
       (LL.lawful N.the-type N′.the-laws 𝓤 H (𝓖 .A) W) (arg ! 7 refl (arg ! 1 refl (kit.no-more !))) (λ v typed.
       lands-in ! 9 refl (typed .0) $ kit.returns ! (kit.look ! 9 refl) $ leaves ! 1 refl refl $ kit.done !)
