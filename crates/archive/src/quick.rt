@@ -5,18 +5,13 @@ ghost use lib.ListN.{length};
 ghost use Rattle.octet_table.specs.Table.{table};
 ghost use Rattle.state.specs.State.{sets};
 ghost use Rattle.archive.specs.Passes.{Places, Ones, Reaches, reachOf};
-use crate::classes::class_at;
-use crate::stretches::far;
 use crate::stretches::fours;
-use crate::stretches::width;
+use crate::stretches::singles;
+use crate::stretches::stretch_by;
 use charset::NO_SET;
 use charset::Side;
 use designations::sequence;
-use octet_table::ONE_GR;
 use octet_table::row_of;
-
-// How far a stretch goes unit by unit before blocks are tried.
-const NEAR: usize = 32;
 
 // The row of two octets in GL and GR, of which tabs and newlines alone are units of one octet.
 pub const BLANK_ROW: usize = 1280;
@@ -73,7 +68,7 @@ fn designated(s: &[u8], at: usize, gl: u8, gr: u8) -> Reach
 
 // The units and designations at a place.
 pub fn quick(t: &[u8], s: &[u8], at: usize, gl: u8, gr: u8) -> Reach
-    requires { ⌜ (now t ≡ table) × (at ≤ length (now s)) × (length (now s) ≤ 65535) ⌝ }
+    requires { ⌜ (now t ≡ table) × (at ≤ length (now s)) ⌝ }
     ensures { λ r. ⌜ Reaches (now (s .entry)) at (sets gl gr) (r .place) (sets (r .gl) (r .gr)) (r .units) ⌝ }
 {
     let mut i = at;
@@ -81,18 +76,11 @@ pub fn quick(t: &[u8], s: &[u8], at: usize, gl: u8, gr: u8) -> Reach
     let mut left = gl;
     let mut right = gr;
     let mut row = row_of(gl, gr);
-    let mut near = at + NEAR;
     while i < s.len() {
-        let w = width(t, s, i, row);
-        if 0 < w {
-            i += w;
-            n += 1;
-            if near <= i {
-                let more = far(t, s, i, row);
-                i += more.octets;
-                n += more.units;
-                near = i + NEAR;
-            }
+        let u = stretch_by(t, s, i, row);
+        if 0 < u.octets {
+            i += u.octets;
+            n += u.units;
         } else {
             let d = designated(s, i, left, right);
             if d.place == i {
@@ -102,7 +90,6 @@ pub fn quick(t: &[u8], s: &[u8], at: usize, gl: u8, gr: u8) -> Reach
             left = d.gl;
             right = d.gr;
             row = row_of(left, right);
-            near = i + NEAR;
         }
     }
     reached(i, n, left, right)
@@ -113,13 +100,5 @@ pub fn blanks(t: &[u8], s: &[u8], at: usize) -> usize
     requires { ⌜ (now t ≡ table) × (at ≤ length (now s)) ⌝ }
     ensures { λ r. ⌜ Ones 1280 (now (s .entry)) at r ⌝ }
 {
-    let mut i = fours(t, s, at, BLANK_ROW);
-    while i < s.len() {
-        if class_at(t, s, i, BLANK_ROW) <= ONE_GR {
-            i += 1;
-        } else {
-            return i;
-        }
-    }
-    i
+    singles(t, s, fours(t, s, at, BLANK_ROW), s.len(), BLANK_ROW)
 }

@@ -13,25 +13,58 @@ use octet_table::TWO_GL;
 use octet_table::TWO_GR;
 use stretch::characters::Stretch;
 
-// The octets of the unit at a place: 1, 2, or 0 where none is found by the classes.
-pub fn width(t: &[u8], s: &[u8], at: usize, row: usize) -> usize
-    requires { ⌜ (now t ≡ table) × (row ≤ 1280) × (at < length (now s)) ⌝ }
-    ensures { λ r. ⌜ (0 < r → Passes row (now (s .entry)) at (at + r) 1) ⌝ }
+// How far a stretch goes octet by octet before blocks are tried: an even number, for characters of two octets.
+const NEAR: usize = 32;
+
+// The place after the units of one octet that start at a place, up to an end.
+pub fn singles(t: &[u8], s: &[u8], at: usize, end: usize, row: usize) -> usize
+    requires { ⌜ (now t ≡ table) × (row ≤ 1280) × (at ≤ end) × (end ≤ length (now s)) ⌝ }
+    ensures { λ r. ⌜ Ones row (now (s .entry)) at r ⌝ }
 {
-    let k = class_at(t, s, at, row);
-    if k <= ONE_GR {
-        return 1;
-    }
-    if k <= TWO_GR {
-        if at + 1 < s.len() {
-            if class_at(t, s, at + 1, row) == k {
-                return 2;
-            }
-            return 0;
+    let mut i = at;
+    while i < end {
+        if class_at(t, s, i, row) <= ONE_GR {
+            i += 1;
+        } else {
+            return i;
         }
-        return 0;
     }
-    0
+    i
+}
+
+// Whether a character of two octets stands at a place, both of which are of this class.
+fn pair(t: &[u8], s: &[u8], at: usize, row: usize, k: u8) -> bool
+    requires { ⌜ (now t ≡ table) × (row ≤ 1280) × (at + 2 ≤ length (now s)) × (5 ≤ k) × (k ≤ 6) ⌝ }
+    ensures { λ r. ⌜ (r ≡ true → Passes row (now (s .entry)) at (at + 2) 1) ⌝ }
+{
+    if class_at(t, s, at, row) == k {
+        return class_at(t, s, at + 1, row) == k;
+    }
+    false
+}
+
+// The characters of two octets that start at a place, of this class, up to an end.
+fn pairs(t: &[u8], s: &[u8], at: usize, end: usize, row: usize, k: u8) -> Stretch
+    requires { ⌜ (now t ≡ table) × (row ≤ 1280) × (at ≤ end) × (end ≤ length (now s)) × (5 ≤ k) × (k ≤ 6) ⌝ }
+    ensures { λ r. ⌜ Passes row (now (s .entry)) at (at + r .octets) (r .units) ⌝ }
+{
+    let mut i = at;
+    let mut n: usize = 0;
+    while 2 <= end - i {
+        if pair(t, s, i, row, k) {
+            i += 2;
+            n += 1;
+        } else {
+            return Stretch {
+                octets: i - at,
+                units: n,
+            };
+        }
+    }
+    Stretch {
+        octets: i - at,
+        units: n,
+    }
 }
 
 // Whether the four octets at a place are units by themselves.
@@ -96,18 +129,11 @@ fn twos(s: &[u8], at: usize, first: u8, last: u8) -> Stretch
     }
 }
 
-// The stretch at a place, by blocks, and then four by four where its units have one octet.
-pub fn far(t: &[u8], s: &[u8], at: usize, row: usize) -> Stretch
-    requires { ⌜ (now t ≡ table) × (row ≤ 1280) × (at ≤ length (now s)) ⌝ }
+// What follows a stretch of this class, by blocks, and then four by four where its units have one octet.
+fn far(t: &[u8], s: &[u8], at: usize, row: usize, k: u8) -> Stretch
+    requires { ⌜ (now t ≡ table) × (row ≤ 1280) × Classed row (now s) at k ⌝ }
     ensures { λ r. ⌜ Passes row (now (s .entry)) at (at + r .octets) (r .units) ⌝ }
 {
-    if s.len() <= at {
-        return Stretch {
-            octets: 0,
-            units: 0,
-        };
-    }
-    let k = class_at(t, s, at, row);
     if k == TWO_GL {
         return twos(s, at, 0x21, 0x7E);
     }
@@ -118,5 +144,50 @@ pub fn far(t: &[u8], s: &[u8], at: usize, row: usize) -> Stretch
     Stretch {
         octets: n,
         units: n,
+    }
+}
+
+// The stretch at a place, up to an end that is near.
+fn near(t: &[u8], s: &[u8], at: usize, end: usize, row: usize) -> Stretch
+    requires { ⌜ (now t ≡ table) × (row ≤ 1280) × (at < end) × (end ≤ length (now s)) ⌝ }
+    ensures { λ r. ⌜ Passes row (now (s .entry)) at (at + r .octets) (r .units) ⌝ }
+{
+    let k = class_at(t, s, at, row);
+    if k <= ONE_GR {
+        let n = singles(t, s, at, end, row) - at;
+        return Stretch {
+            octets: n,
+            units: n,
+        };
+    }
+    if k <= TWO_GR {
+        return pairs(t, s, at, end, row, k);
+    }
+    Stretch {
+        octets: 0,
+        units: 0,
+    }
+}
+
+// The stretch at a place: octet by octet, and where nothing ends it near, by blocks.
+pub fn stretch_by(t: &[u8], s: &[u8], at: usize, row: usize) -> Stretch
+    requires { ⌜ (now t ≡ table) × (row ≤ 1280) × (at < length (now s)) ⌝ }
+    ensures { λ r. ⌜ Passes row (now (s .entry)) at (at + r .octets) (r .units) ⌝ }
+{
+    if s.len() - at <= NEAR {
+        return near(t, s, at, s.len(), row);
+    }
+    let a = near(t, s, at, at + NEAR, row);
+    if a.octets < NEAR {
+        return a;
+    }
+    let next = at + a.octets;
+    if s.len() <= next {
+        return a;
+    }
+    let b = far(t, s, next, row, class_at(t, s, next, row));
+    Stretch {
+        octets: a.octets + b.octets,
+        units: a.units + b.units,
     }
 }

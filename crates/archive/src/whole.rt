@@ -97,7 +97,7 @@ fn placed(s: &[u8], at: usize, gl: u8, gr: u8) -> Reach
 // What is passed at a place at once: units and designations where text leaves the directions as they are, else designations, and then tabs
 // and newlines.
 fn passed(t: &[u8], s: &[u8], at: usize, st: State) -> Reach
-    requires { ⌜ (now t ≡ table) × (at ≤ length (now s)) × (length (now s) ≤ 65535) ⌝ }
+    requires { ⌜ (now t ≡ table) × (at ≤ length (now s)) ⌝ }
     ensures { λ r. ⌜ Leads (now (s .entry)) at st (r .place) (state (sets (r .gl) (r .gr)) (st .directions)) (r .units) ⌝ }
 {
     let directions = st.directions;
