@@ -95,10 +95,9 @@ fn one(at: usize, b: u8, k: u8, set: u8) -> Unit
 
 // Any unit, by its element.
 fn by_element(s: &[u8], c: RowCursor) -> RowTurn
-    requires { ⌜ Ready (now s) c ⌝ }
     ensures { λ r. ⌜ r ≡ turnOf (now (s .entry)) (cursorIn c) ⌝ }
 {
-    let r = cursor::advance(
+    let r = cursor::by_element(
         s,
         Cursor {
             place: c.place,

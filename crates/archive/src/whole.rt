@@ -125,6 +125,7 @@ pub fn check_by(t: &[u8], s: &[u8]) -> Answer
         st = begun(t, s, at, st);
         let directions = st.directions;
         let p = passed(t, s, at, st);
+        let began = at;
         at = p.place;
         count += p.units;
         let sets = Sets { gl: p.gl, gr: p.gr };
@@ -134,6 +135,11 @@ pub fn check_by(t: &[u8], s: &[u8]) -> Answer
         };
         if s.len() <= at {
             return Answer::accepted(at, count);
+        }
+        if began < at {
+            if !settled(directions) {
+                continue;
+            }
         }
         let shape = element::shape(s, at, sets);
         match shape {

@@ -67,7 +67,7 @@ fn free_state(gl: u8, gr: u8) -> State
 }
 
 // The unit of the next element that gives one, and the cursor after it.
-fn by_element(s: &[u8], c: Cursor) -> Turn
+pub fn by_element(s: &[u8], c: Cursor) -> Turn
     ensures { λ r. ⌜ r ≡ elementTurn (now (s .entry)) c ⌝ }
 {
     let o = units::next_unit(s, c.place, free_state(c.gl, c.gr));

@@ -9,4 +9,5 @@ blanks-spec =
     tie.close
     (tie.spec
     (λ c κs. let pre = c .before .before .pre in (pre .0, omega arith, pre .1))
-    (λ c. ?))
+    (λ c κs. let pre = c .before .before .before .pre in (pre .0, omega arith, c .fours .ensures .within, omega arith))
+    (λ c. ones-both _ _ _ _ _ (c .before .fours .ensures) (c .singles .ensures)))

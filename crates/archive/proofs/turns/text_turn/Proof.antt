@@ -35,5 +35,5 @@ text-turn-spec =
     (λ c. let read = c .before .before .before .before .before .before in
     two-turn _ _ (read .before .before .before .before .pre .1) _ (read .class-at .ensures) GR (c .before .before .before .if3 .taken) _ _
     (c .two-octets2 .ensures) (c .before .before .moved3 .ensures))
-    (λ c κs. c .before .before .before .before .before .before .before .pre .1)
+    (search arith)
     (λ c. c .by-element .ensures))

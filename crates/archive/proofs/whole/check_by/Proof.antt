@@ -24,14 +24,14 @@ returns-3 : tie.Need-returns-3 Inv-loop μ-loop
 unfolding checkOf
 returns-3 c =
     let formed = c .before .before .before in
-    let head = turn-on _ _ _ _ (formed .before .before .before .before .before .before .loop .inv) _ (formed .before .before .before .before .before .begun .ensures) _ _ _ (formed .before .before .before .passed .ensures) in
+    let head = turn-on _ _ _ _ (formed .before .before .before .before .before .before .before .loop .inv) _ (formed .before .before .before .before .before .before .begun .ensures) _ _ _ (formed .before .before .before .before .passed .ensures) in
     let h = turn-ends _ _ _ _ head _ (formed .shape .ensures) (c .before .enum-told .given .1) in
-    on-ge _ _ _ _ _ (formed .before .before .before .before .before .before .before .if1 .left) (c .accepted2 .ensures ∙ h)
+    on-ge _ _ _ _ _ (formed .before .before .before .before .before .before .before .before .if1 .left) (c .accepted2 .ensures ∙ h)
 
 add-place : tie.Need-add-place Inv-loop μ-loop
 add-place c =
     let formed = c .before .before .before in
-    let head = turn-on _ _ _ _ (formed .before .before .before .before .before .before .loop .inv) _ (formed .before .before .before .before .before .begun .ensures) _ _ _ (formed .before .before .before .passed .ensures) in
+    let head = turn-on _ _ _ _ (formed .before .before .before .before .before .before .before .loop .inv) _ (formed .before .before .before .before .before .before .begun .ensures) _ _ _ (formed .before .before .before .before .passed .ensures) in
     let h = turn-short _ _ _ _ head _ (formed .shape .ensures) (c .before .shape2 .given .1) in
     omega (arith, h)
 
@@ -39,28 +39,28 @@ returns-4 : tie.Need-returns-4 Inv-loop μ-loop
 unfolding checkOf
 returns-4 c =
     let formed = c .before .before .before .before in
-    let head = turn-on _ _ _ _ (formed .before .before .before .before .before .before .loop .inv) _ (formed .before .before .before .before .before .begun .ensures) _ _ _ (formed .before .before .before .passed .ensures) in
+    let head = turn-on _ _ _ _ (formed .before .before .before .before .before .before .before .loop .inv) _ (formed .before .before .before .before .before .before .begun .ensures) _ _ _ (formed .before .before .before .before .passed .ensures) in
     let h = turn-refuses _ _ _ _ head _ (formed .shape .ensures) (c .before .before .shape2 .given .1) in
-    on-ge _ _ _ _ _ (formed .before .before .before .before .before .before .before .if1 .left) (c .refused2 .ensures ∙ h)
+    on-ge _ _ _ _ _ (formed .before .before .before .before .before .before .before .before .if1 .left) (c .refused2 .ensures ∙ h)
 
 add-at : tie.Need-add-at Inv-loop μ-loop
 add-at c =
     let formed = c .before .before .before in
-    let head = turn-on _ _ _ _ (formed .before .before .before .before .before .before .loop .inv) _ (formed .before .before .before .before .before .begun .ensures) _ _ _ (formed .before .before .before .passed .ensures) in
+    let head = turn-on _ _ _ _ (formed .before .before .before .before .before .before .before .loop .inv) _ (formed .before .before .before .before .before .before .begun .ensures) _ _ _ (formed .before .before .before .before .passed .ensures) in
     let h = turn-designates _ _ _ _ head _ (formed .shape .ensures) (c .before .shape3 .given .1) in
     omega (arith, h .fits)
 
-loop-less : tie.Need-loop-less Inv-loop μ-loop
-loop-less c =
+loop-less-2 : tie.Need-loop-less-2 Inv-loop μ-loop
+loop-less-2 c =
     let formed = c .before .before .before .before in
-    let head = turn-on _ _ _ _ (formed .before .before .before .before .before .before .loop .inv) _ (formed .before .before .before .before .before .begun .ensures) _ _ _ (formed .before .before .before .passed .ensures) in
+    let head = turn-on _ _ _ _ (formed .before .before .before .before .before .before .before .loop .inv) _ (formed .before .before .before .before .before .before .begun .ensures) _ _ _ (formed .before .before .before .before .passed .ensures) in
     let h = turn-designates _ _ _ _ head _ (formed .shape .ensures) (c .before .before .shape3 .given .1) in
-    omega (arith, h .fits, h .some, formed .before .before .before .passed .ensures .since)
+    omega (arith, h .fits, h .some, formed .before .before .before .before .passed .ensures .since)
 
-loop-again : tie.Need-loop-again Inv-loop μ-loop
-loop-again c =
+loop-again-2 : tie.Need-loop-again-2 Inv-loop μ-loop
+loop-again-2 c =
     let formed = c .before .before .before .before in
-    let head = turn-on _ _ _ _ (formed .before .before .before .before .before .before .loop .inv) _ (formed .before .before .before .before .before .begun .ensures) _ _ _ (formed .before .before .before .passed .ensures) in
+    let head = turn-on _ _ _ _ (formed .before .before .before .before .before .before .before .loop .inv) _ (formed .before .before .before .before .before .before .begun .ensures) _ _ _ (formed .before .before .before .before .passed .ensures) in
     let h = turn-designates _ _ _ _ head _ (formed .shape .ensures) (c .before .before .shape3 .given .1) in
     rw (c .designated .ensures) (h .head)
 
@@ -69,52 +69,52 @@ unfolding checkOf
 returns-5 c =
     let asked = c .before .before .before .before in
     let formed = asked .before .before .before .before in
-    let head = turn-on _ _ _ _ (formed .before .before .before .before .before .before .loop .inv) _ (formed .before .before .before .before .before .begun .ensures) _ _ _ (formed .before .before .before .passed .ensures) in
+    let head = turn-on _ _ _ _ (formed .before .before .before .before .before .before .before .loop .inv) _ (formed .before .before .before .before .before .before .begun .ensures) _ _ _ (formed .before .before .before .before .passed .ensures) in
     let h = turn-stops _ _ _ _ head _ (formed .shape .ensures) (asked .before .before .shape4 .given .1) (asked .step .ensures)
     (c .before .before .step2 .given .1) in
-    on-ge _ _ _ _ _ (formed .before .before .before .before .before .before .before .if1 .left) (c .refused3 .ensures ∙ h)
+    on-ge _ _ _ _ _ (formed .before .before .before .before .before .before .before .before .if1 .left) (c .refused3 .ensures ∙ h)
 
 add-at-2 : tie.Need-add-at-2 Inv-loop μ-loop
 add-at-2 c =
     let asked = c .before .before .before .before in
     let formed = asked .before .before .before .before in
-    let head = turn-on _ _ _ _ (formed .before .before .before .before .before .before .loop .inv) _ (formed .before .before .before .before .before .begun .ensures) _ _ _ (formed .before .before .before .passed .ensures) in
+    let head = turn-on _ _ _ _ (formed .before .before .before .before .before .before .before .loop .inv) _ (formed .before .before .before .before .before .before .begun .ensures) _ _ _ (formed .before .before .before .before .passed .ensures) in
     let h = turn-goes _ _ _ _ head _ (formed .shape .ensures) (asked .before .before .shape4 .given .1) (asked .step .ensures)
     (c .before .before .step3 .given .1) in
-    omega (arith, h .fits, formed .before .before .before .before .before .before .before .if1 .left)
+    omega (arith, h .fits, formed .before .before .before .before .before .before .before .before .if1 .left)
 
 add-at-3 : tie.Need-add-at-3 Inv-loop μ-loop
 add-at-3 c =
     let asked = c .before .before .before .before in
     let formed = asked .before .before .before .before in
-    let head = turn-on _ _ _ _ (formed .before .before .before .before .before .before .loop .inv) _ (formed .before .before .before .before .before .begun .ensures) _ _ _ (formed .before .before .before .passed .ensures) in
+    let head = turn-on _ _ _ _ (formed .before .before .before .before .before .before .before .loop .inv) _ (formed .before .before .before .before .before .before .begun .ensures) _ _ _ (formed .before .before .before .before .passed .ensures) in
     let h = turn-goes _ _ _ _ head _ (formed .shape .ensures) (asked .before .before .shape4 .given .1) (asked .step .ensures)
     (c .before .before .step3 .given .1) in
-    omega (arith, h .fits, formed .before .before .before .before .before .before .before .if1 .left)
+    omega (arith, h .fits, formed .before .before .before .before .before .before .before .before .if1 .left)
 
 add-count-2 : tie.Need-add-count-2 Inv-loop μ-loop
 add-count-2 c =
     let asked = c .before .before .before .before .before in
     let formed = asked .before .before .before .before in
-    let head = turn-on _ _ _ _ (formed .before .before .before .before .before .before .loop .inv) _ (formed .before .before .before .before .before .begun .ensures) _ _ _ (formed .before .before .before .passed .ensures) in
+    let head = turn-on _ _ _ _ (formed .before .before .before .before .before .before .before .loop .inv) _ (formed .before .before .before .before .before .before .begun .ensures) _ _ _ (formed .before .before .before .before .passed .ensures) in
     let h = turn-goes _ _ _ _ head _ (formed .shape .ensures) (asked .before .before .shape4 .given .1) (asked .step .ensures)
     (c .before .before .before .step3 .given .1) in
-    omega (arith, h .head .few, h .fits, formed .before .before .before .before .before .before .before .if1 .left)
+    omega (arith, h .head .few, h .fits, formed .before .before .before .before .before .before .before .before .if1 .left)
 
-loop-less-2 : tie.Need-loop-less-2 Inv-loop μ-loop
-loop-less-2 c =
+loop-less-3 : tie.Need-loop-less-3 Inv-loop μ-loop
+loop-less-3 c =
     let asked = c .before .before .before .before .before in
     let formed = asked .before .before .before .before in
-    let head = turn-on _ _ _ _ (formed .before .before .before .before .before .before .loop .inv) _ (formed .before .before .before .before .before .begun .ensures) _ _ _ (formed .before .before .before .passed .ensures) in
+    let head = turn-on _ _ _ _ (formed .before .before .before .before .before .before .before .loop .inv) _ (formed .before .before .before .before .before .before .begun .ensures) _ _ _ (formed .before .before .before .before .passed .ensures) in
     let h = turn-goes _ _ _ _ head _ (formed .shape .ensures) (asked .before .before .shape4 .given .1) (asked .step .ensures)
     (c .before .before .before .step3 .given .1) in
-    omega (arith, h .fits, h .some, formed .before .before .before .passed .ensures .since)
+    omega (arith, h .fits, h .some, formed .before .before .before .before .passed .ensures .since)
 
-loop-again-2 : tie.Need-loop-again-2 Inv-loop μ-loop
-loop-again-2 c =
+loop-again-3 : tie.Need-loop-again-3 Inv-loop μ-loop
+loop-again-3 c =
     let asked = c .before .before .before .before .before in
     let formed = asked .before .before .before .before in
-    let head = turn-on _ _ _ _ (formed .before .before .before .before .before .before .loop .inv) _ (formed .before .before .before .before .before .begun .ensures) _ _ _ (formed .before .before .before .passed .ensures) in
+    let head = turn-on _ _ _ _ (formed .before .before .before .before .before .before .before .loop .inv) _ (formed .before .before .before .before .before .before .begun .ensures) _ _ _ (formed .before .before .before .before .passed .ensures) in
     let h = turn-goes _ _ _ _ head _ (formed .shape .ensures) (asked .before .before .shape4 .given .1) (asked .step .ensures)
     (c .before .before .before .step3 .given .1) in
     rw (c .directed .ensures) (h .head)
@@ -130,11 +130,14 @@ check-by-spec =
     (λ c. on-lt _ _ _ _ _ (c .before .if1 .taken) (c .refused .ensures))
     (λ c. head-first _)
     (λ c κs. (c .before .before .before .before .pre, c .loop .inv .within))
-    (λ c κs. (c .before .before .before .before .before .before .pre, c .before .before .loop .inv .within, omega (arith, c .before .before .before .if1 .left)))
+    (λ c κs. (c .before .before .before .before .before .before .pre, c .before .before .loop .inv .within))
     (λ c. let inv = c .before .before .before .before .loop .inv in
     let p = c .before .passed .ensures in omega (arith, inv .few, p .since, p .within))
     (search arith)
     returns-2
+    (search arith)
+    (λ c. omega (arith, c .before .before .if3 .taken, c .before .before .before .before .before .passed .ensures .within))
+    (λ c. turn-on _ _ _ _ (c .before .before .before .before .before .before .before .before .loop .inv) _ (c .before .before .before .before .before .before .before .begun .ensures) _ _ _ (c .before .before .before .before .before .passed .ensures))
     (search arith)
     (search arith)
     (search arith)
@@ -146,8 +149,8 @@ check-by-spec =
     (search arith)
     add-at
     (search arith)
-    loop-less
-    loop-again
+    loop-less-2
+    loop-again-2
     (search arith)
     (search arith)
     (search arith)
@@ -158,5 +161,5 @@ check-by-spec =
     add-at-3
     (search arith)
     add-count-2
-    loop-less-2
-    loop-again-2)
+    loop-less-3
+    loop-again-3)
