@@ -3,3 +3,4 @@ pub mod Counted
 pub mod Turn
 pub mod Filled
 pub mod Ready
+pub mod Equal

@@ -1,6 +1,6 @@
 -- The unit at a cursor from which one is next, by the class of the octet there: the element is what the class starts, under directions that refuse
 -- nothing, and since a unit is next it is not refused (`one-turn`, `two-turn`). A designation that is passed changes nothing of what is next
--- (`ready-passed`, `turn-passed`), and the unit of `advance` is the one of the elements (`any-turn`).
+-- (`ready-passed`, `turn-passed`).
 use Rattle.element.proofs.Names.{ℕ, _+_, _*_, _%_, _/_, _^_, _<_, _≤_, arith, _≡_, refl, ap, sym, _∙_, subst, true, List, [], _∷_, eqb, ltb}
 use Rattle.element.proofs.Names.{length, getD, le-ltb, ltb-true, ltb-false, pick, pick-by, test, clash, on-lt, on-ge, from, from-octet, from-end}
 use Rattle.element.proofs.Names.{UnitRecord, no-set, Side, GL, GR, part, next, get, put, on, stepOf, writtenOf, State, Sets, Part, Shape, Gives as Makes}
@@ -13,22 +13,18 @@ use Rattle.text.specs.Text.{secondOctetOf, graphicOf}
 use Rattle.element.specs.Element.{shapeOf, steppedOf, directedOf, elementOf}
 use Rattle.element.specs.Start.{Start, startIn, begunBy}
 use Rattle.element.specs.Start as start
-use Rattle.grammar.specs.Reading.{Elements, end-at, refused-at, silent-at, found-at, size}
+use Rattle.grammar.specs.Reading.{size}
 use Rattle.grammar.proofs.Elements.{at-nothing}
-use Rattle.grammar.proofs.Places.{ahead, ahead-from}
 use Rattle.designations.specs.Designation.{designationAt}
 use Rattle.designations.specs.declared.Designation.{Designation}
 use Rattle.designations.proofs.Designations.{designation-silent}
-use Rattle.units.specs.Records.{recordOf, recordsFrom}
-use Rattle.units.specs.Next.{outcomeOf, nextOf}
+use Rattle.units.specs.Records.{recordOf}
+use Rattle.units.specs.Next.{nextOf}
 use Rattle.units.specs.declared.Outcome.{Outcome}
 use Rattle.units.specs.declared.Outcome.the-variants.{Gives, Stops}
 use Rattle.units.proofs.Turn.{outcome, gives-end, gives-refused, gives-silent, gives-found}
-use Rattle.cursor.specs.Cursor.{freed, cursor, stateIn, turn, outcomeTurn, elementTurn, placedOf, passedOf, twoOf, advanceOf}
+use Rattle.cursor.specs.Cursor.{freed, cursor, stateIn, turn, outcomeTurn, elementTurn, placedOf, passedOf, twoOf}
 use Rattle.cursor.specs.declared.Cursor.{Cursor}
-use Rattle.cursor.specs.declared.Turn.{Turn}
-use Rattle.cursor.proofs.Free.{like}
-use Rattle.cursor.proofs.Turns.{Turns, turns, advance-ahead}
 use Rattle.octet_table.specs.Table.{numberOf, classOf, rowOf}
 use Rattle.octet_table.proofs.Rule.{row-most, class-number}
 use Rattle.archive.specs.Passes.{Classed}
@@ -88,14 +84,6 @@ two-cut b s d = refl
 gives-stops : {u : UnitRecord} {p n m at : ℕ} {a st : State} {X : Type 0} → Gives u p a ≡ Stops n m at st → X
 gives-stops e = clash (cc)
 
--- elements that give a unit have a record
-some-record : (st : State) (es : Elements) {u : UnitRecord} {p : ℕ} {a : State} → outcomeOf st es ≡ Gives u p a → 1 ≤ length (recordsFrom es)
-unfolding outcomeOf recordsFrom
-some-record st (end-at at) e = gives-stops (sym e)
-some-record st (refused-at at n o) e = gives-stops (sym e)
-some-record st (silent-at at k next es) e = some-record next es e
-some-record st (found-at at p next es) e = omega arith
-
 -- what is next in a string that is not too long, and the turn of it
 next-short : (s : List ℕ) (at : ℕ) (st : State) → length s ≤ limit.octets → nextOf s at st ≡ outcome s at st
 unfolding nextOf pick
@@ -108,9 +96,6 @@ turn-given : (s : List ℕ) (j : Cursor) {u : UnitRecord} {p : ℕ} {a : State} 
     → turned u p a ≡ turnOf s j
 unfolding elementTurn outcomeTurn
 turn-given s j e = ap (λ (o : Outcome). record { unit = outcomeTurn j o .unit; cursor = rowed (outcomeTurn j o .cursor) }) (sym e)
-
-given-turn : {r : Turn} {u : UnitRecord} {p : ℕ} {a : State} → Turns r (Gives u p a) → r ≡ turn u (cursor p a)
-given-turn (turns like) = refl
 
 module _ (s : List ℕ) (c : RowCursor) (ready : Ready s c) where
   abbrev k : Cursor
@@ -162,13 +147,6 @@ module _ (s : List ℕ) (c : RowCursor) (ready : Ready s c) where
       let f : r ≡ recordOf p at = i ∙ rw (q, l) refl in
       let g : j ≡ rowed (cursor (at + size p) st) = m ∙ rw (ready .row, o) refl in
       rw (f, g) (turn-is (gives-found s at st _ e refl refl))
-
-  -- any unit, as `advance` reads it
-  pub any-turn : (r : Turn) (j : RowCursor) → r ≡ advanceOf s k → j ≡ rowed (r .cursor) → record { unit = r .unit; cursor = j } ≡ turnOf s k
-  any-turn r j e m =
-      let a = advance-ahead s short (ahead-from s at st) like (some-record st (ahead s at st) gives) in
-      let f = e ∙ given-turn (rw gives at a) in
-      rw m (ap (λ (x : Turn). record { unit = x .unit; cursor = rowed (x .cursor) }) f ∙ turn-is (sym gives))
 
   -- ---- by the class of the octet at the cursor
 
