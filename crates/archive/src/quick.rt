@@ -78,18 +78,16 @@ pub fn quick(t: &[u8], s: &[u8], at: usize, gl: u8, gr: u8) -> Reach
     let mut row = row_of(gl, gr);
     while i < s.len() {
         let u = stretch_by(t, s, i, row);
-        if 0 < u.octets {
-            i += u.octets;
-            n += u.units;
-        } else {
-            let d = designated(s, i, left, right);
-            if d.place == i {
-                return reached(i, n, left, right);
-            }
+        i += u.octets;
+        n += u.units;
+        let d = designated(s, i, left, right);
+        if i < d.place {
             i = d.place;
             left = d.gl;
             right = d.gr;
             row = row_of(left, right);
+        } else if u.octets == 0 {
+            return reached(i, n, left, right);
         }
     }
     reached(i, n, left, right)

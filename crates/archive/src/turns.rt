@@ -182,7 +182,12 @@ pub fn turn(t: &[u8], s: &[u8], c: RowCursor) -> RowTurn
 {
     let at = c.place;
     if s[at] == 0x1B {
-        return text_turn(t, s, passed(s, passed(s, c)));
+        let d = passed(s, passed(s, c));
+        let next = d.place;
+        if s[next] == 0x1B {
+            return by_element(s, d);
+        }
+        return text_turn(t, s, d);
     }
     text_turn(t, s, c)
 }

@@ -94,7 +94,7 @@ fn placed(s: &[u8], at: usize, gl: u8, gr: u8) -> Reach
     reached(i, 0, left, right)
 }
 
-// What is passed at a place at once: units and designations where text leaves the directions as they are, else designations, and then tabs
+// What is passed at a place at once, nothing where a mark stands there: units and designations where text leaves the directions as they are, else designations, and then tabs
 // and newlines.
 fn passed(t: &[u8], s: &[u8], at: usize, st: State) -> Reach
     requires { ⌜ (now t ≡ table) × (at ≤ length (now s)) ⌝ }
@@ -102,6 +102,11 @@ fn passed(t: &[u8], s: &[u8], at: usize, st: State) -> Reach
 {
     let directions = st.directions;
     let sets = st.sets;
+    if at < s.len() {
+        if s[at] == 0x9B {
+            return reached(at, 0, sets.gl, sets.gr);
+        }
+    }
     if settled(directions) {
         return quick(t, s, at, sets.gl, sets.gr);
     }

@@ -23,18 +23,21 @@ quick-spec =
     (λ c κs. tt)
     (λ c. (reaches-none _ _ _ (c .before .before .before .pre .1), c .row-of .ensures))
     (λ c κs. let pre = c .before .before .before .before .before .pre in (pre .0, row-low _ _ (c .before .loop .inv .1), c .loop-test .taken))
-    (λ c. omega (arith, c .before .before .before .stretch-by .ensures .within))
-    (λ c. let inv = c .before .before .before .before .before .before .loop .inv in
-    let u = c .before .before .before .before .stretch-by .ensures in omega (arith, inv .0 .since, u .since, u .within))
-    (λ c. let u = c .before .before .before .before .stretch-by .ensures in omega (arith, c .before .before .if1 .taken, u .within))
-    (λ c. let inv = c .before .before .before .before .before .before .loop .inv in
-    (reaches-units _ _ _ _ _ _ _ _ _ (inv .0) (inv .1) (c .before .before .before .before .stretch-by .ensures), inv .1))
-    (λ c κs. omega (arith, c .before .before .before .loop-test .taken))
+    (λ c. omega (arith, c .before .stretch-by .ensures .within))
+    (λ c. let inv = c .before .before .before .before .loop .inv in
+    let u = c .before .before .stretch-by .ensures in omega (arith, inv .0 .since, u .since, u .within))
+    (λ c κs. c .before .before .stretch-by .ensures .within)
     (λ c κs. tt)
-    (λ c. rw (c .reached .ensures) (c .before .before .before .before .before .before .before .before .loop .inv .0))
-    (λ c κs. tt)
-    (λ c. let d = c .before .before .before .designated .ensures in omega (arith, d .since, d .within, c .before .if2 .left))
+    (λ c. let d = c .before .before .before .designated .ensures in
+    omega (arith, c .before .before .before .before .before .before .stretch-by .ensures .since, d .within, c .before .if1 .taken))
     (λ c. let inv = c .before .before .before .before .before .before .before .before .loop .inv in
-    (reaches-on _ _ _ _ _ _ _ _ (inv .0) (c .before .before .before .designated .ensures), c .row-of2 .ensures))
+    let u = reaches-units _ _ _ _ _ _ _ _ _ (inv .0) (inv .1) (c .before .before .before .before .before .before .stretch-by .ensures) in
+    (reaches-on _ _ _ _ _ _ _ _ u (c .before .before .before .designated .ensures), c .row-of2 .ensures))
+    (λ c κs. tt)
+    (λ c. let inv = c .before .before .before .before .before .before .before .before .before .before .loop .inv in
+    rw (c .reached .ensures) (reaches-units _ _ _ _ _ _ _ _ _ (inv .0) (inv .1) (c .before .before .before .before .before .before .before .before .stretch-by .ensures)))
+    (λ c. omega (arith, c .if2 .left, c .before .before .before .before .before .before .before .stretch-by .ensures .within))
+    (λ c. let inv = c .before .before .before .before .before .before .before .before .before .loop .inv in
+    (reaches-units _ _ _ _ _ _ _ _ _ (inv .0) (inv .1) (c .before .before .before .before .before .before .before .stretch-by .ensures), inv .1))
     (λ c κs. tt)
     (λ c. rw (c .reached2 .ensures) (c .before .before .loop .inv .0)))

@@ -11,11 +11,17 @@ turn-spec =
     (λ c. inside _ _ (c .before .before .before .pre .1))
     (λ c κs. c .before .before .before .before .pre .1)
     (λ c κs. ready-passed _ _ (c .before .before .before .before .before .pre .1) _ (c .passed .ensures))
-    (λ c κs. let pre = c .before .before .before .before .before .before .pre in
-    let first = ready-passed _ _ (pre .1) _ (c .before .passed .ensures) in
-    (pre .0, ready-passed _ _ first _ (c .passed2 .ensures)))
-    (λ c. let pre = c .before .before .before .before .before .before .before .pre in
-    let first = ready-passed _ _ (pre .1) _ (c .before .before .passed .ensures) in
-    c .text-turn .ensures ∙ turn-passed _ _ first _ (c .before .passed2 .ensures) ∙ turn-passed _ _ (pre .1) _ (c .before .before .passed .ensures))
+    (λ c. let first = ready-passed _ _ (c .before .before .before .before .before .before .before .pre .1) _ (c .before .before .passed .ensures) in
+    inside _ _ (ready-passed _ _ first _ (c .before .passed2 .ensures)))
+    (λ c κs. tt)
+    (λ c. let pre = c .before .before .before .before .before .before .before .before .before .pre in
+    let first = ready-passed _ _ (pre .1) _ (c .before .before .before .before .passed .ensures) in
+    c .by-element .ensures ∙ turn-passed _ _ first _ (c .before .before .before .passed2 .ensures) ∙ turn-passed _ _ (pre .1) _ (c .before .before .before .before .passed .ensures))
+    (λ c κs. let pre = c .before .before .before .before .before .before .before .before .pre in
+    let first = ready-passed _ _ (pre .1) _ (c .before .before .before .passed .ensures) in
+    (pre .0, ready-passed _ _ first _ (c .before .before .passed2 .ensures)))
+    (λ c. let pre = c .before .before .before .before .before .before .before .before .before .pre in
+    let first = ready-passed _ _ (pre .1) _ (c .before .before .before .before .passed .ensures) in
+    c .text-turn .ensures ∙ turn-passed _ _ first _ (c .before .before .before .passed2 .ensures) ∙ turn-passed _ _ (pre .1) _ (c .before .before .before .before .passed .ensures))
     (λ c κs. c .before .before .before .before .pre)
     (λ c. c .text-turn2 .ensures))
