@@ -11,6 +11,7 @@ use charset::Side;
 use cursor::Cursor;
 use cursor::octets::two_octets;
 use designations::designation_at;
+use octet_table::MARK;
 use octet_table::ONE_GR;
 use octet_table::TWO_GL;
 use octet_table::TWO_GR;
@@ -144,6 +145,10 @@ fn text_turn(t: &[u8], s: &[u8], c: RowCursor) -> RowTurn
             unit: two_octets(at, b, s[at + 1], c.gr),
         };
     }
+    // Two calls, so that the compiler leaves the function out of the loop over text.
+    if k == MARK {
+        return by_element(s, c);
+    }
     by_element(s, c)
 }
 
@@ -175,19 +180,22 @@ fn passed(s: &[u8], c: RowCursor) -> RowCursor
     c
 }
 
-// The next unit, and the cursor after it: up to two designations are passed by their octets.
+// The cursor after up to two designations, where an escape sequence stands at it.
+fn begun(s: &[u8], c: RowCursor) -> RowCursor
+    requires { ⌜ Ready (now s) c ⌝ }
+    ensures { λ r. ⌜ Ready (now (s .entry)) r × (turnOf (now (s .entry)) (cursorIn r) ≡ turnOf (now (s .entry)) (cursorIn c)) ⌝ }
+{
+    let at = c.place;
+    if s[at] == 0x1B {
+        return passed(s, passed(s, c));
+    }
+    c
+}
+
+// The next unit, and the cursor after it.
 pub fn turn(t: &[u8], s: &[u8], c: RowCursor) -> RowTurn
     requires { ⌜ (now t ≡ table) × Ready (now s) c ⌝ }
     ensures { λ r. ⌜ r ≡ turnOf (now (s .entry)) (cursorIn c) ⌝ }
 {
-    let at = c.place;
-    if s[at] == 0x1B {
-        let d = passed(s, passed(s, c));
-        let next = d.place;
-        if s[next] == 0x1B {
-            return by_element(s, d);
-        }
-        return text_turn(t, s, d);
-    }
-    text_turn(t, s, c)
+    text_turn(t, s, begun(s, c))
 }

@@ -36,4 +36,6 @@ text-turn-spec =
     two-turn _ _ (read .before .before .before .before .pre .1) _ (read .class-at .ensures) GR (c .before .before .before .if3 .taken) _ _
     (c .two-octets2 .ensures) (c .before .before .moved3 .ensures))
     (search arith)
-    (λ c. c .by-element .ensures))
+    (λ c. c .by-element .ensures)
+    (search arith)
+    (λ c. c .by-element2 .ensures))
