@@ -11,6 +11,7 @@ use charset::Side;
 use cursor::Cursor;
 use cursor::octets::two_octets;
 use designations::designation_at;
+use octet_table::ESCAPE;
 use octet_table::MARK;
 use octet_table::ONE_GR;
 use octet_table::TWO_GL;
@@ -181,12 +182,11 @@ fn passed(s: &[u8], c: RowCursor) -> RowCursor
 }
 
 // The cursor after up to two designations, where an escape sequence stands at it.
-fn begun(s: &[u8], c: RowCursor) -> RowCursor
-    requires { ⌜ Ready (now s) c ⌝ }
+fn begun(t: &[u8], s: &[u8], c: RowCursor) -> RowCursor
+    requires { ⌜ (now t ≡ table) × Ready (now s) c ⌝ }
     ensures { λ r. ⌜ Ready (now (s .entry)) r × (turnOf (now (s .entry)) (cursorIn r) ≡ turnOf (now (s .entry)) (cursorIn c)) ⌝ }
 {
-    let at = c.place;
-    if s[at] == 0x1B {
+    if class_at(t, s, c.place, c.row) == ESCAPE {
         return passed(s, passed(s, c));
     }
     c
@@ -197,5 +197,5 @@ pub fn turn(t: &[u8], s: &[u8], c: RowCursor) -> RowTurn
     requires { ⌜ (now t ≡ table) × Ready (now s) c ⌝ }
     ensures { λ r. ⌜ r ≡ turnOf (now (s .entry)) (cursorIn c) ⌝ }
 {
-    text_turn(t, s, begun(s, c))
+    text_turn(t, s, begun(t, s, c))
 }
