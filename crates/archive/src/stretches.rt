@@ -14,7 +14,7 @@ use octet_table::TWO_GR;
 use stretch::characters::Stretch;
 
 // How far a stretch goes octet by octet before blocks are tried: an even number, for characters of two octets.
-const NEAR: usize = 64;
+const NEAR: usize = 32;
 
 // The place after the units of one octet that start at a place, up to an end.
 pub fn singles(t: &[u8], s: &[u8], at: usize, end: usize, row: usize) -> usize

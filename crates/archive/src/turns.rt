@@ -11,7 +11,6 @@ use charset::Side;
 use cursor::Cursor;
 use cursor::octets::two_octets;
 use designations::designation_at;
-use octet_table::ESCAPE;
 use octet_table::MARK;
 use octet_table::ONE_GR;
 use octet_table::TWO_GL;
@@ -182,11 +181,12 @@ fn passed(s: &[u8], c: RowCursor) -> RowCursor
 }
 
 // The cursor after up to two designations, where an escape sequence stands at it.
-fn begun(t: &[u8], s: &[u8], c: RowCursor) -> RowCursor
-    requires { ⌜ (now t ≡ table) × Ready (now s) c ⌝ }
+fn begun(s: &[u8], c: RowCursor) -> RowCursor
+    requires { ⌜ Ready (now s) c ⌝ }
     ensures { λ r. ⌜ Ready (now (s .entry)) r × (turnOf (now (s .entry)) (cursorIn r) ≡ turnOf (now (s .entry)) (cursorIn c)) ⌝ }
 {
-    if class_at(t, s, c.place, c.row) == ESCAPE {
+    let at = c.place;
+    if s[at] == 0x1B {
         return passed(s, passed(s, c));
     }
     c
@@ -197,5 +197,5 @@ pub fn turn(t: &[u8], s: &[u8], c: RowCursor) -> RowTurn
     requires { ⌜ (now t ≡ table) × Ready (now s) c ⌝ }
     ensures { λ r. ⌜ r ≡ turnOf (now (s .entry)) (cursorIn c) ⌝ }
 {
-    text_turn(t, s, begun(t, s, c))
+    text_turn(t, s, begun(s, c))
 }

@@ -7,6 +7,6 @@ pub turn-spec : {M : Type 1} → statement M
 turn-spec =
     tie.close
     (tie.spec
-    (λ c κs. c .before .before .pre)
+    (λ c κs. c .before .before .pre .1)
     (λ c κs. (c .before .before .before .pre .0, c .begun .ensures .0))
     (λ c. c .text-turn .ensures ∙ c .before .begun .ensures .1))
