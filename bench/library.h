@@ -5,10 +5,6 @@
 
 #include "../include/ctext.h"
 
-// the archive reader's, until the header has them
-ctext_answer ctext_archive_check(const uint8_t *s, size_t n);
-ctext_answer ctext_archive_read(const uint8_t *s, size_t n, ctext_unit *units, size_t room);
-
 #pragma weak ctext_check
 #pragma weak ctext_read
 #pragma weak ctext_write

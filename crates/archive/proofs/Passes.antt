@@ -1,14 +1,13 @@
 -- What is passed by the classes of its octets is elements that leave the state (`Leaves`): one octet (`passes-one`), a character of two
 -- (`passes-two`), octets of a span (`ones-span`, `twos-span`). By the table's rule an octet of a class starts what the class starts, and of that
 -- `stretch` has shown which element it is.
-use Rattle.element.proofs.Names.{ℕ, zero, suc, _+_, _*_, _-_, _/_, _%_, _<_, _≤_, arith, _≡_, refl, ap, sym, _∙_, subst, Bool, true, false, List, _∷_}
-use Rattle.element.proofs.Names.{length, getD, pick, from, from-octet, Side, GL, GR, State, Sets, formOf, form-96, eqb-true}
+use Rattle.element.proofs.Names.{ℕ, zero, suc, _+_, _*_, _-_, _/_, _%_, _<_, _≤_, arith, _≡_, refl, ap, sym, _∙_, subst, true, false, List}
+use Rattle.element.proofs.Names.{length, getD, pick, from, from-octet, Side, GL, GR, State, Sets}
 use Rattle.element.proofs.Names.{⊎-elim, on-eq, test, ltb, ltb-true, ltb-false, fresh, no-set, on, put}
 use native.Mathlib.Nat.{eq-or-lt-of-le}
-use Rattle.charset.specs.Charsets.{form-94}
 use Rattle.text.specs.Text.{graphicOf}
 use Rattle.element.specs.Element.{shapeOf, elementOf}
-use Rattle.element.specs.Start.{Start, usedIn, startIn}
+use Rattle.element.specs.Start.{Start, startIn}
 use Rattle.element.specs.Start as start
 use Rattle.element.proofs.Sizes.{found, silent}
 use Rattle.element.proofs.Starts.{On, wideIn, Starts, starts, graphic, graphic-used, all-used}
@@ -23,7 +22,7 @@ use Rattle.octet_table.specs.Table.{numberOf, classOf, ruleOf, rowOf}
 use Rattle.octet_table.proofs.Rule.{row-rule, row-96, class-number}
 use Rattle.stretch.specs.Characters.{settledOf}
 use Rattle.stretch.proofs.Law.{One}
-use Rattle.stretch.proofs.Starts.{Blank, Text, Lone, blank, text, left-start, one-start, written-two, lone-one}
+use Rattle.stretch.proofs.Starts.{Lone, blank, text, left-start, one-start, written-two, lone-one}
 use Rattle.stretch.proofs.Starts as text-of
 use Rattle.archive.specs.Passes.{Leads, Leaves, Passes, Places, Reaches, Classed, Ones, Within}
 
@@ -209,7 +208,8 @@ module _ (st : State) (settled : settledOf (st .directions) ≡ true) (s : List 
 -- the octets of a span are of one class, whatever the row, where one octet is
 module _ (row : ℕ) (s : List ℕ) (at k r : ℕ) (c : Classed row s at k) where
   ones-pass : (first last : ℕ) → Within first last s at r
-      → ((st : State) → rowOf (st .sets) ≡ row → (b : ℕ) → first ≤ b → b ≤ last → Lone (startIn (st .sets) b)) → Passes row s at r (r - at)
+      → ((st : State) → rowOf (st .sets) ≡ row → (b : ℕ) → first ≤ b → b ≤ last → Lone (startIn (st .sets) b))
+      → Passes row s at r (r - at)
   ones-pass first last w each =
       let e : at + (r - at) ≡ r = omega (arith, w .since) in
       record {
@@ -249,7 +249,8 @@ module _ (row : ℕ) (s : List ℕ) (at k r : ℕ) (c : Classed row s at k) wher
 
 -- and the same of characters of two octets, n of them
 module _ (row : ℕ) (s : List ℕ) (at k m n : ℕ) (c : Classed row s at k) (e : m ≡ 2 * n) where
-  twos-pass : (d : Side) (first last : ℕ) → last < 256 → Within first last s at (at + m) → ((st : State) → rowOf (st .sets) ≡ row → wideIn d (st .sets) ≡ true)
+  twos-pass : (d : Side) (first last : ℕ) → last < 256 → Within first last s at (at + m)
+      → ((st : State) → rowOf (st .sets) ≡ row → wideIn d (st .sets) ≡ true)
       → ((b : ℕ) → first ≤ b → b ≤ last → On d b × (graphicOf (b % 128) ≡ true)) → Passes row s at (at + m) n
   twos-pass d first last small w wide each =
       record {
@@ -303,25 +304,26 @@ ones-four row s at k l m n a ha b hb c hc d hd =
     subst (Ones row s at) e (ones-both row s at (at + 1 + 1 + 1) (at + 1 + 1 + 1 + 1) three (ones-one row s (at + 1 + 1 + 1) n d hd))
 
 -- a law on each octet goes over all of them, one by one
-module _ (row : ℕ) (st : State) (s : List ℕ) (each : (at : ℕ) → at < length s → getD s at 0 < 256 → ruleOf (row + getD s at 0) ≤ 4 → Leaves st s at (at + 1) 1)
-  where
-    ones-by : (n at : ℕ) → Ones row s at (at + n) → Leaves st s at (at + n) n
-    ones-by zero at o =
-        let e : at + 0 ≡ at = omega arith in
-        rw e (leaves-none st s at (omega (arith, o .within)))
-    ones-by (suc n) at o =
-        let e : at + 1 + n ≡ at + suc n = omega arith in
-        let f : 1 + n ≡ suc n = omega arith in
-        let h = o .each at (omega arith) (omega arith) in
-        let rest : Ones row s (at + 1) (at + 1 + n) = record { since = omega arith; within = omega (arith, o .within); each = λ j l m. o .each j (omega arith) (omega arith) } in
-        subst (Leaves st s at (at + suc n)) f
-        (leaves-more st s at (at + 1) (at + suc n) 1 n (each at (omega (arith, o .within)) (h .0) (h .1))
-        (subst (λ (j : ℕ). Leaves st s (at + 1) j n) e (ones-by n (at + 1) rest)))
+module _ (row : ℕ) (st : State) (s : List ℕ)
+    (each : (at : ℕ) → at < length s → getD s at 0 < 256 → ruleOf (row + getD s at 0) ≤ 4 → Leaves st s at (at + 1) 1) where
+  ones-by : (n at : ℕ) → Ones row s at (at + n) → Leaves st s at (at + n) n
+  ones-by zero at o =
+      let e : at + 0 ≡ at = omega arith in
+      rw e (leaves-none st s at (omega (arith, o .within)))
+  ones-by (suc n) at o =
+      let e : at + 1 + n ≡ at + suc n = omega arith in
+      let f : 1 + n ≡ suc n = omega arith in
+      let h = o .each at (omega arith) (omega arith) in
+      let rest : Ones row s (at + 1) (at + 1 + n) =
+      record { since = omega arith; within = omega (arith, o .within); each = λ j l m. o .each j (omega arith) (omega arith) } in
+      subst (Leaves st s at (at + suc n)) f
+      (leaves-more st s at (at + 1) (at + suc n) 1 n (each at (omega (arith, o .within)) (h .0) (h .1))
+      (subst (λ (j : ℕ). Leaves st s (at + 1) j n) e (ones-by n (at + 1) rest)))
 
-    pub ones-leads : (at i : ℕ) → Ones row s at i → Leaves st s at i (i - at)
-    ones-leads at i o =
-        let e : at + (i - at) ≡ i = omega (arith, o .since) in
-        subst (λ (j : ℕ). Leaves st s at j (i - at)) e (ones-by (i - at) at (subst (Ones row s at) (sym e) o))
+  pub ones-leads : (at i : ℕ) → Ones row s at i → Leaves st s at i (i - at)
+  ones-leads at i o =
+      let e : at + (i - at) ≡ i = omega (arith, o .since) in
+      subst (λ (j : ℕ). Leaves st s at j (i - at)) e (ones-by (i - at) at (subst (Ones row s at) (sym e) o))
 
 -- under a state of the row that text leaves as it is
 pub ones-passes : (row : ℕ) (s : List ℕ) (at i : ℕ) → Ones row s at i → Passes row s at i (i - at)

@@ -23,7 +23,7 @@ use Rattle.units.specs.Next.{nextOf}
 use Rattle.units.specs.declared.Outcome.{Outcome}
 use Rattle.units.specs.declared.Outcome.the-variants.{Gives, Stops}
 use Rattle.units.proofs.Turn.{outcome, gives-end, gives-refused, gives-silent, gives-found}
-use Rattle.cursor.specs.Cursor.{freed, cursor, stateIn, turn, outcomeTurn, elementTurn, placedOf, passedOf, twoOf}
+use Rattle.cursor.specs.Cursor.{freed, cursor, stateIn, outcomeTurn, elementTurn, placedOf, passedOf, twoOf}
 use Rattle.cursor.specs.declared.Cursor.{Cursor}
 use Rattle.octet_table.specs.Table.{numberOf, classOf, rowOf}
 use Rattle.octet_table.proofs.Rule.{row-most, class-number}

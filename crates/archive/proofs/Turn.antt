@@ -1,16 +1,16 @@
 -- A turn of the loop of `check_by`: what it passes at once leads on (`turn-on`): tabs and newlines, whatever the state (`blanks-lead`), and text
 -- that is next, where neither text nor a mark was read, with text marked as read (`begun-leads`). The other turns are those of the first
 -- reader's check (check_string/proofs/Turn).
-use Rattle.element.proofs.Names.{ℕ, _+_, _-_, _<_, _≤_, arith, _≡_, refl, ap, sym, _∙_, true, false, false≢true, List, [], _∷_, leb, length, getD, le-leb}
-use Rattle.element.proofs.Names.{from, from-octet, pick, pick-by, eqb, ltb, directions, writtenOf, stepOf, next, get, State, Sets, Directions, Part, Shape}
+use Rattle.element.proofs.Names.{ℕ, _+_, _-_, arith, _≡_, refl, ap, _∙_, true, false, false≢true, List, [], _∷_, leb, getD, le-leb}
+use Rattle.element.proofs.Names.{from, from-octet, pick, pick-by, directions, writtenOf, stepOf, next, get, State, Sets, Directions, Part, Shape}
 use Rattle.element.proofs.Names.{Refuses, Gives, Goes, form-94x94}
 use Rattle.base.proofs.Bools.{upTo, up-to-where, implies}
 use Rattle.state.specs.State.{directedTo}
 use Rattle.text.specs.Text.{graphicOf, secondOctetOf}
-use Rattle.element.specs.Element.{shapeOf, steppedOf, directedOf, elementOf}
+use Rattle.element.specs.Element.{shapeOf, steppedOf, directedOf}
 use Rattle.element.specs.Start.{Start, startOf, leftStart, characterStart, usedIn, startIn, begunBy}
 use Rattle.element.specs.Start as start
-use Rattle.grammar.specs.Reading.{Elements, elements, onward, answerOf}
+use Rattle.grammar.specs.Reading.{elements, onward, answerOf}
 use Rattle.check_string.proofs.Turn.{Head}
 use Rattle.octet_table.specs.Table.{numberOf, ruleOf, rowOf}
 use Rattle.stretch.specs.Characters.{glOctet, grOctet, singleOf, oneAt}

@@ -94,8 +94,8 @@ fn placed(s: &[u8], at: usize, gl: u8, gr: u8) -> Reach
     reached(i, 0, left, right)
 }
 
-// What is passed at a place at once, nothing where a mark stands there: units and designations where text leaves the directions as they are, else designations, and then tabs
-// and newlines.
+// What is passed at a place at once, nothing where a mark stands there: units and designations where text leaves the
+// directions as they are, else designations, and then tabs and newlines.
 fn passed(t: &[u8], s: &[u8], at: usize, st: State) -> Reach
     requires { ⌜ (now t ≡ table) × (at ≤ length (now s)) ⌝ }
     ensures { λ r. ⌜ Leads (now (s .entry)) at st (r .place) (state (sets (r .gl) (r .gr)) (st .directions)) (r .units) ⌝ }

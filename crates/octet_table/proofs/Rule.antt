@@ -1,9 +1,9 @@
 -- The table's rule at each entry: one test that antt computes over the octets and the forms, carried to each by `up-to`. So what an octet starts
 -- under a state is the class of its entry in the state's row (`table-class`), and the shape of an element is what that class starts
 -- (`table-shape`).
-use Rattle.element.proofs.Names.{ℕ, zero, suc, _+_, _*_, _/_, _%_, _^_, _<_, _≤_, arith, _≡_, refl, ap, sym, _∙_, subst, Bool, true, false, List, [], _∷_}
-use Rattle.element.proofs.Names.{eqb, ltb, length, getD, eqb-true, le-ltb, ltb-true, ltb-false, pick, pick-by, up-to, test, tested, form-96, form-94x94}
-use Rattle.element.proofs.Names.{rowOf as charset-row, formOf, Sets, no-set, Shape, Side, GL, GR}
+use Rattle.element.proofs.Names.{ℕ, zero, suc, _+_, _%_, _^_, _<_, _≤_, arith, _≡_, refl, ap, sym, _∙_, Bool, true, List, _∷_}
+use Rattle.element.proofs.Names.{eqb, ltb, length, getD, eqb-true, ltb-true, pick, pick-by, up-to, form-96, form-94x94}
+use Rattle.element.proofs.Names.{formOf, Sets, GL, GR}
 use Rattle.element.proofs.Names.{on-eq, on-ne}
 use Rattle.state.specs.State.{sets}
 use native.Mathlib.Nat.{add-zero}

@@ -1,5 +1,5 @@
 -- `archive::blocks::blocks` meets its contract: only octets of the span stand before the place, block by block.
-use Rattle.element.proofs.Names.{_-_, _+_, _≤_, arith, length}
+use Rattle.element.proofs.Names.{_-_, arith, length}
 use Rattle.archive.specs.Passes.{Within}
 use Rattle.archive.proofs.Counted.{within-none, blocks-more}
 use Rattle.archive.proofs.blocks.blocks.Statement.{statement}

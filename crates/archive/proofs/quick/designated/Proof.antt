@@ -37,21 +37,28 @@ designated-spec =
     (λ c κs. tt)
     (λ c. rw (c .reached2 .ensures) (c .before .before .before .before .before .before .before .before .before .loop .inv))
     (λ c. let found = c .before .before in
-    let is = sequence-at (now (found .before .before .before .before .before .before .before .before .before .args .s)) _ _ (found .before .before .before .before .before .before .loop-test .taken) (found .before .before .before .before .if1 .left) (found .sequence .ensures) in
+    let is = sequence-at (now (found .before .before .before .before .before .before .before .before .before .args .s)) _ _
+    (found .before .before .before .before .before .before .loop-test .taken) (found .before .before .before .before .if1 .left) (found .sequence .ensures) in
     let some = designation-some _ _ _ is (c .before .if2 .left) in omega (arith, some .1))
     (search arith)
     (λ c. let found = c .before .before .before .before in
-    let is = sequence-at (now (found .before .before .before .before .before .before .before .before .before .args .s)) _ _ (found .before .before .before .before .before .before .loop-test .taken) (found .before .before .before .before .if1 .left) (found .sequence .ensures) in
+    let is = sequence-at (now (found .before .before .before .before .before .before .before .before .before .args .s)) _ _
+    (found .before .before .before .before .before .before .loop-test .taken) (found .before .before .before .before .if1 .left) (found .sequence .ensures) in
     let some = designation-some _ _ _ is (c .before .before .before .if2 .left) in omega (arith, some .0, some .1))
     (λ c. let found = c .before .before .before .before in
-    let is = sequence-at (now (found .before .before .before .before .before .before .before .before .before .args .s)) _ _ (found .before .before .before .before .before .before .loop-test .taken) (found .before .before .before .before .if1 .left) (found .sequence .ensures) in
-    places-more _ _ _ _ _ (found .before .before .before .before .before .before .before .loop .inv) _ is (c .before .before .before .if2 .left) GL (c .enum-told .given .1))
+    let is = sequence-at (now (found .before .before .before .before .before .before .before .before .before .args .s)) _ _
+    (found .before .before .before .before .before .before .loop-test .taken) (found .before .before .before .before .if1 .left) (found .sequence .ensures) in
+    places-more _ _ _ _ _ (found .before .before .before .before .before .before .before .loop .inv) _ is
+    (c .before .before .before .if2 .left) GL (c .enum-told .given .1))
     (search arith)
     (λ c. let found = c .before .before .before .before in
-    let is = sequence-at (now (found .before .before .before .before .before .before .before .before .before .args .s)) _ _ (found .before .before .before .before .before .before .loop-test .taken) (found .before .before .before .before .if1 .left) (found .sequence .ensures) in
+    let is = sequence-at (now (found .before .before .before .before .before .before .before .before .before .args .s)) _ _
+    (found .before .before .before .before .before .before .loop-test .taken) (found .before .before .before .before .if1 .left) (found .sequence .ensures) in
     let some = designation-some _ _ _ is (c .before .before .before .if2 .left) in omega (arith, some .0, some .1))
     (λ c. let found = c .before .before .before .before in
-    let is = sequence-at (now (found .before .before .before .before .before .before .before .before .before .args .s)) _ _ (found .before .before .before .before .before .before .loop-test .taken) (found .before .before .before .before .if1 .left) (found .sequence .ensures) in
-    places-more _ _ _ _ _ (found .before .before .before .before .before .before .before .loop .inv) _ is (c .before .before .before .if2 .left) GR (c .enum-told2 .given .1))
+    let is = sequence-at (now (found .before .before .before .before .before .before .before .before .before .args .s)) _ _
+    (found .before .before .before .before .before .before .loop-test .taken) (found .before .before .before .before .if1 .left) (found .sequence .ensures) in
+    places-more _ _ _ _ _ (found .before .before .before .before .before .before .before .loop .inv) _ is
+    (c .before .before .before .if2 .left) GR (c .enum-told2 .given .1))
     (λ c κs. tt)
     (λ c. rw (c .reached3 .ensures) (c .before .before .loop .inv)))

@@ -9,7 +9,8 @@ use Rattle.archive.proofs.quick.quick.Statement.{statement}
 use Rattle.archive.proofs.quick.quick.Tie as tie
 
 abbrev Inv-loop : tie.InvT-loop
-Inv-loop t s at gl gr i₀ n₀ left₀ right₀ row₀ i n left right row = Reaches s at (sets gl gr) i (sets left right) n × (row ≡ rowOf (sets left right))
+Inv-loop t s at gl gr i₀ n₀ left₀ right₀ row₀ i n left right row =
+    Reaches s at (sets gl gr) i (sets left right) n × (row ≡ rowOf (sets left right))
 
 abbrev μ-loop : tie.MeasureT-loop
 μ-loop t s at gl gr i₀ n₀ left₀ right₀ row₀ i n left right row = length s - i
@@ -35,7 +36,8 @@ quick-spec =
     (reaches-on _ _ _ _ _ _ _ _ u (c .before .before .before .designated .ensures), c .row-of2 .ensures))
     (λ c κs. tt)
     (λ c. let inv = c .before .before .before .before .before .before .before .before .before .before .loop .inv in
-    rw (c .reached .ensures) (reaches-units _ _ _ _ _ _ _ _ _ (inv .0) (inv .1) (c .before .before .before .before .before .before .before .before .stretch-by .ensures)))
+    let u = c .before .before .before .before .before .before .before .before .stretch-by .ensures in
+    rw (c .reached .ensures) (reaches-units _ _ _ _ _ _ _ _ _ (inv .0) (inv .1) u))
     (λ c. omega (arith, c .if2 .left, c .before .before .before .before .before .before .before .stretch-by .ensures .within))
     (λ c. let inv = c .before .before .before .before .before .before .before .before .before .loop .inv in
     (reaches-units _ _ _ _ _ _ _ _ _ (inv .0) (inv .1) (c .before .before .before .before .before .before .before .stretch-by .ensures), inv .1))

@@ -1,5 +1,5 @@
 -- `archive::stretches::four` meets its contract: four octets of classes of one octet are four units.
-use Rattle.element.proofs.Names.{_≤_, arith, leb-true, false≢true}
+use Rattle.element.proofs.Names.{arith, leb-true, false≢true}
 use Rattle.archive.proofs.Passes.{ones-four}
 use Rattle.archive.proofs.stretches.four.Statement.{statement}
 use Rattle.archive.proofs.stretches.four.Tie as tie

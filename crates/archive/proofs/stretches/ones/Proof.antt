@@ -1,5 +1,4 @@
 -- `archive::stretches::ones` meets its contract: where one octet is of a class, the octets of its span are units of one octet.
-use Rattle.element.proofs.Names.{arith}
 use Rattle.archive.proofs.Passes.{ones-first, ones-gl, ones-94, ones-96}
 use Rattle.archive.proofs.stretches.ones.Statement.{statement}
 use Rattle.archive.proofs.stretches.ones.Tie as tie

@@ -21,4 +21,5 @@ stretch-by-spec =
     (λ c. omega (arith, c .before .before .far .ensures .within))
     (λ c. let x = c .before .before .before .before .before .before .before .before .before .before .near2 .ensures in
     let y = c .before .before .before .before .far .ensures in omega (arith, x .since, y .since, y .within))
-    (λ c. passes-both _ _ _ _ _ _ _ (c .before .before .before .before .before .before .before .before .before .before .near2 .ensures) (c .before .before .before .before .far .ensures)))
+    (λ c. let x = c .before .before .before .before .before .before .before .before .before .before .near2 .ensures in
+    passes-both _ _ _ _ _ _ _ x (c .before .before .before .before .far .ensures)))

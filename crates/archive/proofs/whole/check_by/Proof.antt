@@ -24,14 +24,16 @@ returns-3 : tie.Need-returns-3 Inv-loop μ-loop
 unfolding checkOf
 returns-3 c =
     let formed = c .before .before .before in
-    let head = turn-on _ _ _ _ (formed .before .before .before .before .before .before .before .loop .inv) _ (formed .before .before .before .before .before .before .begun .ensures) _ _ _ (formed .before .before .before .before .passed .ensures) in
+    let passed = formed .before .before .before .before in
+    let head = turn-on _ _ _ _ (passed .before .before .before .loop .inv) _ (passed .before .before .begun .ensures) _ _ _ (passed .passed .ensures) in
     let h = turn-ends _ _ _ _ head _ (formed .shape .ensures) (c .before .enum-told .given .1) in
     on-ge _ _ _ _ _ (formed .before .before .before .before .before .before .before .before .if1 .left) (c .accepted2 .ensures ∙ h)
 
 add-place : tie.Need-add-place Inv-loop μ-loop
 add-place c =
     let formed = c .before .before .before in
-    let head = turn-on _ _ _ _ (formed .before .before .before .before .before .before .before .loop .inv) _ (formed .before .before .before .before .before .before .begun .ensures) _ _ _ (formed .before .before .before .before .passed .ensures) in
+    let passed = formed .before .before .before .before in
+    let head = turn-on _ _ _ _ (passed .before .before .before .loop .inv) _ (passed .before .before .begun .ensures) _ _ _ (passed .passed .ensures) in
     let h = turn-short _ _ _ _ head _ (formed .shape .ensures) (c .before .shape2 .given .1) in
     omega (arith, h)
 
@@ -39,28 +41,32 @@ returns-4 : tie.Need-returns-4 Inv-loop μ-loop
 unfolding checkOf
 returns-4 c =
     let formed = c .before .before .before .before in
-    let head = turn-on _ _ _ _ (formed .before .before .before .before .before .before .before .loop .inv) _ (formed .before .before .before .before .before .before .begun .ensures) _ _ _ (formed .before .before .before .before .passed .ensures) in
+    let passed = formed .before .before .before .before in
+    let head = turn-on _ _ _ _ (passed .before .before .before .loop .inv) _ (passed .before .before .begun .ensures) _ _ _ (passed .passed .ensures) in
     let h = turn-refuses _ _ _ _ head _ (formed .shape .ensures) (c .before .before .shape2 .given .1) in
     on-ge _ _ _ _ _ (formed .before .before .before .before .before .before .before .before .if1 .left) (c .refused2 .ensures ∙ h)
 
 add-at : tie.Need-add-at Inv-loop μ-loop
 add-at c =
     let formed = c .before .before .before in
-    let head = turn-on _ _ _ _ (formed .before .before .before .before .before .before .before .loop .inv) _ (formed .before .before .before .before .before .before .begun .ensures) _ _ _ (formed .before .before .before .before .passed .ensures) in
+    let passed = formed .before .before .before .before in
+    let head = turn-on _ _ _ _ (passed .before .before .before .loop .inv) _ (passed .before .before .begun .ensures) _ _ _ (passed .passed .ensures) in
     let h = turn-designates _ _ _ _ head _ (formed .shape .ensures) (c .before .shape3 .given .1) in
     omega (arith, h .fits)
 
 loop-less-2 : tie.Need-loop-less-2 Inv-loop μ-loop
 loop-less-2 c =
     let formed = c .before .before .before .before in
-    let head = turn-on _ _ _ _ (formed .before .before .before .before .before .before .before .loop .inv) _ (formed .before .before .before .before .before .before .begun .ensures) _ _ _ (formed .before .before .before .before .passed .ensures) in
+    let passed = formed .before .before .before .before in
+    let head = turn-on _ _ _ _ (passed .before .before .before .loop .inv) _ (passed .before .before .begun .ensures) _ _ _ (passed .passed .ensures) in
     let h = turn-designates _ _ _ _ head _ (formed .shape .ensures) (c .before .before .shape3 .given .1) in
     omega (arith, h .fits, h .some, formed .before .before .before .before .passed .ensures .since)
 
 loop-again-2 : tie.Need-loop-again-2 Inv-loop μ-loop
 loop-again-2 c =
     let formed = c .before .before .before .before in
-    let head = turn-on _ _ _ _ (formed .before .before .before .before .before .before .before .loop .inv) _ (formed .before .before .before .before .before .before .begun .ensures) _ _ _ (formed .before .before .before .before .passed .ensures) in
+    let passed = formed .before .before .before .before in
+    let head = turn-on _ _ _ _ (passed .before .before .before .loop .inv) _ (passed .before .before .begun .ensures) _ _ _ (passed .passed .ensures) in
     let h = turn-designates _ _ _ _ head _ (formed .shape .ensures) (c .before .before .shape3 .given .1) in
     rw (c .designated .ensures) (h .head)
 
@@ -69,7 +75,8 @@ unfolding checkOf
 returns-5 c =
     let asked = c .before .before .before .before in
     let formed = asked .before .before .before .before in
-    let head = turn-on _ _ _ _ (formed .before .before .before .before .before .before .before .loop .inv) _ (formed .before .before .before .before .before .before .begun .ensures) _ _ _ (formed .before .before .before .before .passed .ensures) in
+    let passed = formed .before .before .before .before in
+    let head = turn-on _ _ _ _ (passed .before .before .before .loop .inv) _ (passed .before .before .begun .ensures) _ _ _ (passed .passed .ensures) in
     let h = turn-stops _ _ _ _ head _ (formed .shape .ensures) (asked .before .before .shape4 .given .1) (asked .step .ensures)
     (c .before .before .step2 .given .1) in
     on-ge _ _ _ _ _ (formed .before .before .before .before .before .before .before .before .if1 .left) (c .refused3 .ensures ∙ h)
@@ -78,7 +85,8 @@ add-at-2 : tie.Need-add-at-2 Inv-loop μ-loop
 add-at-2 c =
     let asked = c .before .before .before .before in
     let formed = asked .before .before .before .before in
-    let head = turn-on _ _ _ _ (formed .before .before .before .before .before .before .before .loop .inv) _ (formed .before .before .before .before .before .before .begun .ensures) _ _ _ (formed .before .before .before .before .passed .ensures) in
+    let passed = formed .before .before .before .before in
+    let head = turn-on _ _ _ _ (passed .before .before .before .loop .inv) _ (passed .before .before .begun .ensures) _ _ _ (passed .passed .ensures) in
     let h = turn-goes _ _ _ _ head _ (formed .shape .ensures) (asked .before .before .shape4 .given .1) (asked .step .ensures)
     (c .before .before .step3 .given .1) in
     omega (arith, h .fits, formed .before .before .before .before .before .before .before .before .if1 .left)
@@ -87,7 +95,8 @@ add-at-3 : tie.Need-add-at-3 Inv-loop μ-loop
 add-at-3 c =
     let asked = c .before .before .before .before in
     let formed = asked .before .before .before .before in
-    let head = turn-on _ _ _ _ (formed .before .before .before .before .before .before .before .loop .inv) _ (formed .before .before .before .before .before .before .begun .ensures) _ _ _ (formed .before .before .before .before .passed .ensures) in
+    let passed = formed .before .before .before .before in
+    let head = turn-on _ _ _ _ (passed .before .before .before .loop .inv) _ (passed .before .before .begun .ensures) _ _ _ (passed .passed .ensures) in
     let h = turn-goes _ _ _ _ head _ (formed .shape .ensures) (asked .before .before .shape4 .given .1) (asked .step .ensures)
     (c .before .before .step3 .given .1) in
     omega (arith, h .fits, formed .before .before .before .before .before .before .before .before .if1 .left)
@@ -96,7 +105,8 @@ add-count-2 : tie.Need-add-count-2 Inv-loop μ-loop
 add-count-2 c =
     let asked = c .before .before .before .before .before in
     let formed = asked .before .before .before .before in
-    let head = turn-on _ _ _ _ (formed .before .before .before .before .before .before .before .loop .inv) _ (formed .before .before .before .before .before .before .begun .ensures) _ _ _ (formed .before .before .before .before .passed .ensures) in
+    let passed = formed .before .before .before .before in
+    let head = turn-on _ _ _ _ (passed .before .before .before .loop .inv) _ (passed .before .before .begun .ensures) _ _ _ (passed .passed .ensures) in
     let h = turn-goes _ _ _ _ head _ (formed .shape .ensures) (asked .before .before .shape4 .given .1) (asked .step .ensures)
     (c .before .before .before .step3 .given .1) in
     omega (arith, h .head .few, h .fits, formed .before .before .before .before .before .before .before .before .if1 .left)
@@ -105,7 +115,8 @@ loop-less-3 : tie.Need-loop-less-3 Inv-loop μ-loop
 loop-less-3 c =
     let asked = c .before .before .before .before .before in
     let formed = asked .before .before .before .before in
-    let head = turn-on _ _ _ _ (formed .before .before .before .before .before .before .before .loop .inv) _ (formed .before .before .before .before .before .before .begun .ensures) _ _ _ (formed .before .before .before .before .passed .ensures) in
+    let passed = formed .before .before .before .before in
+    let head = turn-on _ _ _ _ (passed .before .before .before .loop .inv) _ (passed .before .before .begun .ensures) _ _ _ (passed .passed .ensures) in
     let h = turn-goes _ _ _ _ head _ (formed .shape .ensures) (asked .before .before .shape4 .given .1) (asked .step .ensures)
     (c .before .before .before .step3 .given .1) in
     omega (arith, h .fits, h .some, formed .before .before .before .before .passed .ensures .since)
@@ -114,7 +125,8 @@ loop-again-3 : tie.Need-loop-again-3 Inv-loop μ-loop
 loop-again-3 c =
     let asked = c .before .before .before .before .before in
     let formed = asked .before .before .before .before in
-    let head = turn-on _ _ _ _ (formed .before .before .before .before .before .before .before .loop .inv) _ (formed .before .before .before .before .before .before .begun .ensures) _ _ _ (formed .before .before .before .before .passed .ensures) in
+    let passed = formed .before .before .before .before in
+    let head = turn-on _ _ _ _ (passed .before .before .before .loop .inv) _ (passed .before .before .begun .ensures) _ _ _ (passed .passed .ensures) in
     let h = turn-goes _ _ _ _ head _ (formed .shape .ensures) (asked .before .before .shape4 .given .1) (asked .step .ensures)
     (c .before .before .before .step3 .given .1) in
     rw (c .directed .ensures) (h .head)
@@ -137,7 +149,8 @@ check-by-spec =
     returns-2
     (search arith)
     (λ c. omega (arith, c .before .before .if3 .taken, c .before .before .before .before .before .passed .ensures .within))
-    (λ c. turn-on _ _ _ _ (c .before .before .before .before .before .before .before .before .loop .inv) _ (c .before .before .before .before .before .before .before .begun .ensures) _ _ _ (c .before .before .before .before .before .passed .ensures))
+    (λ c. let at-begun = c .before .before .before .before .before .before .before .begun .ensures in
+    turn-on _ _ _ _ (c .before .before .before .before .before .before .before .before .loop .inv) _ at-begun _ _ _ (c .before .before .before .before .before .passed .ensures))
     (search arith)
     (search arith)
     (search arith)
