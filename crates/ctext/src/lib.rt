@@ -5,6 +5,7 @@ ghost use Rattle.runs.specs.Runs.{runAt};
 use base::Answer;
 use runs::Bounds;
 
+pub mod archives;
 pub mod lists;
 pub mod printing;
 pub mod resources;
@@ -18,14 +19,6 @@ pub extern "C" fn ctext_check(s: &[u8]) -> Answer
     ensures { λ r. ⌜ r ≡ checkOf (now (s .entry)) ⌝ }
 {
     check_string::answer(s)
-}
-
-// The same answer for every string, found by the table of the archive reader.
-#[no_mangle]
-pub extern "C" fn ctext_archive_check(s: &[u8]) -> Answer
-    ensures { λ r. ⌜ r ≡ checkOf (now (s .entry)) ⌝ }
-{
-    archive::check(s)
 }
 
 // Where the k-th run of a string lies, and its numbers. Each call checks the string and reads it up to the run that is asked for: for all

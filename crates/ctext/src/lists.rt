@@ -16,15 +16,6 @@ pub extern "C" fn ctext_read(s: &[u8], units: &mut [Unit]) -> Answer
     read::read(s, units)
 }
 
-// The same units and answer for every string, found by the table of the archive reader.
-#[no_mangle]
-pub extern "C" fn ctext_archive_read(s: &[u8], units: &mut [Unit]) -> Answer
-    ensures { λ r. ⌜ (r ≡ readAnswer (now (s .entry)) (length (now (units .entry))))
-        × (now (units .exit) ≡ listAfter (now (s .entry)) (now (units .entry))) ⌝ }
-{
-    archive::read(s, units)
-}
-
 // The units of a list, whose extended segments stand in the octets lent, are written as the shortest string, or the answer says why not.
 // The work room is to have 72 octets for each unit and 72 more. What it holds after is left open; it keeps its length.
 #[no_mangle]

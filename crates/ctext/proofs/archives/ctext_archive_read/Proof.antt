@@ -1,4 +1,4 @@
--- `ctext::lists::ctext_archive_read` meets its contract, which is that of `archive::read`: its code is followed by hand, for the list lent is of
+-- `ctext::archives::ctext_archive_read` meets its contract, which is that of `archive::read`: its code is followed by hand, for the list lent is of
 -- structs. It passes its two slices on, and what `archive::read` leaves is what it leaves.
 -- Assumes nothing.
 use Rattle.walks.proofs.Names.{_≡_, refl, _$_, !, u8}
@@ -14,8 +14,8 @@ use Rattle.walks.proofs.Entry.{Start, bound, cites, Passes, pass-in}
 use Rattle.walks.proofs.Frame.{leaves}
 use Rattle.walks.proofs.Steps.{arg, sets, lands-in, behind, resliced, sliced}
 use Rattle.archive.proofs.read as read
-use Rattle.ctext.proofs.lists.ctext_archive_read as ctext-archive-read
-use Rattle.ctext.proofs.lists.ctext_archive_read.Code as code
+use Rattle.ctext.proofs.archives.ctext_archive_read as ctext-archive-read
+use Rattle.ctext.proofs.archives.ctext_archive_read.Code as code
 
 abbrev params : Params (read.ended .signature .params) (read.ended .kept)
 params = (shared 0 tt u8, (given 1 tt U.the-row, tt))
