@@ -245,8 +245,8 @@ ctext_answer ctext_read(const uint8_t *s, size_t n, ctext_unit *units, size_t ro
 
 /* The archive reader: a second reader, driven by a table of what each octet starts.
    For every string its answer, its units and what it touches are those of
-   ctext_check and of ctext_read. Where many notes are read it is the quicker of
-   the two. */
+   ctext_check and of ctext_read. Of most notes it is the quicker of the two; of
+   units of long two-octet text, ctext_read. */
 ctext_answer ctext_archive_check(const uint8_t *s, size_t n);
 ctext_answer ctext_archive_read(const uint8_t *s, size_t n, ctext_unit *units, size_t room);
 
