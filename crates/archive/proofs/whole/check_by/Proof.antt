@@ -150,7 +150,8 @@ check-by-spec =
     (search arith)
     (λ c. omega (arith, c .before .before .if3 .taken, c .before .before .before .before .before .passed .ensures .within))
     (λ c. let at-begun = c .before .before .before .before .before .before .before .begun .ensures in
-    turn-on _ _ _ _ (c .before .before .before .before .before .before .before .before .loop .inv) _ at-begun _ _ _ (c .before .before .before .before .before .passed .ensures))
+    let at-passed = c .before .before .before .before .before .passed .ensures in
+    turn-on _ _ _ _ (c .before .before .before .before .before .before .before .before .loop .inv) _ at-begun _ _ _ at-passed)
     (search arith)
     (search arith)
     (search arith)
