@@ -94,7 +94,7 @@ fn placed(s: &[u8], at: usize, gl: u8, gr: u8) -> Reach
     reached(i, 0, left, right)
 }
 
-// What is passed at a place at once, nothing where a mark stands there: units and designations where text leaves the
+// What is passed at a place at once: units and designations where text leaves the
 // directions as they are, else designations, and then tabs and newlines.
 fn passed(t: &[u8], s: &[u8], at: usize, st: State) -> Reach
     requires { ⌜ (now t ≡ table) × (at ≤ length (now s)) ⌝ }
@@ -102,11 +102,6 @@ fn passed(t: &[u8], s: &[u8], at: usize, st: State) -> Reach
 {
     let directions = st.directions;
     let sets = st.sets;
-    if at < s.len() {
-        if s[at] == 0x9B {
-            return reached(at, 0, sets.gl, sets.gr);
-        }
-    }
     if settled(directions) {
         return quick(t, s, at, sets.gl, sets.gr);
     }
@@ -115,7 +110,8 @@ fn passed(t: &[u8], s: &[u8], at: usize, st: State) -> Reach
     reached(i, i - d.place, d.gl, d.gr)
 }
 
-// Whether a string is accepted, and what of it is refused. Units and designations are passed at once, and any other element by itself.
+// Whether a string is accepted, and what of it is refused. Units and designations are passed at once, and any other element by itself; a mark, which
+// is none of these, is not looked at twice.
 pub fn check_by(t: &[u8], s: &[u8]) -> Answer
     requires { ⌜ now t ≡ table ⌝ }
     ensures { λ r. ⌜ r ≡ checkOf (now (s .entry)) ⌝ }
@@ -126,26 +122,30 @@ pub fn check_by(t: &[u8], s: &[u8]) -> Answer
     let mut at: usize = 0;
     let mut count: usize = 0;
     let mut st = State::FRESH;
-    loop {
-        st = begun(t, s, at, st);
-        let directions = st.directions;
-        let p = passed(t, s, at, st);
-        let began = at;
-        at = p.place;
-        count += p.units;
-        let sets = Sets { gl: p.gl, gr: p.gr };
-        st = State {
-            directions: directions,
-            sets: sets,
-        };
-        if s.len() <= at {
-            return Answer::accepted(at, count);
-        }
-        if began < at {
-            if !settled(directions) {
-                continue;
+    while at < s.len() {
+        if s[at] != 0x9B {
+            st = begun(t, s, at, st);
+            let directions = st.directions;
+            let p = passed(t, s, at, st);
+            let began = at;
+            at = p.place;
+            count += p.units;
+            let sets = Sets { gl: p.gl, gr: p.gr };
+            st = State {
+                directions: directions,
+                sets: sets,
+            };
+            if s.len() <= at {
+                return Answer::accepted(at, count);
+            }
+            if began < at {
+                if !settled(directions) {
+                    continue;
+                }
             }
         }
+        let sets = st.sets;
+        let directions = st.directions;
         let shape = element::shape(s, at, sets);
         match shape {
             Shape::Ends => {
@@ -174,4 +174,5 @@ pub fn check_by(t: &[u8], s: &[u8]) -> Answer
             }
         }
     }
+    Answer::accepted(at, count)
 }

@@ -1,6 +1,6 @@
 -- `archive::whole::passed` meets its contract, by what `quick`, `placed` and `blanks` ensure.
-use Rattle.element.proofs.Names.{arith, sym, _∙_}
-use Rattle.archive.proofs.Passes.{leads-none, leads-on}
+use Rattle.element.proofs.Names.{sym, _∙_}
+use Rattle.archive.proofs.Passes.{leads-on}
 use Rattle.archive.proofs.Turn.{blanks-lead}
 use Rattle.archive.proofs.whole.passed.Statement.{statement}
 use Rattle.archive.proofs.whole.passed.Tie as tie
@@ -9,15 +9,12 @@ pub passed-spec : {M : Type 1} → statement M
 passed-spec =
     tie.close
     (tie.spec
-    (search arith)
     (λ c κs. tt)
-    (λ c. rw (c .reached .ensures) (leads-none _ _ _ (c .before .before .before .before .before .before .before .before .pre .1)))
-    (λ c κs. tt)
-    (λ c κs. c .before .before .before .before .before .before .before .pre)
-    (λ c. c .quick .ensures .leads _ (sym (c .before .before .settled .ensures) ∙ c .before .if3 .taken))
-    (λ c κs. c .before .before .before .before .before .before .before .pre .1)
-    (λ c κs. (c .before .before .before .before .before .before .before .before .pre .0, c .placed .ensures .within))
+    (λ c κs. c .before .before .before .before .before .before .pre)
+    (λ c. c .quick .ensures .leads _ (sym (c .before .before .settled .ensures) ∙ c .before .if1 .taken))
+    (λ c κs. c .before .before .before .before .before .before .pre .1)
+    (λ c κs. (c .before .before .before .before .before .before .before .pre .0, c .placed .ensures .within))
     (λ c. c .before .blanks .ensures .since)
     (λ c κs. tt)
     (λ c. let placed = c .before .before .before .placed .ensures in
-    rw (c .reached2 .ensures) (leads-on _ _ _ _ _ _ _ _ (placed .leads _) (blanks-lead _ _ _ _ (c .before .before .blanks .ensures)))))
+    rw (c .reached .ensures) (leads-on _ _ _ _ _ _ _ _ (placed .leads _) (blanks-lead _ _ _ _ (c .before .before .blanks .ensures)))))
