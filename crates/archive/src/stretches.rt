@@ -7,6 +7,7 @@ ghost use Rattle.octet_table.specs.Table.{table};
 ghost use Rattle.archive.specs.Passes.{Passes, Ones, Within, Classed};
 use crate::blocks::blocks;
 use crate::classes::class_at;
+use crate::classes::full_right;
 use octet_table::ONE_GR;
 use octet_table::SPACE;
 use octet_table::TWO_GL;
@@ -101,15 +102,15 @@ pub fn fours(t: &[u8], s: &[u8], at: usize, row: usize) -> usize
 }
 
 // The place after the blocks of units of one octet that start at a place, where the octet there is one of this class.
-fn ones(s: &[u8], at: usize, row: usize, k: u8) -> usize
-    requires { ⌜ (at ≤ length (now s)) × Classed row (now s) at k ⌝ }
+fn ones(t: &[u8], s: &[u8], at: usize, row: usize, k: u8) -> usize
+    requires { ⌜ (now t ≡ table) × (row ≤ 1280) × Classed row (now s) at k ⌝ }
     ensures { λ r. ⌜ Passes row (now (s .entry)) at r (r - at) ⌝ }
 {
     if k <= SPACE {
         return blocks(s, at, 0x20, 0x7E);
     }
     if k == ONE_GR {
-        if row % 768 == 256 {
+        if full_right(t, row) {
             return blocks(s, at, 0xA0, 0xFF);
         }
         return blocks(s, at, 0xA1, 0xFE);
@@ -140,11 +141,32 @@ fn far(t: &[u8], s: &[u8], at: usize, row: usize, k: u8) -> Stretch
     if k == TWO_GR {
         return twos(s, at, 0xA1, 0xFE);
     }
-    let n = fours(t, s, ones(s, at, row, k), row) - at;
+    let n = fours(t, s, ones(t, s, at, row, k), row) - at;
     Stretch {
         octets: n,
         units: n,
     }
+}
+
+// Whole characters of two octets from a place up to an end.
+fn pairs_to(at: usize, end: usize) -> Stretch
+    requires { ⌜ at ≤ end ⌝ }
+    ensures { λ r. ⌜ (r .octets ≡ 2 * r .units) × (at + r .octets ≤ end) ⌝ }
+{
+    let n = (end - at) / 2;
+    Stretch {
+        octets: 2 * n,
+        units: n,
+    }
+}
+
+fn lesser(m: usize, n: usize) -> usize
+    ensures { λ r. ⌜ (r ≤ m) × (r ≤ n) × (m ≤ r → r ≡ m) ⌝ }
+{
+    if m < n {
+        return m;
+    }
+    n
 }
 
 // The stretch at a place, up to an end that is near.
@@ -160,8 +182,11 @@ fn near(t: &[u8], s: &[u8], at: usize, end: usize, row: usize) -> Stretch
             units: n,
         };
     }
-    if k <= TWO_GR {
-        return pairs(t, s, at, end, row, k);
+    if k == TWO_GL {
+        return doubles(t, s, at, end, row);
+    }
+    if k == TWO_GR {
+        return pairs(t, s, at, end, row, TWO_GR);
     }
     Stretch {
         octets: 0,
@@ -174,10 +199,7 @@ pub fn stretch_by(t: &[u8], s: &[u8], at: usize, row: usize) -> Stretch
     requires { ⌜ (now t ≡ table) × (row ≤ 1280) × (at < length (now s)) ⌝ }
     ensures { λ r. ⌜ Passes row (now (s .entry)) at (at + r .octets) (r .units) ⌝ }
 {
-    if s.len() - at <= NEAR {
-        return near(t, s, at, s.len(), row);
-    }
-    let a = near(t, s, at, at + NEAR, row);
+    let a = near(t, s, at, at + lesser(NEAR, s.len() - at), row);
     if a.octets < NEAR {
         return a;
     }

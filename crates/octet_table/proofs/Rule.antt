@@ -7,13 +7,13 @@ use Rattle.element.proofs.Names.{formOf, Sets, GL, GR}
 use Rattle.element.proofs.Names.{on-eq, on-ne}
 use Rattle.state.specs.State.{sets}
 use native.Mathlib.Nat.{add-zero}
-use Rattle.base.proofs.Bools.{upTo, up-to-both}
+use Rattle.base.proofs.Bools.{upTo, up-to-both, implies, implies-elim}
 use Rattle.charset.proofs.Laws.{by-rows, row-past}
 use Rattle.text.specs.Text.{graphicOf}
 use Rattle.element.specs.Element.{shapeOf}
 use Rattle.element.specs.Start.{Start, usedIn, characterStart, leftStart, startOf, startIn, begunBy}
 use Rattle.element.specs.Start as start
-use Rattle.octet_table.specs.Table.{numberOf, classOf, ruleOf, entries, table, rightOf, rowFor, rowOf}
+use Rattle.octet_table.specs.Table.{numberOf, classOf, ruleOf, entries, table, leftOf, rightOf, rowFor, rowOf}
 
 -- ---- the rows
 
@@ -21,44 +21,15 @@ pub right-most : (form : ℕ) → rightOf form ≤ 512
 unfolding rightOf
 right-most form = pick-by (λ n. n ≤ 512) _ (λ _. omega arith) (λ _. pick-by (λ n. n ≤ 512) _ (λ _. omega arith) (λ _. omega arith))
 
+pub left-most : (form : ℕ) → leftOf form ≤ 768
+unfolding leftOf
+left-most form = pick-by (λ n. n ≤ 768) _ (λ _. omega arith) (λ _. omega arith)
+
 pub row-most : (s : Sets) → rowOf s ≤ 1280
-unfolding rowFor
-row-most s =
-    let h = right-most (formOf (s .gr)) in
-    pick-by (λ n. n ≤ 1280) _ (λ _. omega (arith, h)) (λ _. omega (arith, h))
+row-most s = let l = left-most (formOf (s .gl)) in let r = right-most (formOf (s .gr)) in omega (arith, l, r)
 
 pub row-low : (row : ℕ) (s : Sets) → row ≡ rowOf s → row ≤ 1280
 row-low row s e = rw e (row-most s)
-
--- a row with a set of 96 in GR
-right-96 : (form : ℕ) → rightOf form ≡ 256 → form ≡ form-96
-unfolding rightOf
-right-96 form =
-    pick-by (λ n. n ≡ 256 → form ≡ form-96) _ (λ e _. eqb-true _ _ e)
-    (λ _. pick-by (λ n. n ≡ 256 → form ≡ form-96) _ (λ _ k. absurd (omega arith)) (λ _ k. absurd (omega arith)))
-
-pub row-96 : (s : Sets) → rowOf s % 768 ≡ 256 → formOf (s .gr) ≡ form-96
-unfolding rowFor
-row-96 s =
-    let m = right-most (formOf (s .gr)) in
-    pick-by (λ n. n % 768 ≡ 256 → formOf (s .gr) ≡ form-96) _ (λ _ k. right-96 _ (omega (arith, m))) (λ _ k. right-96 _ (omega (arith, m)))
-
--- by what the code has found
-pub row-fits : (r form : ℕ) → r ≡ rightOf form → 768 + r < 2 ^ 64
-row-fits r form e =
-    let h = right-most form in
-    omega (arith, e, h)
-
-module _ (gl gr f g r : ℕ) (e : r ≡ rightOf g) (j : g ≡ formOf gr) (i : f ≡ formOf gl) where
-  pub row-wide : f ≡ form-94x94 → 768 + r ≡ rowOf (sets gl gr)
-  unfolding rowFor
-  row-wide k = rw (e, ← j, ← i) (on-eq f form-94x94 _ _ _ k refl)
-
-  pub row-narrow : (f ≡ form-94x94 → ⊥) → r ≡ rowOf (sets gl gr)
-  unfolding rowFor
-  row-narrow k = rw (e, ← j, ← i) (on-ne f form-94x94 _ _ _ k refl)
-
-pub ruleset rows = (row-wide, row-narrow)
 
 -- ---- the entries
 
@@ -97,7 +68,7 @@ agrees left right b = eqb (ruleOf (rowFor left right + b)) (numberOf (startOf le
 
 -- the computed test: of four forms in GL and in GR, and 256 octets
 all-agree : upTo 4 (λ left. upTo 4 (λ right. upTo 256 (agrees left right))) ≡ true
-unfolding agrees ruleOf rowFor rightOf numberOf startOf leftStart characterStart usedIn graphicOf pick
+unfolding agrees ruleOf leftOf rightOf numberOf startOf leftStart characterStart usedIn graphicOf pick
 all-agree = refl
 
 pub row-rule : (s : Sets) (b : ℕ) → b < 256 → ruleOf (rowOf s + b) ≡ numberOf (startIn s b)
@@ -106,6 +77,20 @@ row-rule s b h =
     eqb-true _ _
     (up-to 256 (agrees (formOf (s .gl)) (formOf (s .gr)))
     (up-to-both 4 4 (λ l r. upTo 256 (agrees l r)) all-agree (formOf (s .gl)) (formOf (s .gr)) (form-most (s .gl)) (form-most (s .gr))) b h)
+
+-- a set in GR of which A0 is a character is of 96: a test that antt computes
+full-rule : upTo 4 (λ left. upTo 4 (λ right. implies (eqb (numberOf (startOf left right 0xA0)) 4) (eqb right form-96))) ≡ true
+unfolding numberOf startOf leftStart characterStart usedIn graphicOf pick
+full-rule = refl
+
+pub row-96 : (s : Sets) → ruleOf (rowOf s + 0xA0) ≡ 4 → formOf (s .gr) ≡ form-96
+row-96 s h =
+    let left = formOf (s .gl) in
+    let right = formOf (s .gr) in
+    let e : eqb (numberOf (startIn s 0xA0)) 4 ≡ true = rw (sym (row-rule s 0xA0 (omega arith)) ∙ h) refl in
+    let t = up-to-both 4 4 (λ l r. implies (eqb (numberOf (startOf l r 0xA0)) 4) (eqb r form-96)) full-rule left right
+    (form-most (s .gl)) (form-most (s .gr)) in
+    eqb-true _ _ (implies-elim (eqb (numberOf (startIn s 0xA0)) 4) (eqb right form-96) t e)
 
 -- ---- the classes
 

@@ -44,12 +44,15 @@ entries f (suc n) i = f i ∷ entries f n (suc i)
 unfoldable pub table : List ℕ
 table = entries ruleOf 1536 0
 
--- where the row of the sets in force starts; a set of no form has the row of one of 94
+-- where the row of the sets in force starts: what the form in GL adds, and what that in GR; a set of no form has the row of one of 94
+unfoldable pub leftOf : ℕ → ℕ
+leftOf form = pick (eqb form form-94x94) 768 0
+
 unfoldable pub rightOf : ℕ → ℕ
 rightOf form = pick (eqb form form-96) 256 (pick (eqb form form-94x94) 512 0)
 
-unfoldable pub rowFor : ℕ → ℕ → ℕ
-rowFor left right = pick (eqb left form-94x94) (768 + rightOf right) (rightOf right)
+abbrev pub rowFor : ℕ → ℕ → ℕ
+rowFor left right = leftOf left + rightOf right
 
 abbrev pub rowOf : Sets → ℕ
 rowOf s = rowFor (formOf (s .gl)) (formOf (s .gr))

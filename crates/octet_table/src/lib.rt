@@ -1,6 +1,6 @@
 // The table of the archive reader: what each octet starts, under each row of sets in GL and GR.
 ghost use mathlib.Core.Path.{_≡_};
-ghost use Rattle.octet_table.specs.Table.{table, rightOf, rowOf};
+ghost use Rattle.octet_table.specs.Table.{table, leftOf, rightOf, rowOf};
 ghost use Rattle.state.specs.State.{sets};
 use charset::FORM_94X94;
 use charset::FORM_96;
@@ -1573,8 +1573,18 @@ pub fn table() -> [u8; 1536]
     TABLE
 }
 
-// Where the row of a form in GR starts, among the three rows of one width in GL.
-fn right_of(form: u8) -> usize
+// What a form in GL adds to where a row starts.
+pub fn left_of(form: u8) -> usize
+    ensures { λ r. ⌜ r ≡ leftOf form ⌝ }
+{
+    if form == FORM_94X94 {
+        return 768;
+    }
+    0
+}
+
+// What a form in GR adds to it.
+pub fn right_of(form: u8) -> usize
     ensures { λ r. ⌜ r ≡ rightOf form ⌝ }
 {
     if form == FORM_96 {
@@ -1590,9 +1600,5 @@ fn right_of(form: u8) -> usize
 pub fn row_of(gl: u8, gr: u8) -> usize
     ensures { λ r. ⌜ r ≡ rowOf (sets gl gr) ⌝ }
 {
-    let right = right_of(charset::form_of(gr));
-    if charset::form_of(gl) == FORM_94X94 {
-        return 768 + right;
-    }
-    right
+    left_of(charset::form_of(gl)) + right_of(charset::form_of(gr))
 }
