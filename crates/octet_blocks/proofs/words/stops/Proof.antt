@@ -1,0 +1,9 @@
+-- `octet_blocks::words::stops` meets its contract, by what the two sums ensure.
+use native.Mathlib.Omega.{arith}
+use Rattle.octet_blocks.proofs.Stops.{led-word}
+use Rattle.octet_blocks.proofs.words.stops.Statement.{statement}
+use Rattle.octet_blocks.proofs.words.stops.Tie as tie
+
+pub stops-spec : {M : Type 1} → statement M
+stops-spec =
+    tie.close (tie.spec (search arith) (search arith) (λ c. led-word _ _ _ (c .before .wrapping-sub-u64 .ensures) (c .wrapping-add-u64 .ensures)))
