@@ -50,7 +50,8 @@ eightAt s at =
     getD s at 0 ∷ getD s (at + 1) 0 ∷ getD s (at + 2) 0 ∷ getD s (at + 3) 0 ∷ getD s (at + 4) 0 ∷ getD s (at + 5) 0 ∷ getD s (at + 6) 0
     ∷ getD s (at + 7) 0 ∷ []
 
-pub led-octets : (s : List ℕ) (at : ℕ) → ((i : ℕ) → getD s i 0 < 256) → at + 8 ≤ length s → Within 0x21 0x7E s at (at + ledOf 8 (wordOf (eightAt s at)))
+pub led-octets : (s : List ℕ) (at : ℕ) → ((i : ℕ) → getD s i 0 < 256) → at + 8 ≤ length s
+    → Within 0x21 0x7E s at (at + ledOf 8 (wordOf (eightAt s at)))
 led-octets s at o h =
     let m = led-most 8 (wordOf (eightAt s at)) in
     let e : firsts 8 (λ i. getD s (at + i) 0) ≡ eightAt s at

@@ -26,6 +26,6 @@ blocks-end-spec =
     (λ c κs. omega (arith, c .before .loop .inv .within))
     (λ c. omega (arith, c .before .before .before .loop .inv .within))
     (search arith)
-    (λ c. blocks-more _ _ _ _ _ _ (c .before .before .before .loop .inv) (c .before .strays .ensures (c .if2 .taken)))
+    (λ c. blocks-more _ _ _ _ _ _ (c .before .before .before .loop .inv) (c .before .strays .ensures (omega arith)))
     (λ c. (λ _. c .before .before .before .loop .inv, λ h. absurd (omega arith)))
     (λ c. (λ _. c .before .loop .inv, λ h. absurd (omega arith))))
