@@ -1,0 +1,3 @@
+pub mod Counted
+pub mod Stops
+pub mod Octets

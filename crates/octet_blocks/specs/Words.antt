@@ -1,0 +1,20 @@
+-- Octets in one word, the first of them lowest.
+use Prim.Native.Nat.{ℕ, zero, suc, _+_, _*_, _/_, _%_}
+use mathlib.Core.Bool.{Bool, false}
+use mathlib.Core.List.{List, [], _∷_}
+use lib.Dec.{leb}
+use Rattle.base.specs.Choice.{pick}
+
+-- an octet of 21-7E
+unfoldable pub graphic : ℕ → Bool
+graphic b = pick (leb 0x21 b) (leb b 0x7E) false
+
+-- how many of the n lowest octets of a word are of 21-7E, up to the first that is not
+unfoldable pub ledOf : ℕ → ℕ → ℕ
+ledOf zero w = 0
+ledOf (suc n) w = pick (graphic (w % 256)) (suc (ledOf n (w / 256))) 0
+
+-- octets as one word
+unfoldable pub wordOf : List ℕ → ℕ
+wordOf [] = 0
+wordOf (b ∷ t) = b + 256 * wordOf t
