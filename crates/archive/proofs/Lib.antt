@@ -1,5 +1,4 @@
 pub mod Passes
-pub mod Counted
 pub mod Turn
 pub mod Filled
 pub mod Ready

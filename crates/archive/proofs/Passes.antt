@@ -18,13 +18,15 @@ use Rattle.designations.specs.Designation.{sequenceOf, designationAt}
 use Rattle.designations.specs.declared.Designation.{Designation}
 use Rattle.designations.proofs.Designations.{designation-silent, on-four}
 use Rattle.state.specs.State.{state}
+use Rattle.octet_blocks.specs.Blocks.{Within}
+use Rattle.octet_blocks.proofs.Counted.{within-less}
 use Rattle.octet_table.specs.Table.{numberOf, classOf, ruleOf, rowOf}
 use Rattle.octet_table.proofs.Rule.{row-rule, row-96, class-number}
 use Rattle.stretch.specs.Characters.{settledOf}
 use Rattle.stretch.proofs.Law.{One}
 use Rattle.stretch.proofs.Starts.{Lone, blank, text, left-start, one-start, written-two, lone-one}
 use Rattle.stretch.proofs.Starts as text-of
-use Rattle.archive.specs.Passes.{Leads, Leaves, Passes, Places, Reaches, Classed, Ones, Within}
+use Rattle.archive.specs.Passes.{Leads, Leaves, Passes, Places, Reaches, Classed, Ones}
 
 -- ---- one after another
 
@@ -242,10 +244,10 @@ module _ (row : ℕ) (s : List ℕ) (at k r : ℕ) (c : Classed row s at k) wher
       ones-pass 0xA1 0xFE w (λ st q b l m.
       text (one-start (st .sets) b GR (omega arith) (graphic-used _ b (graphic (b % 128) (omega arith) (omega arith))) (right-narrow st q e)))
 
-  pub ones-96 : k ≡ 4 → row % 768 ≡ 256 → Within 0xA0 0xFF s at r → Passes row s at r (r - at)
+  pub ones-96 : k ≡ 4 → ruleOf (row + 0xA0) ≡ 4 → Within 0xA0 0xFF s at r → Passes row s at r (r - at)
   ones-96 e f w =
       ones-pass 0xA0 0xFF w (λ st q b l m.
-      text (one-start (st .sets) b GR l (all-used _ b (row-96 (st .sets) (rw (← q) at f))) (right-narrow st q e)))
+      text (one-start (st .sets) b GR l (all-used _ b (row-96 (st .sets) (rw q f))) (right-narrow st q e)))
 
 -- and the same of characters of two octets, n of them
 module _ (row : ℕ) (s : List ℕ) (at k m n : ℕ) (c : Classed row s at k) (e : m ≡ 2 * n) where
@@ -359,6 +361,16 @@ module _ (row : ℕ) (s : List ℕ) (at : ℕ) where
       let b = ones-passes row s i j o in
       let f : i - at + (j - i) ≡ j - at = omega (arith, a .since, o .since) in
       passes-at j (j - at) (subst (Passes row s at j) f (passes-more row s at i j (i - at) (j - i) a b))
+
+-- characters of two octets in GL, where the octets up to a place are of their span, and what follows them
+module _ (row : ℕ) (s : List ℕ) (at i m n : ℕ) (c : Classed row s at 5) (w : Within 0x21 0x7E s at i) (e : m ≡ 2 * n) (f : n ≡ (i - at) / 2) where
+  pub doubles-pass : Passes row s at (at + m) n
+  doubles-pass = twos-gl row s at 5 m n c e refl (within-less 0x21 0x7E s at (at + m) i (omega arith) (omega (arith, e, f, w .since)) w)
+
+  pub doubles-on : (i - at) % 2 ≡ 0 → (l k : ℕ) → Passes row s i (i + l) k → Passes row s at (at + (m + l)) (n + k)
+  doubles-on even l k p =
+      let g : i ≡ at + m = omega (arith, e, f, w .since, even) in
+      passes-both row s at m n l k doubles-pass (rw g at p)
 
 -- ---- under sets that designations change
 

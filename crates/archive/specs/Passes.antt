@@ -62,13 +62,3 @@ pub record Ones (row : ℕ) (s : List ℕ) (at i : ℕ) : Type 0 where
   pub since : at ≤ i
   pub within : i ≤ length s
   pub each : (j : ℕ) → at ≤ j → j < i → (getD s j 0 < 256) × (ruleOf (row + getD s j 0) ≤ 4)
-
--- an octet that is not of a span
-unfoldable pub outsideOf : ℕ → ℕ → ℕ → ℕ
-outsideOf first last b = pick (ltb b first) 1 (pick (ltb last b) 1 0)
-
--- only octets of a span stand from a place to another
-pub record Within (first last : ℕ) (s : List ℕ) (at i : ℕ) : Type 0 where
-  pub since : at ≤ i
-  pub within : i ≤ length s
-  pub each : (j : ℕ) → at ≤ j → j < i → (first ≤ getD s j 0) × (getD s j 0 ≤ last)

@@ -11,12 +11,12 @@ use base::Answer;
 use base::Unit;
 use base::refusal;
 
-mod blocks;
 mod classes;
 mod quick;
 mod stretches;
 mod turns;
 mod whole;
+mod words;
 
 // Whether a string is accepted, and what of it is refused: what `check_string::answer` says.
 pub fn check(s: &[u8]) -> Answer

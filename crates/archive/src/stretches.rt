@@ -1,17 +1,20 @@
 // Units of one octet and of two, one after another, that leave the state as it is: by the class of each octet, and by blocks of 64.
 ghost use mathlib.Core.Path.{_≡_};
 ghost use mathlib.Core.Bool.{true};
-ghost use Prim.Native.Nat.{_+_, _*_, _-_, _≤_, _<_};
+ghost use Prim.Native.Nat.{_+_, _*_, _-_, _/_, _≤_, _<_};
 ghost use lib.ListN.{length};
+ghost use Rattle.octet_blocks.specs.Blocks.{Within};
 ghost use Rattle.octet_table.specs.Table.{table};
-ghost use Rattle.archive.specs.Passes.{Passes, Ones, Within, Classed};
-use crate::blocks::blocks;
+ghost use Rattle.archive.specs.Passes.{Passes, Ones, Classed};
 use crate::classes::class_at;
 use crate::classes::full_right;
+use crate::words::leading;
+use octet_blocks::blocks::blocks_end;
 use octet_table::ONE_GR;
 use octet_table::SPACE;
 use octet_table::TWO_GL;
 use octet_table::TWO_GR;
+use spans::lesser;
 use stretch::characters::Stretch;
 
 // How far a stretch goes octet by octet before blocks are tried: an even number, for characters of two octets.
@@ -107,13 +110,13 @@ fn ones(t: &[u8], s: &[u8], at: usize, row: usize, k: u8) -> usize
     ensures { λ r. ⌜ Passes row (now (s .entry)) at r (r - at) ⌝ }
 {
     if k <= SPACE {
-        return blocks(s, at, 0x20, 0x7E);
+        return blocks_end(s, at, 0x20, 0x7E);
     }
     if k == ONE_GR {
         if full_right(t, row) {
-            return blocks(s, at, 0xA0, 0xFF);
+            return blocks_end(s, at, 0xA0, 0xFF);
         }
-        return blocks(s, at, 0xA1, 0xFE);
+        return blocks_end(s, at, 0xA1, 0xFE);
     }
     at
 }
@@ -123,7 +126,7 @@ fn twos(s: &[u8], at: usize, first: u8, last: u8) -> Stretch
     requires { ⌜ at ≤ length (now s) ⌝ }
     ensures { λ r. ⌜ Within first last (now (s .entry)) at (at + r .octets) × (r .octets ≡ 2 * r .units) ⌝ }
 {
-    let n = (blocks(s, at, first, last) - at) / 2;
+    let n = (blocks_end(s, at, first, last) - at) / 2;
     Stretch {
         octets: 2 * n,
         units: n,
@@ -151,7 +154,7 @@ fn far(t: &[u8], s: &[u8], at: usize, row: usize, k: u8) -> Stretch
 // Whole characters of two octets from a place up to an end.
 fn pairs_to(at: usize, end: usize) -> Stretch
     requires { ⌜ at ≤ end ⌝ }
-    ensures { λ r. ⌜ (r .octets ≡ 2 * r .units) × (at + r .octets ≤ end) ⌝ }
+    ensures { λ r. ⌜ (r .octets ≡ 2 * r .units) × (r .units ≡ (end - at) / 2) ⌝ }
 {
     let n = (end - at) / 2;
     Stretch {
@@ -160,13 +163,29 @@ fn pairs_to(at: usize, end: usize) -> Stretch
     }
 }
 
-fn lesser(m: usize, n: usize) -> usize
-    ensures { λ r. ⌜ (r ≤ m) × (r ≤ n) × (m ≤ r → r ≡ m) ⌝ }
+// The characters of two octets in GL that start at a place: a word of eight octets at a time up to an end that is near, and octet by octet where
+// no word is left.
+fn doubles(t: &[u8], s: &[u8], at: usize, end: usize, row: usize) -> Stretch
+    requires { ⌜ (now t ≡ table) × (row ≤ 1280) × (at < end) × (end ≤ length (now s)) × Classed row (now s) at 5 ⌝ }
+    ensures { λ r. ⌜ Passes row (now (s .entry)) at (at + r .octets) (r .units) ⌝ }
 {
-    if m < n {
-        return m;
+    let mut i = at;
+    while 8 <= s.len() - i {
+        let n = leading(s, i);
+        if n < 8 {
+            return pairs_to(at, i + n);
+        }
+        i += 8;
+        if end <= i {
+            return pairs_to(at, i);
+        }
     }
-    n
+    let a = pairs_to(at, i);
+    let b = pairs(t, s, i, end, row, TWO_GL);
+    Stretch {
+        octets: a.octets + b.octets,
+        units: a.units + b.units,
+    }
 }
 
 // The stretch at a place, up to an end that is near.

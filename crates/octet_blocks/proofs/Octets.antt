@@ -9,7 +9,7 @@ use lib.ListN.{length, getD}
 use Rattle.base.specs.Choice.{pick}
 use Rattle.base.proofs.Bools.{pick-by}
 use Rattle.octet_blocks.specs.Blocks.{Within}
-use Rattle.octet_blocks.specs.Words.{graphic, ledOf, wordOf}
+use Rattle.octet_blocks.specs.Words.{graphic, ledOf, wordOf, eightAt}
 use Rattle.octet_blocks.proofs.Stops.{graphic-low}
 
 pub led-most : (n w : ℕ) → ledOf n w ≤ n
@@ -43,12 +43,6 @@ led-firsts (suc n) f o j h =
         → j < suc (ledOf n (wordOf (firsts n (λ i. f (suc i))))) → (0x21 ≤ f j) × (f j ≤ 0x7E)
     at-each zero a b l = a
     at-each (suc k) a b l = b k (omega arith)
-
--- the eight octets at a place
-abbrev pub eightAt : List ℕ → ℕ → List ℕ
-eightAt s at =
-    getD s at 0 ∷ getD s (at + 1) 0 ∷ getD s (at + 2) 0 ∷ getD s (at + 3) 0 ∷ getD s (at + 4) 0 ∷ getD s (at + 5) 0 ∷ getD s (at + 6) 0
-    ∷ getD s (at + 7) 0 ∷ []
 
 pub led-octets : (s : List ℕ) (at : ℕ) → ((i : ℕ) → getD s i 0 < 256) → at + 8 ≤ length s
     → Within 0x21 0x7E s at (at + ledOf 8 (wordOf (eightAt s at)))

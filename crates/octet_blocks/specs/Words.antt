@@ -3,6 +3,7 @@ use Prim.Native.Nat.{ℕ, zero, suc, _+_, _*_, _/_, _%_}
 use mathlib.Core.Bool.{Bool, false}
 use mathlib.Core.List.{List, [], _∷_}
 use lib.Dec.{leb}
+use lib.ListN.{getD}
 use Rattle.base.specs.Choice.{pick}
 
 -- an octet of 21-7E
@@ -18,3 +19,9 @@ ledOf (suc n) w = pick (graphic (w % 256)) (suc (ledOf n (w / 256))) 0
 unfoldable pub wordOf : List ℕ → ℕ
 wordOf [] = 0
 wordOf (b ∷ t) = b + 256 * wordOf t
+
+-- the eight octets at a place
+abbrev pub eightAt : List ℕ → ℕ → List ℕ
+eightAt s at =
+    getD s at 0 ∷ getD s (at + 1) 0 ∷ getD s (at + 2) 0 ∷ getD s (at + 3) 0 ∷ getD s (at + 4) 0 ∷ getD s (at + 5) 0 ∷ getD s (at + 6) 0
+    ∷ getD s (at + 7) 0 ∷ []

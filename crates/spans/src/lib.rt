@@ -88,7 +88,7 @@ fn form_at(b: u8, gl: u8, gr: u8) -> u8
     ANY
 }
 
-fn lesser(m: usize, n: usize) -> usize
+pub fn lesser(m: usize, n: usize) -> usize
     ensures { λ r. ⌜ r ≡ lesserOf m n ⌝ }
 {
     if m < n {
