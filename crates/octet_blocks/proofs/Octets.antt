@@ -3,7 +3,7 @@
 use Prim.Native.Nat.{ℕ, zero, suc, _+_, _-_, _*_, _/_, _%_, _<_, _≤_}
 use native.Mathlib.Omega.{arith}
 use native.Mathlib.Nat.{add-zero}
-use mathlib.Core.Path.{_≡_, ap, ap₂, subst, sym}
+use mathlib.Core.Path.{_≡_, ap, ap₂, _∙_, subst, sym}
 use mathlib.Core.List.{List, [], _∷_}
 use lib.ListN.{length, getD}
 use Rattle.base.specs.Choice.{pick}
@@ -60,3 +60,11 @@ led-octets s at o h =
           (subst (λ (t : List ℕ). j - at < ledOf 8 (wordOf t)) (sym e) below) in
           subst (λ (k : ℕ). (0x21 ≤ getD s k 0) × (getD s k 0 ≤ 0x7E)) (sym q) r;
     }
+
+-- by what the code has found: the word, and the count
+pub led-passed : (s : List ℕ) (at w n : ℕ) → ((i : ℕ) → getD s i 0 < 256) → at + 8 ≤ length s → w ≡ wordOf (eightAt s at) → n ≡ ledOf 8 w
+    → Within 0x21 0x7E s at (at + n)
+led-passed s at w n o h e k = subst (λ (m : ℕ). Within 0x21 0x7E s at (at + m)) (sym (k ∙ ap (ledOf 8) e)) (led-octets s at o h)
+
+pub led-few : (w n : ℕ) → n ≡ ledOf 8 w → n ≤ 8
+led-few w n e = let m = led-most 8 w in omega arith
