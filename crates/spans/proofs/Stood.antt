@@ -120,7 +120,7 @@ module _ (s : List ℕ) (at : ℕ) (to : Sets) (inside : at < length s) where
 
 -- ---- the spans
 
-least : (m n : ℕ) → (lesserOf m n ≤ m) × ((lesserOf m n ≤ n) × (1 ≤ m → 1 ≤ n → 1 ≤ lesserOf m n))
+pub least : (m n : ℕ) → (lesserOf m n ≤ m) × ((lesserOf m n ≤ n) × (1 ≤ m → 1 ≤ n → 1 ≤ lesserOf m n))
 unfolding lesserOf
 least m n =
     pick-by (λ x. (x ≤ m) × ((x ≤ n) × (1 ≤ m → 1 ≤ n → 1 ≤ x))) (ltb m n) (λ e. (omega arith, (omega (tested, e), λ i j. i)))

@@ -1,6 +1,6 @@
 -- `archive::stretches::doubles` meets its contract: from the place on only octets of 21-7E stand, and the first is of a set of two octets in GL, so as
 -- many characters of two octets as are whole; and then those that are found octet by octet.
-use Rattle.element.proofs.Names.{ℕ, _+_, _-_, _%_, _<_, _≤_, arith, _≡_, List, length}
+use Rattle.element.proofs.Names.{ℕ, _+_, _-_, _%_, _<_, _≤_, arith, _≡_, List, length, now}
 use Rattle.octet_blocks.specs.Blocks.{Within}
 use Rattle.octet_blocks.proofs.Counted.{within-none, blocks-more}
 use Rattle.archive.proofs.Passes.{doubles-pass, doubles-on}
@@ -48,12 +48,26 @@ doubles-spec =
     (λ c κs. let at-loop = c .before .before in
     let pre = at-loop .before .before .before .pre in (pre .0, pre .1, omega (arith, at-loop .loop .inv .1), pre .3, omega arith, omega arith))
     (λ c. let rest = c .before .before in
-    let whole = rest .before in omega (arith, rest .pairs .ensures .within, whole .pairs-to3 .ensures .0, whole .pairs-to3 .ensures .1))
-    (λ c. let rest = c .before .before .before .before in
-    let whole = rest .before in omega (arith, rest .pairs .ensures .since, rest .pairs .ensures .within, whole .pairs-to3 .ensures .1))
+    let whole = rest .before in
+    let at-loop = whole .before .before in
+    let inv = at-loop .loop .inv in
+    let start = at-loop .before .before .before in
+    let p = doubles-on _ (now (start .args .s)) (start .args .at) (at-loop .loop .i) (whole .pairs-to3 .result .octets) _ (start .pre .4) (inv .0)
+    (whole .pairs-to3 .ensures .0) (whole .pairs-to3 .ensures .1) (inv .2) (rest .pairs .result .octets) (rest .pairs .result .units)
+    (rest .pairs .ensures) in omega (arith, p .within))
     (λ c. let rest = c .before .before .before .before in
     let whole = rest .before in
     let at-loop = whole .before .before in
     let inv = at-loop .loop .inv in
-    doubles-on _ _ _ _ _ _ (at-loop .before .before .before .pre .4) (inv .0) (whole .pairs-to3 .ensures .0) (whole .pairs-to3 .ensures .1) (inv .2) _ _
-    (rest .pairs .ensures)))
+    let start = at-loop .before .before .before in
+    let p = doubles-on _ (now (start .args .s)) (start .args .at) (at-loop .loop .i) (whole .pairs-to3 .result .octets) _ (start .pre .4) (inv .0)
+    (whole .pairs-to3 .ensures .0) (whole .pairs-to3 .ensures .1) (inv .2) (rest .pairs .result .octets) (rest .pairs .result .units)
+    (rest .pairs .ensures) in omega (arith, p .since, p .within))
+    (λ c. let rest = c .before .before .before .before in
+    let whole = rest .before in
+    let at-loop = whole .before .before in
+    let inv = at-loop .loop .inv in
+    let start = at-loop .before .before .before in
+    let p = doubles-on _ (now (start .args .s)) (start .args .at) (at-loop .loop .i) (whole .pairs-to3 .result .octets) _ (start .pre .4) (inv .0)
+    (whole .pairs-to3 .ensures .0) (whole .pairs-to3 .ensures .1) (inv .2) (rest .pairs .result .octets) (rest .pairs .result .units)
+    (rest .pairs .ensures) in p))
