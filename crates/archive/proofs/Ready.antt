@@ -1,10 +1,10 @@
 -- The unit at a cursor from which one is next, by the class of the octet there: the element is what the class starts, under directions that refuse
--- nothing, and since a unit is next it is not refused (`one-turn`, `two-turn`). A designation that is passed changes nothing of what is next
--- (`ready-passed`, `turn-passed`).
+-- nothing, and since a unit is next it is not refused (`one-turn`, `two-turn`); so both octets of a character in GL are below 128 (`two-low`). A
+-- designation that is passed changes nothing of what is next (`ready-passed`, `turn-passed`).
 use Rattle.element.proofs.Names.{ℕ, _+_, _*_, _%_, _/_, _^_, _<_, _≤_, arith, _≡_, refl, ap, sym, _∙_, subst, true, List, [], _∷_, eqb, ltb}
 use Rattle.element.proofs.Names.{length, getD, le-ltb, ltb-true, ltb-false, pick, pick-by, test, clash, on-lt, on-ge, from, from-octet, from-end}
 use Rattle.element.proofs.Names.{UnitRecord, no-set, Side, GL, GR, part, next, get, put, on, stepOf, writtenOf, State, Sets, Part, Shape, Gives as Makes}
-use Rattle.element.proofs.Names.{Element, Refused, Found}
+use Rattle.element.proofs.Names.{Element, Refused, Found, eqb-true}
 use native.Mathlib.Nat.{mod-eq-of-lt}
 use Rattle.base.specs.Kind as kind
 use Rattle.base.specs.Limit as limit
@@ -13,6 +13,8 @@ use Rattle.text.specs.Text.{secondOctetOf, graphicOf}
 use Rattle.element.specs.Element.{shapeOf, steppedOf, directedOf, elementOf}
 use Rattle.element.specs.Start.{Start, startIn, begunBy}
 use Rattle.element.specs.Start as start
+use Rattle.element.proofs.Starts.{On, Starts, starts}
+use Rattle.element.proofs.Starts as starts-of
 use Rattle.grammar.specs.Reading.{size}
 use Rattle.grammar.proofs.Elements.{at-nothing}
 use Rattle.designations.specs.Designation.{designationAt}
@@ -53,10 +55,10 @@ one-found b t s (start.one GR) h = refl
 one-found b t s (start.two GL) h = absurd (omega arith)
 one-found b t s (start.two GR) h = absurd (omega arith)
 
--- the character of a class of two octets, and else a refusal
-data Two (s : Sets) (p : Part) : Element → Type 0 where
-  refused : {n o : ℕ} → Two s p (Refused n o)
-  found : Two s p (Found p (freed s))
+-- the character of a class of two octets, which are of one side, and else a refusal
+data Two (b y : ℕ) (s : Sets) (p : Part) : Element → Type 0 where
+  refused : {n o : ℕ} → Two b y s p (Refused n o)
+  found : y / 128 ≡ b / 128 → Two b y s p (Found p (freed s))
 
 abbrev twoPart : ℕ → ℕ → ℕ → Part
 twoPart b y set = part kind.character set (b % 128 * 256 + y % 128) 0 2 true
@@ -67,16 +69,26 @@ unfolding directedOf steppedOf stepOf writtenOf pick
 free-text s p e = rw e refl
 
 two-found : (b y : ℕ) (t : List ℕ) (s : Sets) (d : Side)
-    → Two s (twoPart b y (get d s)) (directedOf (begunBy (start.two d) b (y ∷ t) s) (freed s))
+    → Two b y s (twoPart b y (get d s)) (directedOf (begunBy (start.two d) b (y ∷ t) s) (freed s))
 unfolding begunBy secondOctetOf next directedOf
 two-found b y t s d =
-    let P : Shape → Type 0 = λ x. Two s (twoPart b y (get d s)) (directedOf x (freed s)) in
+    let P : Shape → Type 0 = λ x. Two b y s (twoPart b y (get d s)) (directedOf x (freed s)) in
     let e = free-text s (twoPart b y (get d s)) refl in
-    pick-by P (eqb (y / 128) (b / 128)) (λ _. pick-by P (graphicOf (y % 128)) (λ _. subst (Two s _) (sym e) found) (λ _. refused)) (λ _. refused)
+    pick-by P (eqb (y / 128) (b / 128))
+    (λ h. pick-by P (graphicOf (y % 128)) (λ _. subst (Two b y s _) (sym e) (found (eqb-true _ _ h))) (λ _. refused)) (λ _. refused)
 
 two-cut : (b : ℕ) (s : Sets) (d : Side) → Refused refusal.cut 1 ≡ directedOf (begunBy (start.two d) b [] s) (freed s)
 unfolding begunBy secondOctetOf next directedOf
 two-cut b s d = refl
+
+-- where the first octet of a class of two octets lies
+two-on : {s : Sets} {b : ℕ} {d : Side} → Starts s b (start.two d) → On d b
+two-on (starts-of.two d h g w) = h
+
+-- a class of text of two octets that is not in GL is in GR
+pub right-class : (n : ℕ) → n ≤ 6 → 4 < n → (n ≡ 5 → ⊥) → n ≡ numberOf (start.two GR)
+unfolding numberOf
+right-class n h k e = omega arith
 
 -- ---- a unit that is next
 
@@ -134,6 +146,10 @@ module _ (s : List ℕ) (c : RowCursor) (ready : Ready s c) where
       (λ e. let f = ap (λ (t : List ℕ). elementOf t st) (from-end s at (ltb-false _ _ e)) ∙ at-nothing st in
       gives-stops (sym gives ∙ sym (gives-end s at st _ refl f)))
 
+  -- the place after text at the cursor is a number
+  pub moved-fits : (n : ℕ) → n ≤ 2 → at + n < 2 ^ 64
+  moved-fits n h = omega (arith, inside, short)
+
   pub row-fits : c .row ≤ 1280
   row-fits = rw (ready .row) (row-most (st .sets))
 
@@ -171,27 +187,42 @@ module _ (s : List ℕ) (c : RowCursor) (ready : Ready s c) where
         let e = sym (one-found b (from (at + 1) s) (st .sets) (startIn (st .sets) b) (rw number h)) ∙ begun in
         found-turn (onePart b n (st .sets)) 1 r j (rw number at e) refl refl i m
 
+    abbrev y : ℕ
+    y = getD s (at + 1) 0
+
     module _ (d : Side) (e : n ≡ numberOf (start.two d)) where
+      class : startIn (st .sets) b ≡ start.two d
+      class = sym (class-number (startIn (st .sets) b)) ∙ ap classOf (number ∙ e) ∙ class-number (start.two d)
+
       pair : begins (start.two d) (from (at + 1) s) ≡ elementOf (from at s) st
-      pair =
-          let f = sym (class-number (startIn (st .sets) b)) ∙ ap classOf (number ∙ e) ∙ class-number (start.two d) in
-          rw f at begun
+      pair = rw class at begun
 
       pub two-inside : at + 1 < length s
       two-inside =
           test (ltb (at + 1) (length s)) (ltb-true _ _)
           (λ f. no-refusal (two-cut b (st .sets) d ∙ ap (begins (start.two d)) (sym (from-end s (at + 1) (ltb-false _ _ f))) ∙ pair))
 
-      not-refused : {p : Part} {o : Element} → Two (st .sets) p o → o ≡ elementOf (from at s) st → Found p st ≡ elementOf (from at s) st
+      -- both octets are of one side, and the unit is their character
+      not-refused : {p : Part} {o : Element} → Two b y (st .sets) p o → o ≡ elementOf (from at s) st
+          → (y / 128 ≡ b / 128) × (Found p st ≡ elementOf (from at s) st)
       not-refused refused i = no-refusal i
-      not-refused found i = i
+      not-refused (found h) i = (h, i)
 
-      pub two-turn : (r : UnitRecord) (j : RowCursor) → r ≡ twoOf at b (getD s (at + 1) 0) (get d (st .sets)) → j ≡ movedBy c 2
-          → record { unit = r; cursor = j } ≡ turnOf s k
-      two-turn r j i m =
-          let y = getD s (at + 1) 0 in
+      character : (y / 128 ≡ b / 128) × (Found (twoPart b y (get d (st .sets))) st ≡ elementOf (from at s) st)
+      character =
           let f = ap (begins (start.two d)) (sym (from-octet s (at + 1) two-inside)) ∙ pair in
-          found-turn (twoPart b y (get d (st .sets))) 2 r j (not-refused (two-found b y (from (at + 1 + 1) s) (st .sets) d) f) refl refl i m
+          not-refused (two-found b y (from (at + 1 + 1) s) (st .sets) d) f
+
+      pub two-turn : (r : UnitRecord) (j : RowCursor) → r ≡ twoOf at b y (get d (st .sets)) → j ≡ movedBy c 2
+          → record { unit = r; cursor = j } ≡ turnOf s k
+      two-turn r j i m = found-turn (twoPart b y (get d (st .sets))) 2 r j (character .1) refl refl i m
+
+    -- in GL neither has a top bit
+    pub two-low : n ≡ numberOf (start.two GL) → (b < 128) × (y < 128)
+    two-low e =
+        let h : On GL b = two-on (subst (Starts (st .sets) b) (class GL e) (starts (st .sets) b)) in
+        let q = character GL e .0 in
+        (omega (arith, h .1), omega (arith, h .1, q))
 
   -- ---- a designation at the cursor
 
