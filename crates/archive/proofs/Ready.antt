@@ -1,10 +1,10 @@
 -- The unit at a cursor from which one is next, by the class of the octet there: the element is what the class starts, under directions that refuse
 -- nothing, and since a unit is next it is not refused (`one-turn`, `two-turn`); so both octets of a character in GL are below 128 (`two-low`). A
 -- designation that is passed changes nothing of what is next (`ready-passed`, `turn-passed`).
-use Rattle.element.proofs.Names.{ℕ, _+_, _*_, _%_, _/_, _^_, _<_, _≤_, arith, _≡_, refl, ap, sym, _∙_, subst, true, List, [], _∷_, eqb, ltb}
+use Rattle.element.proofs.Names.{ℕ, _+_, _-_, _*_, _%_, _/_, _^_, _<_, _≤_, arith, _≡_, refl, ap, sym, _∙_, subst, true, List, [], _∷_, eqb, ltb}
 use Rattle.element.proofs.Names.{length, getD, le-ltb, ltb-true, ltb-false, pick, pick-by, test, clash, on-lt, on-ge, from, from-octet, from-end}
 use Rattle.element.proofs.Names.{UnitRecord, no-set, Side, GL, GR, part, next, get, put, on, stepOf, writtenOf, State, Sets, Part, Shape, Gives as Makes}
-use Rattle.element.proofs.Names.{Element, Refused, Found, eqb-true}
+use Rattle.element.proofs.Names.{Element, Refused, Found, eqb-true, on-true, on-false, on-eq, on-ne}
 use native.Mathlib.Nat.{mod-eq-of-lt}
 use Rattle.base.specs.Kind as kind
 use Rattle.base.specs.Limit as limit
@@ -17,9 +17,9 @@ use Rattle.element.proofs.Starts.{On, Starts, starts}
 use Rattle.element.proofs.Starts as starts-of
 use Rattle.grammar.specs.Reading.{size}
 use Rattle.grammar.proofs.Elements.{at-nothing}
-use Rattle.designations.specs.Designation.{designationAt}
+use Rattle.designations.specs.Designation.{absent, sequenceOf, toldOf, designationAt}
 use Rattle.designations.specs.declared.Designation.{Designation}
-use Rattle.designations.proofs.Designations.{designation-silent}
+use Rattle.designations.proofs.Designations.{designation-silent, on-four, on-few}
 use Rattle.units.specs.Records.{recordOf}
 use Rattle.units.specs.Next.{nextOf}
 use Rattle.units.specs.declared.Outcome.{Outcome}
@@ -27,6 +27,7 @@ use Rattle.units.specs.declared.Outcome.the-variants.{Gives, Stops}
 use Rattle.units.proofs.Turn.{outcome, gives-end, gives-refused, gives-silent, gives-found}
 use Rattle.cursor.specs.Cursor.{freed, cursor, stateIn, outcomeTurn, elementTurn, placedOf, passedOf, twoOf}
 use Rattle.cursor.specs.declared.Cursor.{Cursor}
+use Rattle.cursor.proofs.Fits.{placed-fits}
 use Rattle.octet_table.specs.Table.{numberOf, classOf, rowOf}
 use Rattle.octet_table.proofs.Rule.{row-most, class-number}
 use Rattle.archive.specs.Passes.{Classed}
@@ -89,6 +90,20 @@ two-on (starts-of.two d h g w) = h
 pub right-class : (n : ℕ) → n ≤ 6 → 4 < n → (n ≡ 5 → ⊥) → n ≡ numberOf (start.two GR)
 unfolding numberOf
 right-class n h k e = omega arith
+
+-- what three octets tell, where it names a set, is what they say; where it names none, they name none
+told-sequence : (b c e : ℕ) (d : Designation) → d ≡ toldOf b c e → d .set < no-set → d ≡ sequenceOf b c e
+unfolding toldOf
+told-sequence b c e d q h =
+    test (ltb (sequenceOf b c e .set) no-set) (λ f. q ∙ sym (on-true _ _ _ _ f refl))
+    (λ f. let z : d ≡ absent = q ∙ sym (on-false _ _ _ _ f refl) in absurd (let x : no-set < no-set = rw z at h in omega (arith, x)))
+
+told-none : (b c e : ℕ) (d : Designation) → d ≡ toldOf b c e → no-set ≤ d .set → no-set ≤ sequenceOf b c e .set
+unfolding toldOf
+told-none b c e d q h =
+    test (ltb (sequenceOf b c e .set) no-set)
+    (λ f. subst (λ (x : Designation). no-set ≤ x .set) (q ∙ sym (on-true _ _ _ _ f refl)) h)
+    (ltb-false _ _)
 
 -- ---- a unit that is next
 
@@ -226,21 +241,44 @@ module _ (s : List ℕ) (c : RowCursor) (ready : Ready s c) where
 
   -- ---- a designation at the cursor
 
-  -- the cursor after it, as the code makes it
-  pub placed-is : (d : Designation) (row : ℕ) (v : Side) → d ≡ designationAt (from at s) → d .set < no-set → d .side ≡ v
-      → row ≡ rowOf (put (on v (d .set)) (st .sets))
-      → record { place = at + d .octets; row = row; gl = put (on v (d .set)) (st .sets) .gl; gr = put (on v (d .set)) (st .sets) .gr }
-      ≡ rowed (passedOf s k)
-  unfolding passedOf placedOf
-  placed-is d row v e h i q =
-      let f = on-lt (d .set) no-set _ _ k h refl in
-      rw (q, ← i) (ap rowed (f ∙ ap (placedOf k) e))
-
-  pub none-is : (d : Designation) → d ≡ designationAt (from at s) → no-set ≤ d .set → c ≡ rowed (passedOf s k)
+  none-is : (d : Designation) → d ≡ designationAt (from at s) → no-set ≤ d .set → c ≡ rowed (passedOf s k)
   unfolding passedOf placedOf
   none-is d e h =
       let f : c ≡ rowed k = ap (λ (n : ℕ). record { place = at; row = n; gl = c .gl; gr = c .gr }) (ready .row) in
       f ∙ ap rowed (on-ge (d .set) no-set k _ k h refl ∙ ap (placedOf k) e)
+
+  pub few-left : length s - at < 4 → c ≡ rowed (passedOf s k)
+  few-left h = none-is absent (on-few s at h) (omega arith)
+
+  module _ (h : 4 ≤ length s - at) where
+    pub no-escape : (getD s at 0 ≡ 0x1B → ⊥) → c ≡ rowed (passedOf s k)
+    no-escape n = none-is absent (on-four s at absent inside h (on-ne _ _ _ _ _ n refl)) (omega arith)
+
+    -- by what the three octets after 1B tell
+    module _ (i : getD s at 0 ≡ 0x1B) (d : Designation)
+        (e : d ≡ toldOf (getD s (at + 1) 0) (getD s (at + 1 + 1) 0) (getD s (at + 1 + 1 + 1) 0)) where
+      at-escape : (r : Designation) → r ≡ sequenceOf (getD s (at + 1) 0) (getD s (at + 1 + 1) 0) (getD s (at + 1 + 1 + 1) 0)
+          → r ≡ designationAt (from at s)
+      at-escape r q = on-four s at r inside h (on-eq _ _ _ _ _ i q)
+
+      pub none-told : no-set ≤ d .set → c ≡ rowed (passedOf s k)
+      none-told q = none-is _ (at-escape _ refl) (told-none _ _ _ d e q)
+
+      module _ (named : d .set < no-set) where
+        told-at : d ≡ designationAt (from at s)
+        told-at = at-escape d (told-sequence _ _ _ d e named)
+
+        pub told-fits : at + d .octets ≤ length s
+        told-fits = placed-fits s at d told-at named
+
+        -- the cursor after it, as the code makes it
+        pub placed-is : (row : ℕ) (v : Side) → d .side ≡ v → row ≡ rowOf (put (on v (d .set)) (st .sets))
+            → record { place = at + d .octets; row = row; gl = put (on v (d .set)) (st .sets) .gl; gr = put (on v (d .set)) (st .sets) .gr }
+            ≡ rowed (passedOf s k)
+        unfolding passedOf placedOf
+        placed-is row v j q =
+            let f = on-lt (d .set) no-set _ _ k named refl in
+            rw (q, ← j) (ap rowed (f ∙ ap (placedOf k) told-at))
 
   -- what is next after it is what was next
   placed-next : nextOf s (passedOf s k .place) (stateIn (passedOf s k)) ≡ given

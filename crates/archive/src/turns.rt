@@ -12,7 +12,7 @@ use charset::NO_SET;
 use charset::Side;
 use cursor::Cursor;
 use cursor::octets::two_octets;
-use designations::designation_at;
+use designations::told;
 use octet_table::ESCAPE;
 use octet_table::MARK;
 use octet_table::ONE_GR;
@@ -167,27 +167,34 @@ fn passed(s: &[u8], c: RowCursor) -> RowCursor
     requires { ⌜ Ready (now s) c ⌝ }
     ensures { λ r. ⌜ r ≡ rowed (passedOf (now (s .entry)) (cursorIn c)) ⌝ }
 {
-    let d = designation_at(s, c.place);
-    let set = d.set;
-    if set < NO_SET {
-        let side = d.side;
-        let place = c.place + d.octets;
-        return match side {
-            Side::GL => RowCursor {
-                place: place,
-                row: row_of(set, c.gr),
-                gl: set,
-                gr: c.gr,
-            },
-            Side::GR => RowCursor {
-                place: place,
-                row: row_of(c.gl, set),
-                gl: c.gl,
-                gr: set,
-            },
-        };
+    let at = c.place;
+    if s.len() - at < 4 {
+        return c;
     }
-    c
+    if s[at] != 0x1B {
+        return c;
+    }
+    let d = told(s[at + 1], s[at + 1 + 1], s[at + 1 + 1 + 1]);
+    let set = d.set;
+    if NO_SET <= set {
+        return c;
+    }
+    let side = d.side;
+    let place = at + d.octets;
+    match side {
+        Side::GL => RowCursor {
+            place: place,
+            row: row_of(set, c.gr),
+            gl: set,
+            gr: c.gr,
+        },
+        Side::GR => RowCursor {
+            place: place,
+            row: row_of(c.gl, set),
+            gl: c.gl,
+            gr: set,
+        },
+    }
 }
 
 // The unit after a designation, where one stands at the cursor, and else the unit at it.
