@@ -11,6 +11,7 @@ use mathlib.Core.Path.{_≡_, refl, sym, ap, _∙_}
 use mathlib.Core.Bool.{Bool, true, false, _&&_}
 use Rattle.base.specs.Choice.{pick}
 use Rattle.base.proofs.Bools.{and-left, and-right, test, upTo, up-to-both}
+use Rattle.base.proofs.Ladder.{on-ne}
 use Rattle.charset.specs.Charsets.{rowOf, mayUse, formOf, fitsOf, find, setOf}
 use Rattle.charset.specs.Finals.{afterGL94, afterGR94, afterGR96, after94x94, finalBy, formBy, foundOf, namedOf, placed}
 use Rattle.charset.specs.Pairs.{formSide, nthForm, atPair, named, Direct}
@@ -161,3 +162,10 @@ all-placed = refl
 pub named-rule : (x p : ℕ) → x < 256 → p < 16 → namedOf x / 2 ^ (4 * p) % 16 ≡ placed p x
 unfolding placed-right
 named-rule x p h k = eqb-true _ _ (up-to-both 256 16 placed-right all-placed x p h k)
+
+-- the places of which none is asked
+pub named-none : (x p : ℕ) → x < 256 → p < 16 → (p ≡ 0 → ⊥) → (p ≡ 1 → ⊥) → (p ≡ 5 → ⊥) → (p ≡ 8 → ⊥) → (p ≡ 9 → ⊥)
+    → namedOf x / 2 ^ (4 * p) % 16 ≡ 15
+unfolding placed
+named-none x p h k a b c d e =
+    named-rule x p h k ∙ sym (on-ne p 0 _ _ _ a (on-ne p 1 _ _ _ b (on-ne p 5 _ _ _ c (on-ne p 8 _ _ _ d (on-ne p 9 _ _ _ e refl)))))
