@@ -4,7 +4,7 @@
 use Rattle.element.proofs.Names.{ℕ, _+_, _-_, _*_, _%_, _/_, _^_, _<_, _≤_, arith, _≡_, refl, ap, sym, _∙_, subst, true, List, [], _∷_, eqb, ltb}
 use Rattle.element.proofs.Names.{length, getD, le-ltb, ltb-true, ltb-false, pick, pick-by, test, clash, on-lt, on-ge, from, from-octet, from-end}
 use Rattle.element.proofs.Names.{UnitRecord, no-set, Side, GL, GR, part, next, get, put, on, stepOf, writtenOf, State, Sets, Part, Shape, Gives as Makes}
-use Rattle.element.proofs.Names.{Element, Refused, Found, eqb-true, on-true, on-false, on-eq, on-ne}
+use Rattle.element.proofs.Names.{Element, Refused, Found, eqb-true, on-true, on-eq, on-ne}
 use native.Mathlib.Nat.{mod-eq-of-lt}
 use Rattle.base.specs.Kind as kind
 use Rattle.base.specs.Limit as limit
@@ -19,7 +19,7 @@ use Rattle.grammar.specs.Reading.{size}
 use Rattle.grammar.proofs.Elements.{at-nothing}
 use Rattle.designations.specs.Designation.{absent, sequenceOf, toldOf, designationAt}
 use Rattle.designations.specs.declared.Designation.{Designation}
-use Rattle.designations.proofs.Designations.{designation-silent, on-four, on-few}
+use Rattle.designations.proofs.Designations.{designation-silent, on-four, on-few, told-set}
 use Rattle.units.specs.Records.{recordOf}
 use Rattle.units.specs.Next.{nextOf}
 use Rattle.units.specs.declared.Outcome.{Outcome}
@@ -91,13 +91,7 @@ pub right-class : (n : ℕ) → n ≤ 6 → 4 < n → (n ≡ 5 → ⊥) → n �
 unfolding numberOf
 right-class n h k e = omega arith
 
--- what three octets tell, where it names a set, is what they say; where it names none, they name none
-told-sequence : (b c e : ℕ) (d : Designation) → d ≡ toldOf b c e → d .set < no-set → d ≡ sequenceOf b c e
-unfolding toldOf
-told-sequence b c e d q h =
-    test (ltb (sequenceOf b c e .set) no-set) (λ f. q ∙ sym (on-true _ _ _ _ f refl))
-    (λ f. let z : d ≡ absent = q ∙ sym (on-false _ _ _ _ f refl) in absurd (let x : no-set < no-set = rw z at h in omega (arith, x)))
-
+-- three octets of which nothing is told name no set
 told-none : (b c e : ℕ) (d : Designation) → d ≡ toldOf b c e → no-set ≤ d .set → no-set ≤ sequenceOf b c e .set
 unfolding toldOf
 told-none b c e d q h =
@@ -266,7 +260,7 @@ module _ (s : List ℕ) (c : RowCursor) (ready : Ready s c) where
 
       module _ (named : d .set < no-set) where
         told-at : d ≡ designationAt (from at s)
-        told-at = at-escape d (told-sequence _ _ _ d e named)
+        told-at = at-escape d (told-set _ _ _ d e named)
 
         pub told-fits : at + d .octets ≤ length s
         told-fits = placed-fits s at d told-at named
