@@ -1,10 +1,10 @@
 -- The unit at a cursor from which one is next, by the class of the octet there: the element is what the class starts, under directions that refuse
--- nothing, and since a unit is next it is not refused (`one-turn`, `two-turn`). A designation that is passed changes nothing of what is next
--- (`ready-passed`, `turn-passed`).
-use Rattle.element.proofs.Names.{ℕ, _+_, _*_, _%_, _/_, _^_, _<_, _≤_, arith, _≡_, refl, ap, sym, _∙_, subst, true, List, [], _∷_, eqb, ltb}
+-- nothing, and since a unit is next it is not refused (`one-turn`, `two-turn`); so both octets of a character in GL are below 128 (`two-low`). A
+-- designation that is passed changes nothing of what is next (`ready-passed`, `turn-passed`).
+use Rattle.element.proofs.Names.{ℕ, _+_, _-_, _*_, _%_, _/_, _^_, _<_, _≤_, arith, _≡_, refl, ap, sym, _∙_, subst, true, List, [], _∷_, eqb, ltb}
 use Rattle.element.proofs.Names.{length, getD, le-ltb, ltb-true, ltb-false, pick, pick-by, test, clash, on-lt, on-ge, from, from-octet, from-end}
 use Rattle.element.proofs.Names.{UnitRecord, no-set, Side, GL, GR, part, next, get, put, on, stepOf, writtenOf, State, Sets, Part, Shape, Gives as Makes}
-use Rattle.element.proofs.Names.{Element, Refused, Found}
+use Rattle.element.proofs.Names.{Element, Refused, Found, eqb-true, on-true, on-eq, on-ne}
 use native.Mathlib.Nat.{mod-eq-of-lt}
 use Rattle.base.specs.Kind as kind
 use Rattle.base.specs.Limit as limit
@@ -13,11 +13,13 @@ use Rattle.text.specs.Text.{secondOctetOf, graphicOf}
 use Rattle.element.specs.Element.{shapeOf, steppedOf, directedOf, elementOf}
 use Rattle.element.specs.Start.{Start, startIn, begunBy}
 use Rattle.element.specs.Start as start
+use Rattle.element.proofs.Starts.{On, Starts, starts}
+use Rattle.element.proofs.Starts as starts-of
 use Rattle.grammar.specs.Reading.{size}
 use Rattle.grammar.proofs.Elements.{at-nothing}
-use Rattle.designations.specs.Designation.{designationAt}
+use Rattle.designations.specs.Designation.{absent, sequenceOf, toldOf, designationAt}
 use Rattle.designations.specs.declared.Designation.{Designation}
-use Rattle.designations.proofs.Designations.{designation-silent}
+use Rattle.designations.proofs.Designations.{designation-silent, on-four, on-few, told-set}
 use Rattle.units.specs.Records.{recordOf}
 use Rattle.units.specs.Next.{nextOf}
 use Rattle.units.specs.declared.Outcome.{Outcome}
@@ -25,6 +27,7 @@ use Rattle.units.specs.declared.Outcome.the-variants.{Gives, Stops}
 use Rattle.units.proofs.Turn.{outcome, gives-end, gives-refused, gives-silent, gives-found}
 use Rattle.cursor.specs.Cursor.{freed, cursor, stateIn, outcomeTurn, elementTurn, placedOf, passedOf, twoOf}
 use Rattle.cursor.specs.declared.Cursor.{Cursor}
+use Rattle.cursor.proofs.Fits.{placed-fits}
 use Rattle.octet_table.specs.Table.{numberOf, classOf, rowOf}
 use Rattle.octet_table.proofs.Rule.{row-most, class-number}
 use Rattle.archive.specs.Passes.{Classed}
@@ -53,10 +56,10 @@ one-found b t s (start.one GR) h = refl
 one-found b t s (start.two GL) h = absurd (omega arith)
 one-found b t s (start.two GR) h = absurd (omega arith)
 
--- the character of a class of two octets, and else a refusal
-data Two (s : Sets) (p : Part) : Element → Type 0 where
-  refused : {n o : ℕ} → Two s p (Refused n o)
-  found : Two s p (Found p (freed s))
+-- the character of a class of two octets, which are of one side, and else a refusal
+data Two (b y : ℕ) (s : Sets) (p : Part) : Element → Type 0 where
+  refused : {n o : ℕ} → Two b y s p (Refused n o)
+  found : y / 128 ≡ b / 128 → Two b y s p (Found p (freed s))
 
 abbrev twoPart : ℕ → ℕ → ℕ → Part
 twoPart b y set = part kind.character set (b % 128 * 256 + y % 128) 0 2 true
@@ -67,16 +70,34 @@ unfolding directedOf steppedOf stepOf writtenOf pick
 free-text s p e = rw e refl
 
 two-found : (b y : ℕ) (t : List ℕ) (s : Sets) (d : Side)
-    → Two s (twoPart b y (get d s)) (directedOf (begunBy (start.two d) b (y ∷ t) s) (freed s))
+    → Two b y s (twoPart b y (get d s)) (directedOf (begunBy (start.two d) b (y ∷ t) s) (freed s))
 unfolding begunBy secondOctetOf next directedOf
 two-found b y t s d =
-    let P : Shape → Type 0 = λ x. Two s (twoPart b y (get d s)) (directedOf x (freed s)) in
+    let P : Shape → Type 0 = λ x. Two b y s (twoPart b y (get d s)) (directedOf x (freed s)) in
     let e = free-text s (twoPart b y (get d s)) refl in
-    pick-by P (eqb (y / 128) (b / 128)) (λ _. pick-by P (graphicOf (y % 128)) (λ _. subst (Two s _) (sym e) found) (λ _. refused)) (λ _. refused)
+    pick-by P (eqb (y / 128) (b / 128))
+    (λ h. pick-by P (graphicOf (y % 128)) (λ _. subst (Two b y s _) (sym e) (found (eqb-true _ _ h))) (λ _. refused)) (λ _. refused)
 
 two-cut : (b : ℕ) (s : Sets) (d : Side) → Refused refusal.cut 1 ≡ directedOf (begunBy (start.two d) b [] s) (freed s)
 unfolding begunBy secondOctetOf next directedOf
 two-cut b s d = refl
+
+-- where the first octet of a class of two octets lies
+two-on : {s : Sets} {b : ℕ} {d : Side} → Starts s b (start.two d) → On d b
+two-on (starts-of.two d h g w) = h
+
+-- a class of text of two octets that is not in GL is in GR
+pub right-class : (n : ℕ) → n ≤ 6 → 4 < n → (n ≡ 5 → ⊥) → n ≡ numberOf (start.two GR)
+unfolding numberOf
+right-class n h k e = omega arith
+
+-- three octets of which nothing is told name no set
+told-none : (b c e : ℕ) (d : Designation) → d ≡ toldOf b c e → no-set ≤ d .set → no-set ≤ sequenceOf b c e .set
+unfolding toldOf
+told-none b c e d q h =
+    test (ltb (sequenceOf b c e .set) no-set)
+    (λ f. subst (λ (x : Designation). no-set ≤ x .set) (q ∙ sym (on-true _ _ _ _ f refl)) h)
+    (ltb-false _ _)
 
 -- ---- a unit that is next
 
@@ -134,6 +155,10 @@ module _ (s : List ℕ) (c : RowCursor) (ready : Ready s c) where
       (λ e. let f = ap (λ (t : List ℕ). elementOf t st) (from-end s at (ltb-false _ _ e)) ∙ at-nothing st in
       gives-stops (sym gives ∙ sym (gives-end s at st _ refl f)))
 
+  -- the place after text at the cursor is a number
+  pub moved-fits : (n : ℕ) → n ≤ 2 → at + n < 2 ^ 64
+  moved-fits n h = omega (arith, inside, short)
+
   pub row-fits : c .row ≤ 1280
   row-fits = rw (ready .row) (row-most (st .sets))
 
@@ -171,45 +196,83 @@ module _ (s : List ℕ) (c : RowCursor) (ready : Ready s c) where
         let e = sym (one-found b (from (at + 1) s) (st .sets) (startIn (st .sets) b) (rw number h)) ∙ begun in
         found-turn (onePart b n (st .sets)) 1 r j (rw number at e) refl refl i m
 
+    abbrev y : ℕ
+    y = getD s (at + 1) 0
+
     module _ (d : Side) (e : n ≡ numberOf (start.two d)) where
+      class : startIn (st .sets) b ≡ start.two d
+      class = sym (class-number (startIn (st .sets) b)) ∙ ap classOf (number ∙ e) ∙ class-number (start.two d)
+
       pair : begins (start.two d) (from (at + 1) s) ≡ elementOf (from at s) st
-      pair =
-          let f = sym (class-number (startIn (st .sets) b)) ∙ ap classOf (number ∙ e) ∙ class-number (start.two d) in
-          rw f at begun
+      pair = rw class at begun
 
       pub two-inside : at + 1 < length s
       two-inside =
           test (ltb (at + 1) (length s)) (ltb-true _ _)
           (λ f. no-refusal (two-cut b (st .sets) d ∙ ap (begins (start.two d)) (sym (from-end s (at + 1) (ltb-false _ _ f))) ∙ pair))
 
-      not-refused : {p : Part} {o : Element} → Two (st .sets) p o → o ≡ elementOf (from at s) st → Found p st ≡ elementOf (from at s) st
+      -- both octets are of one side, and the unit is their character
+      not-refused : {p : Part} {o : Element} → Two b y (st .sets) p o → o ≡ elementOf (from at s) st
+          → (y / 128 ≡ b / 128) × (Found p st ≡ elementOf (from at s) st)
       not-refused refused i = no-refusal i
-      not-refused found i = i
+      not-refused (found h) i = (h, i)
 
-      pub two-turn : (r : UnitRecord) (j : RowCursor) → r ≡ twoOf at b (getD s (at + 1) 0) (get d (st .sets)) → j ≡ movedBy c 2
-          → record { unit = r; cursor = j } ≡ turnOf s k
-      two-turn r j i m =
-          let y = getD s (at + 1) 0 in
+      character : (y / 128 ≡ b / 128) × (Found (twoPart b y (get d (st .sets))) st ≡ elementOf (from at s) st)
+      character =
           let f = ap (begins (start.two d)) (sym (from-octet s (at + 1) two-inside)) ∙ pair in
-          found-turn (twoPart b y (get d (st .sets))) 2 r j (not-refused (two-found b y (from (at + 1 + 1) s) (st .sets) d) f) refl refl i m
+          not-refused (two-found b y (from (at + 1 + 1) s) (st .sets) d) f
+
+      pub two-turn : (r : UnitRecord) (j : RowCursor) → r ≡ twoOf at b y (get d (st .sets)) → j ≡ movedBy c 2
+          → record { unit = r; cursor = j } ≡ turnOf s k
+      two-turn r j i m = found-turn (twoPart b y (get d (st .sets))) 2 r j (character .1) refl refl i m
+
+    -- in GL neither has a top bit
+    pub two-low : n ≡ numberOf (start.two GL) → (b < 128) × (y < 128)
+    two-low e =
+        let h : On GL b = two-on (subst (Starts (st .sets) b) (class GL e) (starts (st .sets) b)) in
+        let q = character GL e .0 in
+        (omega (arith, h .1), omega (arith, h .1, q))
 
   -- ---- a designation at the cursor
 
-  -- the cursor after it, as the code makes it
-  pub placed-is : (d : Designation) (row : ℕ) (v : Side) → d ≡ designationAt (from at s) → d .set < no-set → d .side ≡ v
-      → row ≡ rowOf (put (on v (d .set)) (st .sets))
-      → record { place = at + d .octets; row = row; gl = put (on v (d .set)) (st .sets) .gl; gr = put (on v (d .set)) (st .sets) .gr }
-      ≡ rowed (passedOf s k)
-  unfolding passedOf placedOf
-  placed-is d row v e h i q =
-      let f = on-lt (d .set) no-set _ _ k h refl in
-      rw (q, ← i) (ap rowed (f ∙ ap (placedOf k) e))
-
-  pub none-is : (d : Designation) → d ≡ designationAt (from at s) → no-set ≤ d .set → c ≡ rowed (passedOf s k)
+  none-is : (d : Designation) → d ≡ designationAt (from at s) → no-set ≤ d .set → c ≡ rowed (passedOf s k)
   unfolding passedOf placedOf
   none-is d e h =
       let f : c ≡ rowed k = ap (λ (n : ℕ). record { place = at; row = n; gl = c .gl; gr = c .gr }) (ready .row) in
       f ∙ ap rowed (on-ge (d .set) no-set k _ k h refl ∙ ap (placedOf k) e)
+
+  pub few-left : length s - at < 4 → c ≡ rowed (passedOf s k)
+  few-left h = none-is absent (on-few s at h) (omega arith)
+
+  module _ (h : 4 ≤ length s - at) where
+    pub no-escape : (getD s at 0 ≡ 0x1B → ⊥) → c ≡ rowed (passedOf s k)
+    no-escape n = none-is absent (on-four s at absent inside h (on-ne _ _ _ _ _ n refl)) (omega arith)
+
+    -- by what the three octets after 1B tell
+    module _ (i : getD s at 0 ≡ 0x1B) (d : Designation)
+        (e : d ≡ toldOf (getD s (at + 1) 0) (getD s (at + 1 + 1) 0) (getD s (at + 1 + 1 + 1) 0)) where
+      at-escape : (r : Designation) → r ≡ sequenceOf (getD s (at + 1) 0) (getD s (at + 1 + 1) 0) (getD s (at + 1 + 1 + 1) 0)
+          → r ≡ designationAt (from at s)
+      at-escape r q = on-four s at r inside h (on-eq _ _ _ _ _ i q)
+
+      pub none-told : no-set ≤ d .set → c ≡ rowed (passedOf s k)
+      none-told q = none-is _ (at-escape _ refl) (told-none _ _ _ d e q)
+
+      module _ (named : d .set < no-set) where
+        told-at : d ≡ designationAt (from at s)
+        told-at = at-escape d (told-set _ _ _ d e named)
+
+        pub told-fits : at + d .octets ≤ length s
+        told-fits = placed-fits s at d told-at named
+
+        -- the cursor after it, as the code makes it
+        pub placed-is : (row : ℕ) (v : Side) → d .side ≡ v → row ≡ rowOf (put (on v (d .set)) (st .sets))
+            → record { place = at + d .octets; row = row; gl = put (on v (d .set)) (st .sets) .gl; gr = put (on v (d .set)) (st .sets) .gr }
+            ≡ rowed (passedOf s k)
+        unfolding passedOf placedOf
+        placed-is row v j q =
+            let f = on-lt (d .set) no-set _ _ k named refl in
+            rw (q, ← j) (ap rowed (f ∙ ap (placedOf k) told-at))
 
   -- what is next after it is what was next
   placed-next : nextOf s (passedOf s k .place) (stateIn (passedOf s k)) ≡ given

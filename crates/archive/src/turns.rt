@@ -1,16 +1,19 @@
 // The next unit of an accepted string, by the table that is lent: what the check has decided is not decided again.
 ghost use mathlib.Core.Path.{_≡_};
-ghost use Prim.Native.Nat.{_+_, _<_, _^_};
+ghost use Prim.Native.Nat.{_+_, _<_, _≤_, _^_};
 ghost use Rattle.octet_table.specs.Table.{table};
-ghost use Rattle.cursor.specs.Cursor.{passedOf};
+ghost use Rattle.cursor.specs.Cursor.{passedOf, twoOf};
+ghost use Rattle.archive.specs.Passes.{Classed};
 ghost use Rattle.archive.specs.Turns.{cursorIn, rowed, firstRow, Ready, turnOf, movedBy, ifCharacter, setBy, oneRecord};
 use crate::classes::class_at;
 use base::Unit;
+use base::kind;
 use charset::NO_SET;
 use charset::Side;
 use cursor::Cursor;
 use cursor::octets::two_octets;
-use designations::designation_at;
+use designations::told;
+use octet_table::ESCAPE;
 use octet_table::MARK;
 use octet_table::ONE_GR;
 use octet_table::TWO_GL;
@@ -119,37 +122,44 @@ fn by_element(s: &[u8], c: RowCursor) -> RowTurn
     }
 }
 
-// The unit at a cursor: a tab, a newline, a space or a character by its class, and any other by its element.
-fn text_turn(t: &[u8], s: &[u8], c: RowCursor) -> RowTurn
-    requires { ⌜ (now t ≡ table) × Ready (now s) c ⌝ }
+// The record of a character of this set in GL.
+fn two_left(at: usize, b: u8, d: u8, set: u8) -> Unit
+    requires { ⌜ (b < 128) × (d < 128) ⌝ }
+    ensures { λ r. ⌜ r ≡ twoOf at b d set ⌝ }
+{
+    let code = b as u16 * 256 + d as u16;
+    let start = (at % 0x1_0000_0000) as u32;
+    Unit {
+        kind: kind::CHARACTER,
+        set: set,
+        code: code,
+        start: start,
+        length: 2,
+    }
+}
+
+// A tab, a newline, a space or a character, by its class.
+fn text_turn(s: &[u8], c: RowCursor, k: u8) -> RowTurn
+    requires { ⌜ Ready (now s) c × Classed (c .row) (now s) (c .place) k × (k ≤ 6) ⌝ }
     ensures { λ r. ⌜ r ≡ turnOf (now (s .entry)) (cursorIn c) ⌝ }
 {
     let at = c.place;
-    let b = s[at];
-    let k = class_at(t, s, at, c.row);
     if k <= ONE_GR {
         return RowTurn {
             cursor: c.moved(1),
-            unit: one(at, b, k, set_by(k, c.gl, c.gr)),
+            unit: one(at, s[at], k, set_by(k, c.gl, c.gr)),
         };
     }
     if k == TWO_GL {
         return RowTurn {
             cursor: c.moved(2),
-            unit: two_octets(at, b, s[at + 1], c.gl),
+            unit: two_left(at, s[at], s[at + 1], c.gl),
         };
     }
-    if k == TWO_GR {
-        return RowTurn {
-            cursor: c.moved(2),
-            unit: two_octets(at, b, s[at + 1], c.gr),
-        };
+    RowTurn {
+        cursor: c.moved(2),
+        unit: two_octets(at, s[at], s[at + 1], c.gr),
     }
-    // Two calls, so that the compiler leaves the function out of the loop over text.
-    if k == MARK {
-        return by_element(s, c);
-    }
-    by_element(s, c)
 }
 
 // The cursor after a designation, where one stands at it.
@@ -157,39 +167,47 @@ fn passed(s: &[u8], c: RowCursor) -> RowCursor
     requires { ⌜ Ready (now s) c ⌝ }
     ensures { λ r. ⌜ r ≡ rowed (passedOf (now (s .entry)) (cursorIn c)) ⌝ }
 {
-    let d = designation_at(s, c.place);
-    let set = d.set;
-    if set < NO_SET {
-        let side = d.side;
-        let place = c.place + d.octets;
-        return match side {
-            Side::GL => RowCursor {
-                place: place,
-                row: row_of(set, c.gr),
-                gl: set,
-                gr: c.gr,
-            },
-            Side::GR => RowCursor {
-                place: place,
-                row: row_of(c.gl, set),
-                gl: c.gl,
-                gr: set,
-            },
-        };
+    let at = c.place;
+    if s.len() - at < 4 {
+        return c;
     }
-    c
+    if s[at] != 0x1B {
+        return c;
+    }
+    let d = told(s[at + 1], s[at + 1 + 1], s[at + 1 + 1 + 1]);
+    let set = d.set;
+    if NO_SET <= set {
+        return c;
+    }
+    let side = d.side;
+    let place = at + d.octets;
+    match side {
+        Side::GL => RowCursor {
+            place: place,
+            row: row_of(set, c.gr),
+            gl: set,
+            gr: c.gr,
+        },
+        Side::GR => RowCursor {
+            place: place,
+            row: row_of(c.gl, set),
+            gl: c.gl,
+            gr: set,
+        },
+    }
 }
 
-// The cursor after up to two designations, where an escape sequence stands at it.
-fn begun(s: &[u8], c: RowCursor) -> RowCursor
-    requires { ⌜ Ready (now s) c ⌝ }
-    ensures { λ r. ⌜ Ready (now (s .entry)) r × (turnOf (now (s .entry)) (cursorIn r) ≡ turnOf (now (s .entry)) (cursorIn c)) ⌝ }
+// The unit after a designation, where one stands at the cursor, and else the unit at it.
+fn escaped(t: &[u8], s: &[u8], c: RowCursor) -> RowTurn
+    requires { ⌜ (now t ≡ table) × Ready (now s) c ⌝ }
+    ensures { λ r. ⌜ r ≡ turnOf (now (s .entry)) (cursorIn c) ⌝ }
 {
-    let at = c.place;
-    if s[at] == 0x1B {
-        return passed(s, passed(s, c));
+    let d = passed(s, c);
+    let k = class_at(t, s, d.place, d.row);
+    if k <= TWO_GR {
+        return text_turn(s, d, k);
     }
-    c
+    by_element(s, d)
 }
 
 // The next unit, and the cursor after it.
@@ -197,5 +215,16 @@ pub fn turn(t: &[u8], s: &[u8], c: RowCursor) -> RowTurn
     requires { ⌜ (now t ≡ table) × Ready (now s) c ⌝ }
     ensures { λ r. ⌜ r ≡ turnOf (now (s .entry)) (cursorIn c) ⌝ }
 {
-    text_turn(t, s, begun(s, c))
+    let k = class_at(t, s, c.place, c.row);
+    if k <= TWO_GR {
+        return text_turn(s, c, k);
+    }
+    if k == MARK {
+        return by_element(s, c);
+    }
+    // Two calls, so that the compiler leaves the function out of the loop over text.
+    if k == ESCAPE {
+        return escaped(t, s, c);
+    }
+    escaped(t, s, c)
 }

@@ -56,6 +56,11 @@ set-named f s x h =
     let z : find rows f s x 0 - 0 ≡ find rows f s x 0 = omega arith in
     fits-all _ f s x (rw z at (find-fits f s x (row 0 0 false false) rows 0 (omega arith)))
 
+-- its form is the designation's
+pub set-form : (f : ℕ) (s : Side) (x : ℕ) → setOf f s x < 15 → formOf (setOf f s x) ≡ f
+unfolding formOf
+set-form f s x h = set-named f s x h .form
+
 pub set-most : (f : ℕ) (s : Side) (x : ℕ) → setOf f s x ≤ 15
 unfolding setOf
 set-most f s x = find-to f s x (row 0 0 false false) rows 0

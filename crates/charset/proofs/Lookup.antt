@@ -1,8 +1,9 @@
 -- What the code tells without reading the table. The lookup of a designation's set is direct (`lookup-direct`), and it is the search through the
 -- table for every form, side and octet (`found-is`). Shown by one test of all 315 pairs of a form and a final octet, which antt computes; what is
 -- no such pair finds nothing either way: the search by the range of the table's final octets and by its forms, the lookup since it asks for none.
--- The form and the final octet of a set are those of its row (`form-rule`, `final-rule`), each by one test of the fifteen rows.
-use Prim.Native.Nat.{ℕ, _+_, _-_, _<_}
+-- The form and the final octet of a set are those of its row (`form-rule`, `final-rule`), each by one test of the fifteen rows; and the sixteen
+-- numbers of a final octet's word are the sets that it names (`named-rule`), by one test of the 256 octets and 16 places.
+use Prim.Native.Nat.{ℕ, _+_, _-_, _*_, _/_, _%_, _^_, _<_}
 use native.Mathlib.Omega.{arith}
 use lib.Dec.{eqb, leb, ltb}
 use borrow.Author.Tests.{eqb-true, eqb-false, leb-true, ltb-true, ltb-false, le-ltb, le-leb, ne-eqb}
@@ -10,8 +11,9 @@ use mathlib.Core.Path.{_≡_, refl, sym, ap, _∙_}
 use mathlib.Core.Bool.{Bool, true, false, _&&_}
 use Rattle.base.specs.Choice.{pick}
 use Rattle.base.proofs.Bools.{and-left, and-right, test, upTo, up-to-both}
+use Rattle.base.proofs.Ladder.{on-ne}
 use Rattle.charset.specs.Charsets.{rowOf, mayUse, formOf, fitsOf, find, setOf}
-use Rattle.charset.specs.Finals.{afterGL94, afterGR94, afterGR96, after94x94, finalBy, formBy, foundOf}
+use Rattle.charset.specs.Finals.{afterGL94, afterGR94, afterGR96, after94x94, finalBy, formBy, foundOf, namedOf, placed}
 use Rattle.charset.specs.Pairs.{formSide, nthForm, atPair, named, Direct}
 use Rattle.charset.specs.declared.Side.{Side, the-variants.GL, the-variants.GR}
 use Rattle.charset.proofs.Laws.{row-past, final-range, set-most, by-rows, none-left, none-right}
@@ -147,3 +149,23 @@ form-rule c =
 pub final-rule : (c : ℕ) → finalBy c ≡ rowOf c .last
 unfolding finalBy pick
 final-rule c = eqb-true _ _ (by-rows (λ n. eqb (finalBy n) (rowOf n .last)) refl (λ n h. rw (row-past n h, le-leb 15 n h)) c)
+
+-- ---- the sets that a final octet names, by one test of the octets and the places
+
+placed-right : ℕ → ℕ → Bool
+placed-right x p = eqb (namedOf x / 2 ^ (4 * p) % 16) (placed p x)
+
+all-placed : upTo 256 (λ x. upTo 16 (placed-right x)) ≡ true
+unfolding placed-right namedOf placed setOf find fitsOf mayUse pick
+all-placed = refl
+
+pub named-rule : (x p : ℕ) → x < 256 → p < 16 → namedOf x / 2 ^ (4 * p) % 16 ≡ placed p x
+unfolding placed-right
+named-rule x p h k = eqb-true _ _ (up-to-both 256 16 placed-right all-placed x p h k)
+
+-- the places of which none is asked
+pub named-none : (x p : ℕ) → x < 256 → p < 16 → (p ≡ 0 → ⊥) → (p ≡ 1 → ⊥) → (p ≡ 5 → ⊥) → (p ≡ 8 → ⊥) → (p ≡ 9 → ⊥)
+    → namedOf x / 2 ^ (4 * p) % 16 ≡ 15
+unfolding placed
+named-none x p h k a b c d e =
+    named-rule x p h k ∙ sym (on-ne p 0 _ _ _ a (on-ne p 1 _ _ _ b (on-ne p 5 _ _ _ c (on-ne p 8 _ _ _ d (on-ne p 9 _ _ _ e refl)))))

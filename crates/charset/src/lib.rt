@@ -1,6 +1,7 @@
 // The fifteen sets: their forms, the sides they may use, and the set that a designation names.
 ghost use mathlib.Core.Path.{_≡_};
 ghost use Rattle.charset.specs.Charsets.{rowOf, formOf, widthOfForm, allowed, setOf};
+ghost use Rattle.charset.specs.Finals.{namedOf};
 
 pub mod approved;
 mod finals;
@@ -69,6 +70,13 @@ pub fn set_of(form: u8, side: Side, last: u8) -> u8
             _ => NO_SET,
         },
     }
+}
+
+// The sets that a final octet names after each of the beginnings of a designation, four binary digits each (`finals::named`).
+pub fn named_by(last: u8) -> u64
+    ensures { λ r. ⌜ r ≡ namedOf last ⌝ }
+{
+    finals::named(last)
 }
 
 // The final octet of a set's designations, 0 where there is no such set: 4, and the set's four binary digits in a word.

@@ -1,10 +1,11 @@
 -- A designation that is found by its octets is the reader's element: where its set is one of the fifteen, the final octet is one that the
--- table has, and the octets before it lead to its form.
+-- table has, and the octets before it lead to its form. What `told` answers is the same where it names a set (`told-set`), and the set has the form
+-- that the first octet tells (`form-told`), by the rows of the table.
 use Rattle.element.proofs.Names.{ℕ, _+_, _-_, _<_, _≤_, arith, _≡_, refl, ap, sym, _∙_, subst, List, [], _∷_, eqb, length, getD, eqb-true, pick}
-use Rattle.element.proofs.Names.{pick-by, from, on-lt, on-ge, from-octet, from-length, form-96, form-94x94, no-set, setOf, Side, GL, GR, next, designatedOf}
+use Rattle.element.proofs.Names.{pick-by, from, on-lt, on-ge, from-octet, from-length, form-96, form-94x94, no-set, formOf, setOf, Side, GL, GR, next, designatedOf}
 use Rattle.element.proofs.Names.{Sets, State, Shape, Designates, Silent}
 use Rattle.charset.specs.Charsets.{form-94}
-use Rattle.charset.proofs.Laws.{final-range}
+use Rattle.charset.proofs.Laws.{final-range, set-form}
 use Rattle.control.specs.Escape.{designatesOf, designationOf, multiOctetOf, escapeOf}
 use Rattle.element.specs.Element.{shapeOf, directedOf, elementOf}
 use Rattle.element.specs.Start.{startOf, begunBy}
@@ -92,5 +93,40 @@ designation-silent t st d e h = ap (λ (x : Shape). directedOf x st) (given (sub
   where
     given : {x : Designation} → Is t (st .sets) x → x .set < no-set → Designates (x .octets) (x .side) (x .set) ≡ shapeOf t (st .sets)
     given (is f) = f
+
+-- ---- by the word of sets
+
+-- what is told names a set only where the octets do
+pub told-set : (b c e : ℕ) (d : Designation) → d ≡ quick.toldOf b c e → d .set < no-set → d ≡ quick.sequenceOf b c e
+unfolding quick.toldOf
+told-set b c e d i =
+    subst (λ (x : Designation). x .set < no-set → x ≡ quick.sequenceOf b c e) (sym i)
+    (pick-by (λ (x : Designation). x .set < no-set → x ≡ quick.sequenceOf b c e) _ (λ _ _. refl) (λ _ h. absurd (omega arith)))
+
+-- a designation, where it names a set, names one of this form
+data Of (form : ℕ) : Designation → Type 0 where
+  of : {d : Designation} → (d .set < no-set → formOf (d .set) ≡ form) → Of form d
+
+by-set : (octets form : ℕ) (side : Side) (last : ℕ) → Of form (quick.byFinalOf octets form side last)
+by-set octets form side last = of {d = quick.byFinalOf octets form side last} (set-form form side last)
+
+of-none : {form : ℕ} → Of form quick.absent
+of-none = of {d = quick.absent} (λ h. absurd (omega arith))
+
+form-after : (b c e : ℕ) → Of (quick.formAfter b) (quick.sequenceOf b c e)
+unfolding quick.sequenceOf quick.multiOctetAt quick.formAfter pick
+form-after b c e =
+    pick-by (Of _) (eqb b 0x24)
+    (λ i. rw (eqb-true b 0x24 i) (pick-by (Of _) (eqb c 0x28) (λ _. by-set 4 form-94x94 GL e)
+    (λ _. pick-by (Of _) (eqb c 0x29) (λ _. by-set 4 form-94x94 GR e) (λ _. of-none))))
+    (λ _. pick-by (Of _) (eqb b 0x28) (λ i. rw (eqb-true b 0x28 i) (by-set 3 form-94 GL c))
+    (λ _. pick-by (Of _) (eqb b 0x29) (λ i. rw (eqb-true b 0x29 i) (by-set 3 form-94 GR c))
+    (λ _. pick-by (Of _) (eqb b 0x2D) (λ i. rw (eqb-true b 0x2D i) (by-set 3 form-96 GR c)) (λ _. of-none))))
+
+pub form-told : (b c e : ℕ) → quick.sequenceOf b c e .set < no-set → formOf (quick.sequenceOf b c e .set) ≡ quick.formAfter b
+form-told b c e = given (form-after b c e)
+  where
+    given : {form : ℕ} {d : Designation} → Of form d → d .set < no-set → formOf (d .set) ≡ form
+    given (of f) = f
 
 pub ruleset placing = (on-four, on-few)

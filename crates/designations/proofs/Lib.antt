@@ -1,1 +1,2 @@
 pub mod Designations
+pub mod ByWord

@@ -1,7 +1,7 @@
 // Designations, found by their octets.
 ghost use mathlib.Core.Path.{_≡_};
-ghost use Rattle.base.specs.Choice.{from};
-ghost use Rattle.designations.specs.Designation.{absent, byFinalOf, multiOctetAt, sequenceOf, designationAt};
+ghost use Rattle.base.specs.Choice.{from, pick};
+ghost use Rattle.designations.specs.Designation.{absent, byFinalOf, multiOctetAt, sequenceOf, designationAt, sideBy, toldOf};
 use charset::FORM_94;
 use charset::FORM_94X94;
 use charset::FORM_96;
@@ -58,6 +58,49 @@ pub fn sequence(b: u8, c: u8, d: u8) -> Designation
         0x29 => by_final(3, FORM_94, Side::GR, c),
         0x2D => by_final(3, FORM_96, Side::GR, c),
         _ => none(),
+    }
+}
+
+fn either(four: bool, m: u8, n: u8) -> u8
+    ensures { λ r. ⌜ r ≡ pick four m n ⌝ }
+{
+    if four {
+        return m;
+    }
+    n
+}
+
+fn side_of(f: u8) -> Side
+    ensures { λ r. ⌜ r ≡ sideBy f ⌝ }
+{
+    if f == 0x28 {
+        return Side::GL;
+    }
+    Side::GR
+}
+
+// What `sequence` tells of octets that name a set, and nothing of others; no branch by the form, which a processor foresees badly where forms change.
+pub fn told(b: u8, c: u8, d: u8) -> Designation
+    ensures { λ r. ⌜ r ≡ toldOf b c d ⌝ }
+{
+    let four = b == 0x24;
+    let f = either(four, c, b);
+    let last = either(four, d, c);
+    if f < 0x28 {
+        return none();
+    }
+    if 0x2F < f {
+        return none();
+    }
+    let place = f - 0x28 + either(four, 8, 0);
+    let set = (charset::named_by(last) >> (4 * place)) % 16;
+    if set == 15 {
+        return none();
+    }
+    Designation {
+        octets: 3 + either(four, 1, 0) as usize,
+        side: side_of(f),
+        set: set as u8,
     }
 }
 

@@ -2,7 +2,7 @@
 use Rattle.element.proofs.Names.{arith, _∙_, ap, GL, GR}
 use Rattle.octet_table.specs.Table.{numberOf}
 use Rattle.archive.specs.Turns.{oneRecord}
-use Rattle.archive.proofs.Ready.{inside, row-fits, one-turn, two-inside, two-turn}
+use Rattle.archive.proofs.Ready.{inside, moved-fits, one-turn, two-inside, two-turn, two-low, right-class}
 use Rattle.archive.proofs.turns.text_turn.Statement.{statement}
 use Rattle.archive.proofs.turns.text_turn.Tie as tie
 
@@ -11,31 +11,34 @@ unfolding numberOf
 text-turn-spec =
     tie.close
     (tie.spec
-    (λ c. inside _ _ (c .before .before .before .pre .1))
-    (λ c κs. let pre = c .before .before .before .pre in (pre .0, row-fits _ _ (pre .1), inside _ _ (pre .1)))
+    (λ c κs. moved-fits _ _ (c .before .before .pre .0) 1 (omega arith))
+    (λ c. inside _ _ (c .before .before .before .before .pre .0))
     (search arith)
     (search arith)
+    (λ c. let text = c .before .before .before .before in
+    let pre = text .before .before .pre in
+    one-turn _ _ (pre .0) _ (pre .1) _ _ (text .if1 .taken) (c .one .ensures ∙ ap (oneRecord _ _ _) (c .before .set-by .ensures))
+    (c .before .before .before .moved .ensures))
+    (λ c κs. moved-fits _ _ (c .before .before .before .pre .0) 2 (omega arith))
+    (λ c. inside _ _ (c .before .before .before .before .before .pre .0))
     (search arith)
-    (λ c. let read = c .before .before .before .before in
-    one-turn _ _ (read .before .before .before .before .pre .1) _ (read .class-at .ensures) _ _ (c .before .before .before .if1 .taken)
-    (c .one .ensures ∙ ap (oneRecord _ _ _) (c .before .set-by .ensures)) (c .before .before .moved .ensures))
+    (λ c. let left = c .before .before .before in
+    let pre = left .before .before .before .pre in
+    two-inside _ _ (pre .0) _ (pre .1) GL (left .if2 .taken))
+    (λ c κs. let left = c .before .before .before in
+    let pre = left .before .before .before .pre in
+    two-low _ _ (pre .0) _ (pre .1) (left .if2 .taken))
+    (λ c. let left = c .before .before .before .before in
+    let pre = left .before .before .before .pre in
+    two-turn _ _ (pre .0) _ (pre .1) GL (left .if2 .taken) _ _ (c .two-left .ensures) (c .before .before .before .moved2 .ensures))
+    (λ c κs. moved-fits _ _ (c .before .before .before .pre .0) 2 (omega arith))
+    (λ c. inside _ _ (c .before .before .before .before .before .pre .0))
     (search arith)
+    (λ c. let right = c .before .before .before in
+    let pre = right .before .before .before .pre in
+    two-inside _ _ (pre .0) _ (pre .1) GR (right-class _ (pre .2) (right .before .if1 .left) (right .if2 .left)))
     (search arith)
-    (λ c. let read = c .before .before .before .before in
-    two-inside _ _ (read .before .before .before .before .pre .1) _ (read .class-at .ensures) GL (c .before .before .if2 .taken))
-    (search arith)
-    (λ c. let read = c .before .before .before .before .before in
-    two-turn _ _ (read .before .before .before .before .pre .1) _ (read .class-at .ensures) GL (c .before .before .before .if2 .taken) _ _
-    (c .two-octets .ensures) (c .before .before .moved2 .ensures))
-    (search arith)
-    (search arith)
-    (λ c. let read = c .before .before .before .before .before in
-    two-inside _ _ (read .before .before .before .before .pre .1) _ (read .class-at .ensures) GR (c .before .before .if3 .taken))
-    (search arith)
-    (λ c. let read = c .before .before .before .before .before .before in
-    two-turn _ _ (read .before .before .before .before .pre .1) _ (read .class-at .ensures) GR (c .before .before .before .if3 .taken) _ _
-    (c .two-octets2 .ensures) (c .before .before .moved3 .ensures))
-    (search arith)
-    (λ c. c .by-element .ensures)
-    (search arith)
-    (λ c. c .by-element2 .ensures))
+    (λ c. let right = c .before .before .before .before in
+    let pre = right .before .before .before .pre in
+    two-turn _ _ (pre .0) _ (pre .1) GR (right-class _ (pre .2) (right .before .if1 .left) (right .if2 .left)) _ _ (c .two-octets .ensures)
+    (c .before .before .before .moved3 .ensures)))
