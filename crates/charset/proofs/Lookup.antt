@@ -164,8 +164,8 @@ unfolding placed-right
 named-rule x p h k = eqb-true _ _ (up-to-both 256 16 placed-right all-placed x p h k)
 
 -- the places of which none is asked
-pub named-none : (x p : ℕ) → x < 256 → p < 16 → (p ≡ 0 → ⊥) → (p ≡ 1 → ⊥) → (p ≡ 5 → ⊥) → (p ≡ 8 → ⊥) → (p ≡ 9 → ⊥)
-    → namedOf x / 2 ^ (4 * p) % 16 ≡ 15
+pub named-none : (x p : ℕ) → x < 256 → p < 16 → (p ≡ 0 → ⊥) → (p ≡ 1 → ⊥) → (p ≡ 5 → ⊥) → (p ≡ 8 → ⊥)
+    → (p ≡ 9 → ⊥) → namedOf x / 2 ^ (4 * p) % 16 ≡ 15
 unfolding placed
 named-none x p h k a b c d e =
     named-rule x p h k ∙ sym (on-ne p 0 _ _ _ a (on-ne p 1 _ _ _ b (on-ne p 5 _ _ _ c (on-ne p 8 _ _ _ d (on-ne p 9 _ _ _ e refl)))))

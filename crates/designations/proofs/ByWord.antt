@@ -34,9 +34,9 @@ after-24 : (c d : ℕ) → d < 256 → toldBy true c d ≡ judged (multiOctetAt 
 unfolding toldBy multiOctetAt placed sideBy pick
 after-24 c d h =
     test (eqb c 0x28)
-    (λ e. rw (eqb-true c 0x28 e) (kept 4 0x28 _ _ (named-rule d 8 h (omega arith)) (set-most form-94x94 GL d)))
+    (λ e. rw (eqb-true c 0x28 e) (kept _ 0x28 _ _ (named-rule d 8 h (omega arith)) (set-most form-94x94 GL d)))
     (λ n. test (eqb c 0x29)
-    (λ e. rw (eqb-true c 0x29 e) (kept 4 0x29 _ _ (named-rule d 9 h (omega arith)) (set-most form-94x94 GR d)))
+    (λ e. rw (eqb-true c 0x29 e) (kept _ 0x29 _ _ (named-rule d 9 h (omega arith)) (set-most form-94x94 GR d)))
     (λ m. let n′ = eqb-false c 0x28 n in
     let m′ = eqb-false c 0x29 m in
     rw (n, m)
@@ -47,11 +47,11 @@ after-other : (b c d : ℕ) → c < 256 → (b ≡ 0x24 → ⊥) → toldBy fals
 unfolding toldBy sequenceOf placed sideBy pick
 after-other b c d h a =
     test (eqb b 0x28)
-    (λ e. rw (eqb-true b 0x28 e) (kept 3 0x28 _ _ (named-rule c 0 h (omega arith)) (set-most form-94 GL c)))
+    (λ e. rw (eqb-true b 0x28 e) (kept _ 0x28 _ _ (named-rule c 0 h (omega arith)) (set-most form-94 GL c)))
     (λ n. test (eqb b 0x29)
-    (λ e. rw (eqb-true b 0x29 e) (kept 3 0x29 _ _ (named-rule c 1 h (omega arith)) (set-most form-94 GR c)))
+    (λ e. rw (eqb-true b 0x29 e) (kept _ 0x29 _ _ (named-rule c 1 h (omega arith)) (set-most form-94 GR c)))
     (λ m. test (eqb b 0x2D)
-    (λ e. rw (eqb-true b 0x2D e) (kept 3 0x2D _ _ (named-rule c 5 h (omega arith)) (set-most form-96 GR c)))
+    (λ e. rw (eqb-true b 0x2D e) (kept _ 0x2D _ _ (named-rule c 5 h (omega arith)) (set-most form-96 GR c)))
     (λ o. let n′ = eqb-false b 0x28 n in
     let m′ = eqb-false b 0x29 m in
     let o′ = eqb-false b 0x2D o in

@@ -2,8 +2,8 @@
 -- table has, and the octets before it lead to its form. What `told` answers is the same where it names a set (`told-set`), and the set has the form
 -- that the first octet tells (`form-told`), by the rows of the table.
 use Rattle.element.proofs.Names.{ℕ, _+_, _-_, _<_, _≤_, arith, _≡_, refl, ap, sym, _∙_, subst, List, [], _∷_, eqb, length, getD, eqb-true, pick}
-use Rattle.element.proofs.Names.{pick-by, from, on-lt, on-ge, from-octet, from-length, form-96, form-94x94, no-set, formOf, setOf, Side, GL, GR, next, designatedOf}
-use Rattle.element.proofs.Names.{Sets, State, Shape, Designates, Silent}
+use Rattle.element.proofs.Names.{pick-by, from, on-lt, on-ge, from-octet, from-length, form-96, form-94x94, no-set, formOf, setOf, Side, GL, GR}
+use Rattle.element.proofs.Names.{next, designatedOf, Sets, State, Shape, Designates, Silent}
 use Rattle.charset.specs.Charsets.{form-94}
 use Rattle.charset.proofs.Laws.{final-range, set-form}
 use Rattle.control.specs.Escape.{designatesOf, designationOf, multiOctetOf, escapeOf}
