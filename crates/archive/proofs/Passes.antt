@@ -3,7 +3,7 @@
 -- `stretch` has shown which element it is.
 use Rattle.element.proofs.Names.{ℕ, zero, suc, _+_, _*_, _-_, _/_, _%_, _<_, _≤_, arith, _≡_, refl, ap, sym, _∙_, subst, true, false, List}
 use Rattle.element.proofs.Names.{length, getD, pick, from, from-octet, Side, GL, GR, State, Sets}
-use Rattle.element.proofs.Names.{⊎-elim, on-eq, test, ltb, ltb-true, ltb-false, fresh, no-set, on, put}
+use Rattle.element.proofs.Names.{⊎-elim, on-eq, test, ltb, ltb-true, ltb-false, fresh, formOf, no-set, on, put}
 use native.Mathlib.Nat.{eq-or-lt-of-le}
 use Rattle.text.specs.Text.{graphicOf}
 use Rattle.element.specs.Element.{shapeOf, elementOf}
@@ -14,9 +14,9 @@ use Rattle.element.proofs.Starts.{On, wideIn, Starts, starts, graphic, graphic-
 use Rattle.element.proofs.Starts as starts-of
 use Rattle.grammar.specs.Reading.{answerOf}
 use Rattle.grammar.proofs.Places.{at-passed, step-passed}
-use Rattle.designations.specs.Designation.{sequenceOf, designationAt}
+use Rattle.designations.specs.Designation.{sequenceOf, toldOf, formAfter, designationAt}
 use Rattle.designations.specs.declared.Designation.{Designation}
-use Rattle.designations.proofs.Designations.{designation-silent, on-four}
+use Rattle.designations.proofs.Designations.{designation-silent, told-set, form-told, on-four}
 use Rattle.state.specs.State.{state}
 use Rattle.octet_blocks.specs.Blocks.{Within}
 use Rattle.octet_blocks.proofs.Counted.{within-less}
@@ -26,7 +26,7 @@ use Rattle.stretch.specs.Characters.{settledOf}
 use Rattle.stretch.proofs.Law.{One}
 use Rattle.stretch.proofs.Starts.{Lone, blank, text, left-start, one-start, written-two, lone-one}
 use Rattle.stretch.proofs.Starts as text-of
-use Rattle.archive.specs.Passes.{Leads, Leaves, Passes, Places, Reaches, Classed, Ones}
+use Rattle.archive.specs.Passes.{Leads, Leaves, Passes, Places, Reaches, Classed, Ones, EscapeAt}
 
 -- ---- one after another
 
@@ -386,6 +386,16 @@ pub sequence-at : (s : List ℕ) (i : ℕ) (x : Designation) → 4 ≤ length s 
     → x ≡ sequenceOf (getD s (i + 1) 0) (getD s (i + 1 + 1) 0) (getD s (i + 1 + 1 + 1) 0) → x ≡ designationAt (from i s)
 sequence-at s i x h e f = on-four s i x (omega arith) h (on-eq _ _ _ _ _ e f)
 
+-- by what its three octets after 1B tell; the form of its set is told by the first of them
+pub told-at : (s : List ℕ) (i : ℕ) (x : Designation) → EscapeAt s i
+    → x ≡ toldOf (getD s (i + 1) 0) (getD s (i + 1 + 1) 0) (getD s (i + 1 + 1 + 1) 0) → x .set < no-set
+    → (x ≡ designationAt (from i s)) × (formOf (x .set) ≡ formAfter (getD s (i + 1) 0))
+told-at s i x h e named =
+    let f = told-set _ _ _ x e named in (
+      sequence-at s i x (h .four) (h .escape) f,
+      rw f (form-told (getD s (i + 1) 0) (getD s (i + 1 + 1) 0) (getD s (i + 1 + 1 + 1) 0) (rw f at named)),
+    )
+
 module _ (s : List ℕ) (at : ℕ) (a : Sets) where
   pub places-none : at ≤ length s → Places s at a at a
   places-none h = record { since = omega arith; within = h; leads = λ d. leads-none s (state a d) at h }
@@ -435,3 +445,9 @@ module _ (s : List ℕ) (at : ℕ) (a : Sets) where
       let e : n + 0 ≡ n = omega arith in
       subst (Reaches s at a j c) e
       (reaches-more i j n 0 b c x (record { since = omega (arith, y .since); within = y .within; leads = λ d k. y .leads d }))
+
+-- one designation
+pub reaches-told : (s : List ℕ) (at : ℕ) (a : Sets) (i n : ℕ) (b : Sets) → Reaches s at a i b n → (x : Designation) → x ≡ designationAt (from i s)
+    → x .set < no-set → (d : Side) → x .side ≡ d → Reaches s at a (i + x .octets) (put (on d (x .set)) b) n
+reaches-told s at a i n b r x e h d f =
+    reaches-on s at a i (i + x .octets) n b (put (on d (x .set)) b) r (places-more s i b i b (places-none s i b (r .within)) x e h d f)

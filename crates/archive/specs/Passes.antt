@@ -1,6 +1,6 @@
 -- Stretches that the archive reader passes at once, as its code finds them. How far one goes is left to the program; that what it passes are as
 -- many elements of the reader, which leave the state, is what each function ensures (`Passes`), so that nothing here has to be believed.
-use Prim.Native.Nat.{ℕ, _+_, _≤_, _<_}
+use Prim.Native.Nat.{ℕ, _+_, _-_, _≤_, _<_}
 use mathlib.Core.Path.{_≡_}
 use mathlib.Core.Bool.{Bool, true, false}
 use mathlib.Core.List.{List}
@@ -62,3 +62,8 @@ pub record Ones (row : ℕ) (s : List ℕ) (at i : ℕ) : Type 0 where
   pub since : at ≤ i
   pub within : i ≤ length s
   pub each : (j : ℕ) → at ≤ j → j < i → (getD s j 0 < 256) × (ruleOf (row + getD s j 0) ≤ 4)
+
+-- four octets are left at a place, the first of them 1B
+pub record EscapeAt (s : List ℕ) (at : ℕ) : Type 0 where
+  pub four : 4 ≤ length s - at
+  pub escape : getD s at 0 ≡ 0x1B

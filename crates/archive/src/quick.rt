@@ -1,17 +1,23 @@
 // Units and designations, one after another, where text leaves the directions as they are; and tabs and newlines, which always do.
 ghost use mathlib.Core.Path.{_≡_};
+ghost use mathlib.Core.Bool.{true};
 ghost use Prim.Native.Nat.{_≤_};
 ghost use lib.ListN.{length};
+ghost use Rattle.designations.specs.Designation.{formAfter};
 ghost use Rattle.octet_table.specs.Table.{table};
 ghost use Rattle.state.specs.State.{sets};
-ghost use Rattle.archive.specs.Passes.{Places, Ones, Reaches, reachOf};
+ghost use Rattle.archive.specs.Passes.{Ones, Reaches, EscapeAt, reachOf};
 use crate::stretches::fours;
 use crate::stretches::singles;
 use crate::stretches::stretch_by;
+use charset::FORM_94;
+use charset::FORM_94X94;
+use charset::FORM_96;
 use charset::NO_SET;
 use charset::Side;
-use designations::sequence;
-use octet_table::row_of;
+use designations::told;
+use octet_table::left_of;
+use octet_table::right_of;
 
 // The row of two octets in GL and GR, of which tabs and newlines alone are units of one octet.
 pub const BLANK_ROW: usize = 1280;
@@ -35,38 +41,31 @@ pub fn reached(place: usize, units: usize, gl: u8, gr: u8) -> Reach
     }
 }
 
-// The designations at a place, as many as follow each other.
-fn designated(s: &[u8], at: usize, gl: u8, gr: u8) -> Reach
+// Whether four octets are left at a place, the first of them 1B.
+fn escape_at(s: &[u8], at: usize) -> bool
     requires { ⌜ at ≤ length (now s) ⌝ }
-    ensures { λ r. ⌜ Places (now (s .entry)) at (sets gl gr) (r .place) (sets (r .gl) (r .gr)) ⌝ }
+    ensures { λ r. ⌜ (r ≡ true → EscapeAt (now (s .entry)) at) ⌝ }
 {
-    let mut i = at;
-    let mut left = gl;
-    let mut right = gr;
-    while 4 <= s.len() - i {
-        if s[i] != 0x1B {
-            return reached(i, 0, left, right);
-        }
-        let d = sequence(s[i + 1], s[i + 1 + 1], s[i + 1 + 1 + 1]);
-        let set = d.set;
-        if NO_SET <= set {
-            return reached(i, 0, left, right);
-        }
-        let side = d.side;
-        i += d.octets;
-        match side {
-            Side::GL => {
-                left = set;
-            }
-            Side::GR => {
-                right = set;
-            }
-        }
+    if s.len() - at < 4 {
+        return false;
     }
-    reached(i, 0, left, right)
+    s[at] == 0x1B
 }
 
-// The units and designations at a place.
+// The form of the set that a designation names, by its first octet after 1B: known before the set is.
+fn form_after(b: u8) -> u8
+    ensures { λ r. ⌜ r ≡ formAfter b ⌝ }
+{
+    if b == 0x24 {
+        return FORM_94X94;
+    }
+    if b == 0x2D {
+        return FORM_96;
+    }
+    FORM_94
+}
+
+// The units and designations at a place. The row is kept by its two parts, which wait for the form of a designation and not for its set.
 pub fn quick(t: &[u8], s: &[u8], at: usize, gl: u8, gr: u8) -> Reach
     requires { ⌜ (now t ≡ table) × (at ≤ length (now s)) ⌝ }
     ensures { λ r. ⌜ Reaches (now (s .entry)) at (sets gl gr) (r .place) (sets (r .gl) (r .gr)) (r .units) ⌝ }
@@ -75,17 +74,31 @@ pub fn quick(t: &[u8], s: &[u8], at: usize, gl: u8, gr: u8) -> Reach
     let mut n: usize = 0;
     let mut left = gl;
     let mut right = gr;
-    let mut row = row_of(gl, gr);
+    let mut high = left_of(charset::form_of(gl));
+    let mut low = right_of(charset::form_of(gr));
     while i < s.len() {
-        let u = stretch_by(t, s, i, row);
+        let u = stretch_by(t, s, i, high + low);
         i += u.octets;
         n += u.units;
-        let d = designated(s, i, left, right);
-        if i < d.place {
-            i = d.place;
-            left = d.gl;
-            right = d.gr;
-            row = row_of(left, right);
+        if escape_at(s, i) {
+            let b = s[i + 1];
+            let d = told(b, s[i + 1 + 1], s[i + 1 + 1 + 1]);
+            let set = d.set;
+            if NO_SET <= set {
+                return reached(i, n, left, right);
+            }
+            let side = d.side;
+            i += d.octets;
+            match side {
+                Side::GL => {
+                    left = set;
+                    high = left_of(form_after(b));
+                }
+                Side::GR => {
+                    right = set;
+                    low = right_of(form_after(b));
+                }
+            }
         } else if u.octets == 0 {
             return reached(i, n, left, right);
         }

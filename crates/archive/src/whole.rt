@@ -63,7 +63,7 @@ fn begun(t: &[u8], s: &[u8], at: usize, st: State) -> State
     st
 }
 
-// The designations at a place, as `designated` passes them: each by a call, since the compiler is to put those of text into one loop with it.
+// The designations at a place, as many as follow each other.
 fn placed(s: &[u8], at: usize, gl: u8, gr: u8) -> Reach
     requires { ⌜ at ≤ length (now s) ⌝ }
     ensures { λ r. ⌜ Places (now (s .entry)) at (sets gl gr) (r .place) (sets (r .gl) (r .gr)) ⌝ }

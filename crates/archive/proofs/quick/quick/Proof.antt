@@ -1,45 +1,107 @@
--- `archive::quick::quick` meets its contract: in each turn a stretch or designations lead on, under the sets that they leave.
-use Rattle.element.proofs.Names.{_-_, arith, _≡_, length}
+-- `archive::quick::quick` meets its contract: in each turn a stretch (`after-stretch`) and a designation (`after-told`) lead on, under the sets that
+-- they leave, and the two parts of the row are those of the sets.
+use Rattle.element.proofs.Names.{_+_, _-_, _<_, _≤_, arith, _≡_, refl, ap, sym, _∙_, length, getD, from, now, formOf, no-set, Side, GL, GR, on, put}
+use Rattle.designations.specs.Designation.{formAfter, designationAt}
 use Rattle.state.specs.State.{sets}
-use Rattle.octet_table.specs.Table.{rowOf}
-use Rattle.octet_table.proofs.Rule.{row-low}
+use Rattle.octet_table.specs.Table.{leftOf, rightOf}
+use Rattle.octet_table.proofs.Rule.{left-most, right-most}
 use Rattle.archive.specs.Passes.{Reaches}
-use Rattle.archive.proofs.Passes.{reaches-none, reaches-on, reaches-units}
+use Rattle.archive.proofs.Passes.{designation-some, told-at, reaches-none, reaches-units, reaches-told}
 use Rattle.archive.proofs.quick.quick.Statement.{statement}
 use Rattle.archive.proofs.quick.quick.Tie as tie
 
 abbrev Inv-loop : tie.InvT-loop
-Inv-loop t s at gl gr i₀ n₀ left₀ right₀ row₀ i n left right row =
-    Reaches s at (sets gl gr) i (sets left right) n × (row ≡ rowOf (sets left right))
+Inv-loop t s at gl gr i₀ n₀ left₀ right₀ high₀ low₀ i n left right high low =
+    Reaches s at (sets gl gr) i (sets left right) n × (high ≡ leftOf (formOf left)) × (low ≡ rightOf (formOf right))
 
 abbrev μ-loop : tie.MeasureT-loop
-μ-loop t s at gl gr i₀ n₀ left₀ right₀ row₀ i n left right row = length s - i
+μ-loop t s at gl gr i₀ n₀ left₀ right₀ high₀ low₀ i n left right high low = length s - i
+
+-- after the stretch of a turn
+after-stretch : (c : tie.After-stretch-by Inv-loop μ-loop)
+    → let start = c .before .before .before .before .before .before .before .before .before in let turn = c .before .before .loop in
+    Reaches (now (start .args .s)) (start .args .at) (sets (start .args .gl) (start .args .gr)) (turn .i + c .stretch-by .result .octets)
+    (sets (turn .left) (turn .right)) (turn .n + c .stretch-by .result .units)
+after-stretch c =
+    let turn = c .before .before .loop in
+    reaches-units _ _ _ _ _ _ _ _ _ (turn .inv .0) (rw (turn .inv .1, turn .inv .2) refl) (c .stretch-by .ensures)
+
+-- what is told after it is a designation, where it names a set, and its form is known
+after-told : (c : tie.After-told Inv-loop μ-loop) → c .told .result .set < no-set
+    → let at = c .before .before .before .before .before .before .before .before in let i = at .before .before .loop .i + at .stretch-by .result .octets in let s = now (at .before .before .before .before .before .before .before .before .before .args .s) in
+    (c .told .result ≡ designationAt (from i s)) × (formOf (c .told .result .set) ≡ formAfter (getD s (i + 1) 0))
+after-told c h = told-at _ _ _ (c .before .before .before .before .before .escape-at .ensures (c .before .before .before .before .if1 .taken)) (c .told .ensures) h
 
 pub quick-spec : {M : Type 1} → statement M
+unfolding put
 quick-spec =
     tie.close
     (tie.spec
     Inv-loop
     μ-loop
     (λ c κs. tt)
-    (λ c. (reaches-none _ _ _ (c .before .before .before .pre .1), c .row-of .ensures))
-    (λ c κs. let pre = c .before .before .before .before .before .pre in (pre .0, row-low _ _ (c .before .loop .inv .1), c .loop-test .taken))
+    (λ c κs. tt)
+    (λ c κs. tt)
+    (λ c κs. tt)
+    (λ c. (
+      reaches-none _ _ _ (c .before .before .before .before .before .before .pre .1),
+      c .before .before .left-of .ensures ∙ ap leftOf (c .before .before .before .form-of .ensures),
+      c .right-of .ensures ∙ ap rightOf (c .before .form-of2 .ensures),
+    ))
+    (λ c. let turn = c .before .loop in
+    let l = left-most (formOf (turn .left)) in
+    let r = right-most (formOf (turn .right)) in omega (arith, turn .inv .1, turn .inv .2, l, r))
+    (λ c κs. let turn = c .before .loop in
+    let l = left-most (formOf (turn .left)) in
+    let r = right-most (formOf (turn .right)) in
+    (c .before .before .before .before .before .before .before .before .pre .0, omega (arith, turn .inv .1, turn .inv .2, l, r), c .loop-test .taken))
     (λ c. omega (arith, c .before .stretch-by .ensures .within))
-    (λ c. let inv = c .before .before .before .before .loop .inv in
-    let u = c .before .before .stretch-by .ensures in omega (arith, inv .0 .since, u .since, u .within))
+    (λ c. let p = after-stretch (c .before .before) in omega (arith, p .since, p .within))
     (λ c κs. c .before .before .stretch-by .ensures .within)
+    (λ c. let e = c .before .escape-at .ensures (c .if1 .taken) in omega (arith, e .four))
+    (λ c. let e = c .before .before .escape-at .ensures (c .before .if1 .taken) in omega (arith, e .four))
+    (λ c. let e = c .before .before .escape-at .ensures (c .before .if1 .taken) in omega (arith, e .four))
+    (λ c. let e = c .before .before .escape-at .ensures (c .before .if1 .taken) in omega (arith, e .four))
+    (λ c. let e = c .before .before .before .escape-at .ensures (c .before .before .if1 .taken) in omega (arith, e .four))
+    (λ c. let e = c .before .before .before .escape-at .ensures (c .before .before .if1 .taken) in omega (arith, e .four))
+    (λ c. let e = c .before .before .before .escape-at .ensures (c .before .before .if1 .taken) in omega (arith, e .four))
+    (λ c. let e = c .before .before .before .escape-at .ensures (c .before .before .if1 .taken) in omega (arith, e .four))
+    (λ c. let e = c .before .before .before .before .escape-at .ensures (c .before .before .before .if1 .taken) in omega (arith, e .four))
     (λ c κs. tt)
-    (λ c. let d = c .before .before .before .designated .ensures in
-    omega (arith, c .before .before .before .before .before .before .stretch-by .ensures .since, d .within, c .before .if1 .taken))
-    (λ c. let inv = c .before .before .before .before .before .before .before .before .loop .inv in
-    let u = reaches-units _ _ _ _ _ _ _ _ _ (inv .0) (inv .1) (c .before .before .before .before .before .before .stretch-by .ensures) in
-    (reaches-on _ _ _ _ _ _ _ _ u (c .before .before .before .designated .ensures), c .row-of2 .ensures))
     (λ c κs. tt)
-    (λ c. let inv = c .before .before .before .before .before .before .before .before .before .before .loop .inv in
-    let u = c .before .before .before .before .before .before .before .before .stretch-by .ensures in
-    rw (c .reached .ensures) (reaches-units _ _ _ _ _ _ _ _ _ (inv .0) (inv .1) u))
-    (λ c. omega (arith, c .if2 .left, c .before .before .before .before .before .before .before .stretch-by .ensures .within))
-    (λ c. let inv = c .before .before .before .before .before .before .before .before .before .loop .inv in
-    (reaches-units _ _ _ _ _ _ _ _ _ (inv .0) (inv .1) (c .before .before .before .before .before .before .before .stretch-by .ensures), inv .1))
+    (λ c. rw (c .reached .ensures) (after-stretch (c .before .before .before .before .before .before .before .before .before .before)))
+    (λ c. let some = designation-some _ _ _ (after-told (c .before .before) (c .before .if2 .left) .0) (c .before .if2 .left) in omega (arith, some .1))
+    (search arith)
     (λ c κs. tt)
-    (λ c. rw (c .reached2 .ensures) (c .before .before .loop .inv .0)))
+    (λ c κs. tt)
+    (λ c. let told = c .before .before .before .before .before .before in
+    let named = c .before .before .before .before .before .if2 .left in
+    let some = designation-some _ _ _ (after-told told named .0) named in omega (arith, some .0, some .1))
+    (λ c. let told = c .before .before .before .before .before .before in
+    let named = c .before .before .before .before .before .if2 .left in
+    let is = after-told told named in
+    let turn = told .before .before .before .before .before .before .before .before .before .before .loop in (
+      reaches-told _ _ _ _ _ _ (after-stretch (told .before .before .before .before .before .before .before .before)) _ (is .0) named GL (c .before .before .enum-told .given .1),
+      c .left-of2 .ensures ∙ ap leftOf (c .before .form-after .ensures ∙ sym (is .1)),
+      turn .inv .2,
+    ))
+    (search arith)
+    (λ c κs. tt)
+    (λ c κs. tt)
+    (λ c. let told = c .before .before .before .before .before .before in
+    let named = c .before .before .before .before .before .if2 .left in
+    let some = designation-some _ _ _ (after-told told named .0) named in omega (arith, some .0, some .1))
+    (λ c. let told = c .before .before .before .before .before .before in
+    let named = c .before .before .before .before .before .if2 .left in
+    let is = after-told told named in
+    let turn = told .before .before .before .before .before .before .before .before .before .before .loop in (
+      reaches-told _ _ _ _ _ _ (after-stretch (told .before .before .before .before .before .before .before .before)) _ (is .0) named GR (c .before .before .enum-told2 .given .1),
+      turn .inv .1,
+      c .right-of2 .ensures ∙ ap rightOf (c .before .form-after2 .ensures ∙ sym (is .1)),
+    ))
+    (λ c κs. tt)
+    (λ c. rw (c .reached2 .ensures) (after-stretch (c .before .before .before .before .before .before .before)))
+    (λ c. omega (arith, c .if3 .left, c .before .before .before .before .before .before .stretch-by .ensures .within))
+    (λ c. let turn = c .before .before .before .before .before .before .before .before .loop in (after-stretch (c .before .before .before .before .before .before), turn .inv .1, turn .inv .2))
+    (λ c κs. tt)
+    (λ c. rw (c .reached3 .ensures) (c .before .before .loop .inv .0)))

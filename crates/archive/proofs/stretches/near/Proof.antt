@@ -14,9 +14,14 @@ near-spec =
     (λ c. c .singles .ensures .since)
     (λ c. passes-at _ _ _ _ _ (ones-passes _ _ _ _ (c .singles .ensures)))
     (λ c κs. let start = c .before .before .before .before .before in
-    let pre = start .pre in
-    (pre .0, pre .1, pre .2, pre .3, subst (Classed (start .args .row) (now (start .args .s)) (start .args .at)) (c .if2 .taken)
-    (c .before .before .class-at .ensures)))
+    let pre = start .pre in (
+      pre .0,
+      pre .1,
+      pre .2,
+      pre .3,
+      subst (Classed (start .args .row) (now (start .args .s)) (start .args .at)) (c .if2 .taken)
+          (c .before .before .class-at .ensures),
+    ))
     (λ c. c .doubles .ensures)
     (λ c κs. let pre = c .before .before .before .before .before .before .pre in (pre .0, pre .1, omega (arith, pre .2), pre .3, omega arith, omega arith))
     (λ c. c .pairs .ensures)

@@ -24,7 +24,10 @@ stretch-by-spec =
     (λ c κs. let pre = c .before .before .before .before .before .before .before .before .pre in (pre .0, pre .1, c .if2 .left))
     (λ c κs. let pre = c .before .before .before .before .before .before .before .before .before .pre in (pre .0, pre .1, c .class-at .ensures))
     (λ c. omega (arith, c .before .before .far .ensures .within))
-    (λ c. let x = c .before .before .before .before .before .before .before .before .before .before .near .ensures in
-    let y = c .before .before .before .before .far .ensures in omega (arith, x .since, y .since, y .within))
+    (λ c. let near = c .before .before .before .before .before .before .before .before .before .before in
+    let start = near .before .before .before .before in
+    let y = c .before .before .before .before .far in
+    let p = passes-both _ (now (start .args .s)) (start .args .at) (near .near .result .octets) (near .near .result .units) (y .result .octets)
+    (y .result .units) (near .near .ensures) (y .ensures) in omega (arith, p .since, p .within))
     (λ c. let x = c .before .before .before .before .before .before .before .before .before .before .near .ensures in
     passes-both _ _ _ _ _ _ _ x (c .before .before .before .before .far .ensures)))
