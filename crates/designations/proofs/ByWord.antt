@@ -1,8 +1,8 @@
 -- What the code tells of three octets by one word of sets (`toldBy`) is what `sequence` tells where they name a set, and nothing elsewhere
 -- (`told-by`): where the octet before the final one is 28, 29 or 2D the number at its place is the designation's set, and else it is that of no set.
-use Rattle.element.proofs.Names.{ℕ, _+_, _-_, _*_, _/_, _%_, _^_, _<_, _≤_, arith, _≡_, refl, ap, sym, _∙_, subst, Bool, true, false, eqb, ltb}
-use Rattle.element.proofs.Names.{eqb-true, eqb-false, eq-eqb, ne-eqb, ltb-true, ltb-false, test, tested, pick, pick-by, on-lt, on-ge, on-eq}
-use Rattle.element.proofs.Names.{form-96, form-94x94, no-set, setOf, Side, GL, GR}
+use Rattle.element.proofs.Names.{ℕ, _+_, _-_, _*_, _/_, _%_, _^_, _<_, _≤_, arith, _≡_, refl, ap, sym, _∙_, Bool, true, false, eqb, ltb}
+use Rattle.element.proofs.Names.{eqb-true, eqb-false, eq-eqb, ne-eqb, ltb-true, ltb-false, test, pick, on-lt, on-ge, on-eq}
+use Rattle.element.proofs.Names.{form-96, form-94x94, no-set, GL, GR}
 use Rattle.charset.specs.Charsets.{form-94}
 use Rattle.charset.specs.Finals.{namedOf, placed}
 use Rattle.charset.proofs.Laws.{set-most}
