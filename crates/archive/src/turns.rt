@@ -144,16 +144,16 @@ fn text_turn(s: &[u8], c: RowCursor, k: u8) -> RowTurn
     ensures { λ r. ⌜ r ≡ turnOf (now (s .entry)) (cursorIn c) ⌝ }
 {
     let at = c.place;
-    if k <= ONE_GR {
-        return RowTurn {
-            cursor: c.moved(1),
-            unit: one(at, s[at], k, set_by(k, c.gl, c.gr)),
-        };
-    }
     if k == TWO_GL {
         return RowTurn {
             cursor: c.moved(2),
             unit: two_left(at, s[at], s[at + 1], c.gl),
+        };
+    }
+    if k <= ONE_GR {
+        return RowTurn {
+            cursor: c.moved(1),
+            unit: one(at, s[at], k, set_by(k, c.gl, c.gr)),
         };
     }
     RowTurn {
