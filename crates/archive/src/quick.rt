@@ -3,18 +3,15 @@ ghost use mathlib.Core.Path.{_≡_};
 ghost use mathlib.Core.Bool.{true};
 ghost use Prim.Native.Nat.{_≤_};
 ghost use lib.ListN.{length};
-ghost use Rattle.designations.specs.Designation.{formAfter};
 ghost use Rattle.octet_table.specs.Table.{table};
 ghost use Rattle.state.specs.State.{sets};
 ghost use Rattle.archive.specs.Passes.{Ones, Reaches, EscapeAt, reachOf};
 use crate::stretches::fours;
 use crate::stretches::singles;
 use crate::stretches::stretch_by;
-use charset::FORM_94;
-use charset::FORM_94X94;
-use charset::FORM_96;
 use charset::NO_SET;
 use charset::Side;
+use designations::form_after;
 use designations::told;
 use octet_table::left_of;
 use octet_table::right_of;
@@ -50,19 +47,6 @@ fn escape_at(s: &[u8], at: usize) -> bool
         return false;
     }
     s[at] == 0x1B
-}
-
-// The form of the set that a designation names, by its first octet after 1B: known before the set is.
-fn form_after(b: u8) -> u8
-    ensures { λ r. ⌜ r ≡ formAfter b ⌝ }
-{
-    if b == 0x24 {
-        return FORM_94X94;
-    }
-    if b == 0x2D {
-        return FORM_96;
-    }
-    FORM_94
 }
 
 // The units and designations at a place. The row is kept by its two parts, which wait for the form of a designation and not for its set.

@@ -1,7 +1,7 @@
 // Designations, found by their octets.
 ghost use mathlib.Core.Path.{_≡_};
 ghost use Rattle.base.specs.Choice.{from, pick};
-ghost use Rattle.designations.specs.Designation.{absent, byFinalOf, multiOctetAt, sequenceOf, designationAt, sideBy, toldOf};
+ghost use Rattle.designations.specs.Designation.{absent, byFinalOf, multiOctetAt, sequenceOf, designationAt, sideBy, toldOf, formAfter};
 use charset::FORM_94;
 use charset::FORM_94X94;
 use charset::FORM_96;
@@ -118,4 +118,17 @@ pub fn designation_at(s: &[u8], at: usize) -> Designation
         return sequence(s[at + 1], s[at + 1 + 1], s[at + 1 + 1 + 1]);
     }
     none()
+}
+
+// The form of the set that a designation names, by its first octet after 1B: known before the set is.
+pub fn form_after(b: u8) -> u8
+    ensures { λ r. ⌜ r ≡ formAfter b ⌝ }
+{
+    if b == 0x24 {
+        return FORM_94X94;
+    }
+    if b == 0x2D {
+        return FORM_96;
+    }
+    FORM_94
 }

@@ -1,9 +1,0 @@
--- `archive::quick::form_after` meets its contract, test by test.
-use Rattle.element.proofs.Names.{ladder}
-use Rattle.designations.specs.Designation.{formAfter}
-use Rattle.archive.proofs.quick.form_after.Statement.{statement}
-use Rattle.archive.proofs.quick.form_after.Tie as tie
-
-pub form-after-spec : {M : Type 1} → statement M
-unfolding formAfter
-form-after-spec = tie.close (tie.spec (λ c. search ladder depth 9) (λ c. search ladder depth 9) (λ c. search ladder depth 9))
