@@ -16,7 +16,6 @@ mod quick;
 mod stretches;
 mod turns;
 mod whole;
-mod words;
 
 // Whether a string is accepted, and what of it is refused: what `check_string::answer` says.
 pub fn check(s: &[u8]) -> Answer

@@ -8,8 +8,8 @@ ghost use Rattle.octet_table.specs.Table.{table};
 ghost use Rattle.archive.specs.Passes.{Passes, Ones, Classed};
 use crate::classes::class_at;
 use crate::classes::full_right;
-use crate::words::leading;
 use octet_blocks::blocks::blocks_end;
+use octet_blocks::words::leading;
 use octet_table::ONE_GR;
 use octet_table::SPACE;
 use octet_table::TWO_GL;
@@ -121,16 +121,24 @@ fn ones(t: &[u8], s: &[u8], at: usize, row: usize, k: u8) -> usize
     at
 }
 
+// Whole characters of two octets from a place up to an end.
+fn pairs_to(at: usize, end: usize) -> Stretch
+    requires { ⌜ at ≤ end ⌝ }
+    ensures { λ r. ⌜ (r .octets ≡ 2 * r .units) × (r .units ≡ (end - at) / 2) ⌝ }
+{
+    let n = (end - at) / 2;
+    Stretch {
+        octets: 2 * n,
+        units: n,
+    }
+}
+
 // A stretch of characters of two octets, whose octets are of a span.
 fn twos(s: &[u8], at: usize, first: u8, last: u8) -> Stretch
     requires { ⌜ at ≤ length (now s) ⌝ }
     ensures { λ r. ⌜ Within first last (now (s .entry)) at (at + r .octets) × (r .octets ≡ 2 * r .units) ⌝ }
 {
-    let n = (blocks_end(s, at, first, last) - at) / 2;
-    Stretch {
-        octets: 2 * n,
-        units: n,
-    }
+    pairs_to(at, blocks_end(s, at, first, last))
 }
 
 // What follows a stretch of this class, by blocks, and then four by four where its units have one octet.
@@ -147,18 +155,6 @@ fn far(t: &[u8], s: &[u8], at: usize, row: usize, k: u8) -> Stretch
     let n = fours(t, s, ones(t, s, at, row, k), row) - at;
     Stretch {
         octets: n,
-        units: n,
-    }
-}
-
-// Whole characters of two octets from a place up to an end.
-fn pairs_to(at: usize, end: usize) -> Stretch
-    requires { ⌜ at ≤ end ⌝ }
-    ensures { λ r. ⌜ (r .octets ≡ 2 * r .units) × (r .units ≡ (end - at) / 2) ⌝ }
-{
-    let n = (end - at) / 2;
-    Stretch {
-        octets: 2 * n,
         units: n,
     }
 }

@@ -3,13 +3,16 @@
 use Prim.Native.Nat.{ℕ, zero, suc, _+_, _-_, _*_, _/_, _%_, _<_, _≤_}
 use native.Mathlib.Omega.{arith}
 use native.Mathlib.Nat.{add-zero}
-use mathlib.Core.Path.{_≡_, ap, ap₂, _∙_, subst, sym}
+use mathlib.Core.Path.{_≡_, ap, ap₂, subst, sym}
 use mathlib.Core.List.{List, [], _∷_}
+use lib.Dec.{ltb}
 use lib.ListN.{length, getD}
+use borrow.Author.Tests.{ltb-false}
 use Rattle.base.specs.Choice.{pick}
 use Rattle.base.proofs.Bools.{pick-by}
 use Rattle.octet_blocks.specs.Blocks.{Within}
-use Rattle.octet_blocks.specs.Words.{graphic, ledOf, wordOf, eightAt}
+use Rattle.octet_blocks.specs.Words.{graphic, ledOf, wordOf, eightAt, leadingOf}
+use Rattle.octet_blocks.proofs.Counted.{within-none}
 use Rattle.octet_blocks.proofs.Stops.{graphic-low}
 
 pub led-most : (n w : ℕ) → ledOf n w ≤ n
@@ -61,10 +64,18 @@ led-octets s at o h =
           subst (λ (k : ℕ). (0x21 ≤ getD s k 0) × (getD s k 0 ≤ 0x7E)) (sym q) r;
     }
 
--- by what the code has found: the word, and the count
-pub led-passed : (s : List ℕ) (at w n : ℕ) → ((i : ℕ) → getD s i 0 < 256) → at + 8 ≤ length s → w ≡ wordOf (eightAt s at) → n ≡ ledOf 8 w
-    → Within 0x21 0x7E s at (at + n)
-led-passed s at w n o h e k = subst (λ (m : ℕ). Within 0x21 0x7E s at (at + m)) (sym (k ∙ ap (ledOf 8) e)) (led-octets s at o h)
+-- by what the code has found
+module _ (s : List ℕ) (at : ℕ) where
+  pub leading-few : (n : ℕ) → n ≡ leadingOf s at → n ≤ 8
+  unfolding leadingOf
+  leading-few n e =
+      rw e (pick-by (λ k. k ≤ 8) (ltb (length s) at) (λ _. omega arith)
+      (λ _. pick-by (λ k. k ≤ 8) (ltb (length s - at) 8) (λ _. omega arith) (λ _. led-most 8 _)))
 
-pub led-few : (w n : ℕ) → n ≡ ledOf 8 w → n ≤ 8
-led-few w n e = let m = led-most 8 w in omega arith
+  pub leading-passed : ((i : ℕ) → getD s i 0 < 256) → at ≤ length s → (n : ℕ) → n ≡ leadingOf s at → Within 0x21 0x7E s at (at + n)
+  unfolding leadingOf
+  leading-passed o h n e =
+      let none : Within 0x21 0x7E s at (at + 0) = rw (add-zero at) (within-none 0x21 0x7E s at h) in
+      let P : ℕ → Type 0 = λ k. Within 0x21 0x7E s at (at + k) in
+      subst P (sym e) (pick-by P (ltb (length s) at) (λ _. none)
+      (λ _. pick-by P (ltb (length s - at) 8) (λ _. none) (λ l. led-octets s at o (let r = ltb-false (length s - at) 8 l in omega (arith, r, h)))))

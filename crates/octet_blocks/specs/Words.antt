@@ -1,9 +1,9 @@
 -- Octets in one word, the first of them lowest.
-use Prim.Native.Nat.{ℕ, zero, suc, _+_, _*_, _/_, _%_}
+use Prim.Native.Nat.{ℕ, zero, suc, _+_, _-_, _*_, _/_, _%_}
 use mathlib.Core.Bool.{Bool, false}
 use mathlib.Core.List.{List, [], _∷_}
-use lib.Dec.{leb}
-use lib.ListN.{getD}
+use lib.Dec.{leb, ltb}
+use lib.ListN.{length, getD}
 use Rattle.base.specs.Choice.{pick}
 
 -- an octet of 21-7E
@@ -25,3 +25,7 @@ abbrev pub eightAt : List ℕ → ℕ → List ℕ
 eightAt s at =
     getD s at 0 ∷ getD s (at + 1) 0 ∷ getD s (at + 2) 0 ∷ getD s (at + 3) 0 ∷ getD s (at + 4) 0 ∷ getD s (at + 5) 0 ∷ getD s (at + 6) 0
     ∷ getD s (at + 7) 0 ∷ []
+
+-- how many of them are of 21-7E, up to the first that is not; none where eight are not left
+unfoldable pub leadingOf : List ℕ → ℕ → ℕ
+leadingOf s at = pick (ltb (length s) at) 0 (pick (ltb (length s - at) 8) 0 (ledOf 8 (wordOf (eightAt s at))))

@@ -15,8 +15,8 @@ told-spec =
     (search arith)
     (search arith)
     (λ c. let start = c .before .before .before .before in
-    after (told-by _ (start .args .c) (start .args .d) _ _ (omega arith) (omega arith) (c .before .before .before .either .ensures) (c .before .before .either2 .ensures))
-    (search ladder depth 9))
+    after (told-by _ (start .args .c) (start .args .d) _ _ (omega arith) (omega arith) (c .before .before .before .either .ensures)
+    (c .before .before .either2 .ensures)) (search ladder depth 9))
     (search arith)
     (λ c. let start = c .before .before .before .before .before in
     after (told-by _ (start .args .c) (start .args .d) _ _ (omega arith) (omega arith) (c .before .before .before .before .either .ensures)

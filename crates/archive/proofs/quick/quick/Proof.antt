@@ -28,9 +28,13 @@ after-stretch c =
 
 -- what is told after it is a designation, where it names a set, and its form is known
 after-told : (c : tie.After-told Inv-loop μ-loop) → c .told .result .set < no-set
-    → let at = c .before .before .before .before .before .before .before .before in let i = at .before .before .loop .i + at .stretch-by .result .octets in let s = now (at .before .before .before .before .before .before .before .before .before .args .s) in
+    → let turn = c .before .before .before .before .before .before .before .before in
+    let s = now (turn .before .before .before .before .before .before .before .before .before .args .s) in
+    let i = turn .before .before .loop .i + turn .stretch-by .result .octets in
     (c .told .result ≡ designationAt (from i s)) × (formOf (c .told .result .set) ≡ formAfter (getD s (i + 1) 0))
-after-told c h = told-at _ _ _ (c .before .before .before .before .before .escape-at .ensures (c .before .before .before .before .if1 .taken)) (c .told .ensures) h
+after-told c h =
+    let escape = c .before .before .before .before .before .escape-at .ensures (c .before .before .before .before .if1 .taken) in
+    told-at _ _ _ escape (c .told .ensures) h
 
 pub quick-spec : {M : Type 1} → statement M
 unfolding put
@@ -80,10 +84,11 @@ quick-spec =
     (λ c. let told = c .before .before .before .before .before .before in
     let named = c .before .before .before .before .before .if2 .left in
     let is = after-told told named in
-    let turn = told .before .before .before .before .before .before .before .before .before .before .loop in (
-      reaches-told _ _ _ _ _ _ (after-stretch (told .before .before .before .before .before .before .before .before)) _ (is .0) named GL (c .before .before .enum-told .given .1),
+    let at-stretch = told .before .before .before .before .before .before .before .before in
+    let inv = at-stretch .before .before .loop .inv in (
+      reaches-told _ _ _ _ _ _ (after-stretch at-stretch) _ (is .0) named GL (c .before .before .enum-told .given .1),
       c .left-of2 .ensures ∙ ap leftOf (c .before .form-after .ensures ∙ sym (is .1)),
-      turn .inv .2,
+      inv .2,
     ))
     (search arith)
     (λ c κs. tt)
@@ -94,14 +99,16 @@ quick-spec =
     (λ c. let told = c .before .before .before .before .before .before in
     let named = c .before .before .before .before .before .if2 .left in
     let is = after-told told named in
-    let turn = told .before .before .before .before .before .before .before .before .before .before .loop in (
-      reaches-told _ _ _ _ _ _ (after-stretch (told .before .before .before .before .before .before .before .before)) _ (is .0) named GR (c .before .before .enum-told2 .given .1),
-      turn .inv .1,
+    let at-stretch = told .before .before .before .before .before .before .before .before in
+    let inv = at-stretch .before .before .loop .inv in (
+      reaches-told _ _ _ _ _ _ (after-stretch at-stretch) _ (is .0) named GR (c .before .before .enum-told2 .given .1),
+      inv .1,
       c .right-of2 .ensures ∙ ap rightOf (c .before .form-after2 .ensures ∙ sym (is .1)),
     ))
     (λ c κs. tt)
     (λ c. rw (c .reached2 .ensures) (after-stretch (c .before .before .before .before .before .before .before)))
     (λ c. omega (arith, c .if3 .left, c .before .before .before .before .before .before .stretch-by .ensures .within))
-    (λ c. let turn = c .before .before .before .before .before .before .before .before .loop in (after-stretch (c .before .before .before .before .before .before), turn .inv .1, turn .inv .2))
+    (λ c. let turn = c .before .before .before .before .before .before .before .before .loop in
+    (after-stretch (c .before .before .before .before .before .before), turn .inv .1, turn .inv .2))
     (λ c κs. tt)
     (λ c. rw (c .reached3 .ensures) (c .before .before .loop .inv .0)))

@@ -1,5 +1,5 @@
 -- `archive::stretches::twos` meets its contract: of the octets that blocks have passed, as many as are pairs.
-use Rattle.element.proofs.Names.{arith, refl}
+use Rattle.element.proofs.Names.{arith}
 use Rattle.octet_blocks.proofs.Counted.{within-less}
 use Rattle.archive.proofs.stretches.twos.Statement.{statement}
 use Rattle.archive.proofs.stretches.twos.Tie as tie
@@ -9,6 +9,6 @@ twos-spec =
     tie.close
     (tie.spec
     (λ c κs. tt)
-    (λ c. c .blocks-end .ensures .0 (c .before .before .pre) .since)
-    (λ c. omega (arith, c .blocks-end .ensures .0 (c .before .before .pre) .within))
-    (λ c. let w = c .blocks-end .ensures .0 (c .before .before .pre) in (within-less _ _ _ _ _ _ (omega arith) (omega (arith, w .since)) w, refl)))
+    (λ c κs. c .blocks-end .ensures .0 (c .before .before .pre) .since)
+    (λ c. let w = c .before .blocks-end .ensures .0 (c .before .before .before .pre) in
+    let p = c .pairs-to .ensures in (within-less _ _ _ _ _ _ (omega arith) (omega (arith, p .0, p .1, w .since)) w, p .0)))

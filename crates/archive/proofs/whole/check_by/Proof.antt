@@ -189,4 +189,5 @@ check-by-spec =
     loop-less-3
     loop-again-3
     (search arith)
-    (λ c. on-ge _ _ _ _ _ (c .before .before .before .if1 .left) (c .accepted3 .ensures ∙ turn-done _ _ _ _ (c .before .before .loop .inv) (c .before .loop-test .left))))
+    (λ c. on-ge _ _ _ _ _ (c .before .before .before .if1 .left)
+    (c .accepted3 .ensures ∙ turn-done _ _ _ _ (c .before .before .loop .inv) (c .before .loop-test .left))))

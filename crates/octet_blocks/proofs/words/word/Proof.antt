@@ -1,8 +1,8 @@
--- `archive::words::word` meets its contract: each octet is below 256, so nothing is lost.
-use Rattle.element.proofs.Names.{arith}
+-- `octet_blocks::words::word` meets its contract: each octet is below 256, so nothing is lost.
+use native.Mathlib.Omega.{arith}
 use Rattle.octet_blocks.specs.Words.{wordOf}
-use Rattle.archive.proofs.words.word.Statement.{statement}
-use Rattle.archive.proofs.words.word.Tie as tie
+use Rattle.octet_blocks.proofs.words.word.Statement.{statement}
+use Rattle.octet_blocks.proofs.words.word.Tie as tie
 
 pub word-spec : {M : Type 1} → statement M
 unfolding wordOf
