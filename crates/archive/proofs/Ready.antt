@@ -34,7 +34,7 @@ use Rattle.archive.specs.Passes.{Classed}
 use Rattle.archive.specs.Turns.{rowed, cursorIn, movedBy, turnOf, Ready, ifCharacter, setBy, oneRecord}
 use Rattle.archive.specs.declared.turns.RowCursor.{RowCursor}
 use Rattle.archive.specs.declared.turns.RowTurn.{RowTurn}
-use Rattle.archive.proofs.Passes.{number-is}
+use Rattle.archive.proofs.Passes.{number-is, sequence-at}
 
 -- ---- what an octet gives, under directions that refuse nothing
 
@@ -251,16 +251,12 @@ module _ (s : List ℕ) (c : RowCursor) (ready : Ready s c) where
     -- by what the three octets after 1B tell
     module _ (i : getD s at 0 ≡ 0x1B) (d : Designation)
         (e : d ≡ toldOf (getD s (at + 1) 0) (getD s (at + 1 + 1) 0) (getD s (at + 1 + 1 + 1) 0)) where
-      at-escape : (r : Designation) → r ≡ sequenceOf (getD s (at + 1) 0) (getD s (at + 1 + 1) 0) (getD s (at + 1 + 1 + 1) 0)
-          → r ≡ designationAt (from at s)
-      at-escape r q = on-four s at r inside h (on-eq _ _ _ _ _ i q)
-
       pub none-told : no-set ≤ d .set → c ≡ rowed (passedOf s k)
-      none-told q = none-is _ (at-escape _ refl) (told-none _ _ _ d e q)
+      none-told q = none-is _ (sequence-at s at _ h i refl) (told-none _ _ _ d e q)
 
       module _ (named : d .set < no-set) where
         told-at : d ≡ designationAt (from at s)
-        told-at = at-escape d (told-set _ _ _ d e named)
+        told-at = sequence-at s at d h i (told-set _ _ _ d e named)
 
         pub told-fits : at + d .octets ≤ length s
         told-fits = placed-fits s at d told-at named

@@ -36,6 +36,17 @@ after-told c h =
     let escape = c .before .before .before .before .before .escape-at .ensures (c .before .before .before .before .if1 .taken) in
     told-at _ _ _ escape (c .told .ensures) h
 
+-- so it leads on, under the sets that it leaves
+after-designation : (c : tie.After-told Inv-loop μ-loop) → c .told .result .set < no-set → (d : Side) → c .told .result .side ≡ d
+    → let at-stretch = c .before .before .before .before .before .before .before .before in
+    let start = at-stretch .before .before .before .before .before .before .before .before .before in
+    let turn = at-stretch .before .before .loop in
+    Reaches (now (start .args .s)) (start .args .at) (sets (start .args .gl) (start .args .gr))
+    (turn .i + at-stretch .stretch-by .result .octets + c .told .result .octets) (put (on d (c .told .result .set)) (sets (turn .left) (turn .right)))
+    (turn .n + at-stretch .stretch-by .result .units)
+after-designation c h d e =
+    reaches-told _ _ _ _ _ _ (after-stretch (c .before .before .before .before .before .before .before .before)) _ (after-told c h .0) h d e
+
 pub quick-spec : {M : Type 1} → statement M
 unfolding put
 quick-spec =
@@ -83,11 +94,9 @@ quick-spec =
     let some = designation-some _ _ _ (after-told told named .0) named in omega (arith, some .0, some .1))
     (λ c. let told = c .before .before .before .before .before .before in
     let named = c .before .before .before .before .before .if2 .left in
-    let is = after-told told named in
-    let at-stretch = told .before .before .before .before .before .before .before .before in
-    let inv = at-stretch .before .before .loop .inv in (
-      reaches-told _ _ _ _ _ _ (after-stretch at-stretch) _ (is .0) named GL (c .before .before .enum-told .given .1),
-      c .left-of2 .ensures ∙ ap leftOf (c .before .form-after .ensures ∙ sym (is .1)),
+    let inv = told .before .before .before .before .before .before .before .before .before .before .loop .inv in (
+      after-designation told named GL (c .before .before .enum-told .given .1),
+      c .left-of2 .ensures ∙ ap leftOf (c .before .form-after .ensures ∙ sym (after-told told named .1)),
       inv .2,
     ))
     (search arith)
@@ -98,12 +107,10 @@ quick-spec =
     let some = designation-some _ _ _ (after-told told named .0) named in omega (arith, some .0, some .1))
     (λ c. let told = c .before .before .before .before .before .before in
     let named = c .before .before .before .before .before .if2 .left in
-    let is = after-told told named in
-    let at-stretch = told .before .before .before .before .before .before .before .before in
-    let inv = at-stretch .before .before .loop .inv in (
-      reaches-told _ _ _ _ _ _ (after-stretch at-stretch) _ (is .0) named GR (c .before .before .enum-told2 .given .1),
+    let inv = told .before .before .before .before .before .before .before .before .before .before .loop .inv in (
+      after-designation told named GR (c .before .before .enum-told2 .given .1),
       inv .1,
-      c .right-of2 .ensures ∙ ap rightOf (c .before .form-after2 .ensures ∙ sym (is .1)),
+      c .right-of2 .ensures ∙ ap rightOf (c .before .form-after2 .ensures ∙ sym (after-told told named .1)),
     ))
     (λ c κs. tt)
     (λ c. rw (c .reached2 .ensures) (after-stretch (c .before .before .before .before .before .before .before)))
