@@ -50,7 +50,7 @@ impl Answer {
 }
 
 // A unit: kind, set and code, 0 where they mean nothing; start and length name its octets in the string, and of an extended segment
-// its n octets.
+// its n octets; the direction in force after it, and how many directions are then open.
 #[repr(C)]
 pub struct Unit {
     pub kind: u8,
@@ -58,6 +58,8 @@ pub struct Unit {
     pub code: u16,
     pub start: u32,
     pub length: u32,
+    pub direction: u16,
+    pub depth: u16,
 }
 
 impl Unit {
@@ -68,5 +70,7 @@ impl Unit {
         code: 0,
         start: 0,
         length: 0,
+        direction: 0,
+        depth: 0,
     };
 }

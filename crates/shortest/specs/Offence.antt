@@ -32,7 +32,7 @@ directionsAfter o (r ∷ rs) d = directionsAfter o rs (stepTo (fault (unitRead o
 
 -- what stands past a list's end
 abbrev pub noRecord : UnitRecord
-noRecord = record { kind = 0; set = 0; code = 0; start = 0; length = 0 }
+noRecord = record { kind = 0; set = 0; code = 0; start = 0; length = 0; direction = 0; depth = 0 }
 
 -- what record i does after those before it
 unfoldable pub faultAt : List ℕ → List UnitRecord → Directions → ℕ → Step

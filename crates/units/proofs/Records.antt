@@ -2,7 +2,8 @@
 -- fields that mean nothing are 0 (`records-meant`); and there are as many as an accepted string's answer counts (`records-count`). Each
 -- goes by induction on the elements of the string.
 use Rattle.element.proofs.Names.{clash, test, ℕ, _+_, _≤_, arith, _≡_, refl, ap, true, List, some, ltb, length, drop, lt-ltb, le-ltb, le-leb, ne-eqb}
-use Rattle.element.proofs.Names.{pick, State, Part}
+use Rattle.element.proofs.Names.{pick, State, Directions, Part}
+use Rattle.state.specs.Directions.{inForceOf}
 use lib.Seq.{drop-drop}
 use Rattle.base.specs.Kind as kind
 use Rattle.base.specs.Limit as limit
@@ -17,18 +18,19 @@ use Rattle.units.specs.Next.{outcomeOf, nextOf}
 -- ---- their reading
 
 -- the part of the unit lies in the string
-readable-by : (s : List ℕ) (k set code start n : ℕ) → Meant k set code → start + n ≤ length s
-    → readable s (record { kind = k; set = set; code = code; start = start; length = n }) ≡ true
+readable-by : (s : List ℕ) (k set code start n direction depth : ℕ) → Meant k set code → start + n ≤ length s
+    → readable s (record { kind = k; set = set; code = code; start = start; length = n; direction = direction; depth = depth }) ≡ true
 unfolding readable
-readable-by s k set code start n with-set h = refl
-readable-by s k set code start n (with-none f) h =
+readable-by s k set code start n _ _ with-set h = refl
+readable-by s k set code start n _ _ (with-none f) h =
     rw (ne-eqb k kind.segment (λ (e : k ≡ kind.segment). omega (arith, f, e)), lt-ltb k kind.segment f)
-readable-by s k set code start n with-code h = le-leb (start + n) (length s) h
+readable-by s k set code start n _ _ with-code h = le-leb (start + n) (length s) h
 
-unit-read : (s : List ℕ) (at : ℕ) (p : Part) → at + size p ≤ length s → MeantPart p → unitRead s (recordOf p at) ≡ some (unitAt p (drop at s))
+unit-read : (s : List ℕ) (at : ℕ) (p : Part) (d : Directions) → at + size p ≤ length s → MeantPart p
+    → unitRead s (recordOf p at d) ≡ some (unitAt p (drop at s))
 unfolding unitRead unitAt
-unit-read s at p h m =
-    rw (readable-by s (p .kind) (p .set) (p .code) (at + p .skip) (p .octets) m (omega (arith, h)), drop-drop (p .skip) at s)
+unit-read s at p d h m =
+    rw (readable-by s (p .kind) (p .set) (p .code) (at + p .skip) (p .octets) (inForceOf d) (d .depth) m (omega (arith, h)), drop-drop (p .skip) at s)
 
 reads-from : (s : List ℕ) {at : ℕ} {st : State} {es : Elements} → Ahead s at st es
     → listReading s (recordsFrom es) ≡ some (unitsOf (drop at s) es)
@@ -36,7 +38,7 @@ unfolding listReading recordsFrom unitsOf
 reads-from s (ends e) = refl
 reads-from s (stops f e) = refl
 reads-from s {at} (passes {k = k} t e a) = rw (drop-drop k at s) (reads-from s a)
-reads-from s {at} (reads {p = p} t m e a) = rw (unit-read s at p (t .fits) m, drop-drop (size p) at s, reads-from s a)
+reads-from s {at} (reads {p = p} {next = next} t m e a) = rw (unit-read s at p (next .directions) (t .fits) m, drop-drop (size p) at s, reads-from s a)
 
 -- a string reads as its own records (rule U4)
 pub records-read : (s : List ℕ) → listReading s (recordsOf s) ≡ some (readingOf s)
@@ -50,7 +52,7 @@ unfolding recordsFrom
 meant-from s (ends e) = none-left
 meant-from s (stops f e) = none-left
 meant-from s (passes t e a) = meant-from s a
-meant-from s {at} (reads {p = p} t m e a) = one-more {r = recordOf p at} m (meant-from s a)
+meant-from s {at} (reads {p = p} {next = next} t m e a) = one-more {r = recordOf p at (next .directions)} m (meant-from s a)
 
 -- each has 0 for what its kind does not use (rule U1)
 pub records-meant : (s : List ℕ) → AllMeant (recordsOf s)

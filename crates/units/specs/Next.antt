@@ -17,7 +17,7 @@ unfoldable pub outcomeOf : State → Elements → Outcome
 outcomeOf st (end-at at) = Stops refusal.accepted at at st
 outcomeOf st (refused-at at n o) = Stops n (at + o) at st
 outcomeOf st (silent-at at k next es) = outcomeOf next es
-outcomeOf st (found-at at p next es) = Gives (recordOf p at) (at + size p) next
+outcomeOf st (found-at at p next es) = Gives (recordOf p at (next .directions)) (at + size p) next
 
 -- the same from a place of a string on; of a string over the limit 1 comes first, and nothing is read (rule U8)
 unfoldable pub nextOf : List ℕ → ℕ → State → Outcome

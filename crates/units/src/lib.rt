@@ -7,6 +7,7 @@ use base::Unit;
 use base::limit;
 use base::refusal;
 use state::State;
+use state::directions::Directions;
 use state::elements::Element;
 use state::elements::Part;
 
@@ -18,10 +19,10 @@ pub enum Outcome {
     Stops(u8, usize, usize, State),
 }
 
-// The record of a unit whose element starts at a place.
-fn record(part: Part, at: usize) -> Unit
+// The record of a unit whose element starts at a place, under the directions after it.
+fn record(part: Part, at: usize, directions: Directions) -> Unit
     requires { ⌜ at + (part .skip + part .octets) ≤ 65535 ⌝ }
-    ensures { λ r. ⌜ r ≡ recordOf part at ⌝ }
+    ensures { λ r. ⌜ r ≡ recordOf part at directions ⌝ }
 {
     let start = at + part.skip;
     Unit {
@@ -30,6 +31,8 @@ fn record(part: Part, at: usize) -> Unit
         code: part.code,
         start: start as u32,
         length: part.octets as u32,
+        direction: directions.in_force() as u16,
+        depth: directions.depth as u16,
     }
 }
 
@@ -57,7 +60,8 @@ pub fn next_unit(s: &[u8], place: usize, state: State) -> Outcome
                 st = next;
             }
             Element::Found(part, next) => {
-                let unit = record(part, at);
+                let open = next.directions;
+                let unit = record(part, at, open);
                 let octets = part.skip + part.octets;
                 let after = at + octets;
                 return Outcome::Gives(unit, after, next);

@@ -35,9 +35,9 @@ next-unit-spec =
     (λ c. let h = step-passed _ _ _ _ (c .before .before .before .element .ensures) silent (c .before .e2 .given .1) in omega arith)
     (λ c. search (after, gives-silent) depth 6)
     (search arith)
-    (λ c κs. let h = step-passed _ _ _ _ (c .before .before .before .element .ensures) found (c .before .e3 .given .1) in omega arith)
-    (λ c. let h = step-passed _ _ _ _ (c .before .before .before .before .before .element .ensures) found
-    (c .before .before .before .e3 .given .1) in omega arith)
-    (λ c. let h = step-passed _ _ _ _ (c .before .before .before .before .before .element .ensures) found
-    (c .before .before .before .e3 .given .1) in omega arith)
+    (λ c κs. let h = step-passed _ _ _ _ (c .before .before .before .before .element .ensures) found (c .before .before .e3 .given .1) in omega arith)
+    (λ c. let h = step-passed _ _ _ _ (c .before .before .before .before .before .before .element .ensures) found
+    (c .before .before .before .before .e3 .given .1) in omega arith)
+    (λ c. let h = step-passed _ _ _ _ (c .before .before .before .before .before .before .element .ensures) found
+    (c .before .before .before .before .e3 .given .1) in omega arith)
     (λ c. search (on-ge, after, gives-found) depth 6))
