@@ -6,6 +6,7 @@ use Rattle.element.proofs.Names.{no-set, first-double}
 use Rattle.element.proofs.Names.{Side, GL, GR, part, next, writtenOf, stepOf, get, State, Sets, Step, Part, Element, Refused, Found, Shape, Refuses, Gives}
 use Rattle.base.specs.Kind as kind
 use Rattle.charset.proofs.Laws.{narrow-form, wide-form}
+use Rattle.state.specs.Directions.{inForceOf}
 use Rattle.text.specs.Text.{secondOctetOf}
 use Rattle.element.specs.Element.{shapeOf, steppedOf, directedOf, elementOf}
 use Rattle.element.specs.Start.{Start, begunBy}
@@ -112,7 +113,17 @@ module _ (s : Sets) (b set : ℕ) (text : textOctet b ≡ true) (here : set ≡ 
 -- the turn of text
 abbrev pub textAt : ℕ → State → ℕ → ℕ → ℕ → ℕ → Turn
 textAt at st k set code octets =
-    turn (record { kind = k; set = set; code = code; start = at % 2 ^ 32; length = octets }) (cursor (at + octets) st)
+    turn
+    (record {
+      kind = k;
+      set = set;
+      code = code;
+      start = at % 2 ^ 32;
+      length = octets;
+      direction = inForceOf (st .directions);
+      depth = st .directions .depth;
+    })
+    (cursor (at + octets) st)
 
 -- the element at the start of octets under a state, and the turn that is taken for its at a cursor with a state of the same sets: that of
 -- text, or the other

@@ -2,11 +2,11 @@
 -- theirs. An element that is not refused is the same under such a state (`next-ahead`, `by-element`); what is taken for text is the element
 -- or is left to it (`text-turns`); and a designation that is passed is the element (`passed-on`).
 use Rattle.element.proofs.Names.{ℕ, _+_, _%_, _^_, _≤_, _<_, arith, _≡_, refl, ap, sym, _∙_, subst, Bool, true, false, List, [], _∷_, eqb, ltb}
-use Rattle.element.proofs.Names.{length, le-ltb, ltb-true, pick, from, UnitRecord, no-set, designatedOf, State, Directions, Part, Element, End, Refused}
+use Rattle.element.proofs.Names.{length, le-ltb, ltb-true, pick, from, UnitRecord, no-set, designatedOf, State, Part, Element, End, Refused}
 use Rattle.element.proofs.Names.{Silent, Found}
 use native.Mathlib.Nat.{mod-eq-of-lt}
 use Rattle.base.specs.Limit as limit
-use Rattle.state.specs.State.{state}
+use Rattle.state.specs.Directions.{inForceOf}
 use Rattle.element.specs.Element.{elementOf}
 use Rattle.element.proofs.Sizes.{silent as is-silent, found as is-found}
 use Rattle.grammar.specs.Reading.{Elements, size}
@@ -18,7 +18,7 @@ use Rattle.units.specs.Records.{recordOf, recordsFrom}
 use Rattle.units.specs.Next.{outcomeOf, nextOf}
 use Rattle.units.specs.declared.Outcome.{Outcome}
 use Rattle.units.specs.declared.Outcome.the-variants.{Gives}
-use Rattle.cursor.specs.Cursor.{freed, cursor, turn, outcomeTurn, elementTurn, placedOf, passedOf, textTurn, advanceAt, advanceOf}
+use Rattle.cursor.specs.Cursor.{flagged, kept, cursor, turn, outcomeTurn, elementTurn, placedOf, passedOf, textTurn, advanceAt, advanceOf}
 use Rattle.cursor.specs.declared.Cursor.{Cursor}
 use Rattle.cursor.specs.declared.Turn.{Turn}
 use Rattle.cursor.proofs.Free.{Like, like, texted, like-texted, same-sets, Same, silent as same-silent, found as same-found, same-element}
@@ -30,28 +30,28 @@ pub data Turns : Turn → Outcome → Type 0 where
 
 -- ---- any element
 
-silent-is : {k : ℕ} {next : State} {e : Element} → Same (Silent k next) e → e ≡ Silent k (freed (next .sets))
+silent-is : {k : ℕ} {next : State} {e : Element} → Same (Silent k next) e → e ≡ Silent k (kept next)
 silent-is same-silent = refl
 
-found-is : {p : Part} {next : State} {e : Element} → Same (Found p next) e → (d : Directions) × (e ≡ Found p (state (next .sets) d))
-found-is (same-found {d = d}) = (d, refl)
+found-is : {p : Part} {next : State} {e : Element} → Same (Found p next) e → (m : Bool) × (t : Bool) × (e ≡ Found p (flagged m t next))
+found-is (same-found {marked = m} {texted = t}) = (m, t, refl)
 
--- an outcome that gives a unit, and the same by other directions
+-- an outcome that gives a unit, and the same with other flags
 pub data Alike : Outcome → Outcome → Type 0 where
-  alike : {u : UnitRecord} {place : ℕ} {st : State} {d : Directions} → Alike (Gives u place (state (st .sets) d)) (Gives u place st)
+  alike : {u : UnitRecord} {place : ℕ} {st : State} {marked texted : Bool} → Alike (Gives u place (flagged marked texted st)) (Gives u place st)
 
 module _ (s : List ℕ) where
   same-next : {at : ℕ} {st to : State} {es : Elements} → Ahead s at st es → Like st to → 1 ≤ length (recordsFrom es)
       → Alike (outcomeOf to (ahead s at to)) (outcomeOf st es)
-  unfolding recordsFrom outcomeOf
+  unfolding recordsFrom outcomeOf inForceOf
   same-next (ends e) l h = absurd (omega arith)
   same-next (stops f e) l h = absurd (omega arith)
   same-next {at} {st} (passes t e a) like h =
       let i = silent-is (rw (t .is) at (same-element (from at s) st)) in
-      rw (at-passed s at (freed (st .sets)) _ refl is-silent i) (same-next a like h)
+      rw (at-passed s at (kept st) _ refl is-silent i) (same-next a like h)
   same-next {at} {st} (reads t m e a) like h =
       let i = found-is (rw (t .is) at (same-element (from at s) st)) in
-      rw (at-passed s at (freed (st .sets)) _ refl is-found (i .1)) alike
+      rw (at-passed s at (kept st) _ refl is-found (i .2)) (alike {marked = i .0} {texted = i .1})
 
 turned : {o given : Outcome} (c : Cursor) → Alike o given → Turns (outcomeTurn c o) given
 unfolding outcomeTurn
@@ -67,7 +67,7 @@ module _ (s : List ℕ) (short : length s ≤ limit.octets) where
   pub by-element : {at : ℕ} {st to : State} {es : Elements} → Ahead s at st es → Like st to → 1 ≤ length (recordsFrom es)
       → Turns (elementTurn s (cursor at to)) (outcomeOf st es)
   unfolding elementTurn
-  by-element {at} {st} a like h = turned (cursor at (freed (st .sets))) (next-ahead a like h)
+  by-element {at} {st} a like h = turned (cursor at st) (next-ahead a like h)
 
   -- ---- text
 
@@ -84,18 +84,25 @@ module _ (s : List ℕ) (short : length s ≤ limit.octets) where
       let z : _≡_ {A = ℕ} 0 1 = cc in
       omega arith
 
+  -- text keeps the directions
+  of-text : (at : ℕ) {st to : State} (p : Part) → Like st to
+      → Turns (turn (recordOf p at (to .directions)) (cursor (at + size p) to)) (Gives (recordOf p at (texted st .directions)) (at + size p) (texted st))
+  unfolding inForceOf
+  of-text at p like = turns like
+
   found-by : {at : ℕ} {st to : State} {same : st .sets ≡ to .sets} {p : Part} {next : State} {r other : Turn} → at < 2 ^ 32 → Like st to
-      → Quick at st to same other (Found p next) r → Turns other (Gives (recordOf p at) (at + size p) next)
-      → Turns r (Gives (recordOf p at) (at + size p) next)
+      → Quick at st to same other (Found p next) r → Turns other (Gives (recordOf p at (next .directions)) (at + size p) next)
+      → Turns r (Gives (recordOf p at (next .directions)) (at + size p) next)
   found-by h l as-other e = e
   found-by {at} {st} {to} {p = p} {next} h l (as-text k set code octets o) e =
       let m : at % 2 ^ 32 ≡ at + 0 = mod-eq-of-lt h ∙ (let z : at ≡ at + 0 = omega arith in z) in
       let n : at + octets ≡ at + (0 + octets) = omega arith in
-      let a : textAt at to k set code octets ≡ turn (recordOf (textPart k set code octets) at) (cursor (at + size (textPart k set code octets)) to) =
-      rw (m, n) in
-      let b = a ∙ ap (λ (q : Part). turn (recordOf q at) (cursor (at + size q) to)) (same-part o .0) in
-      let g : Like next to = subst (λ (x : State). Like x to) (same-part o .1) (like-texted l) in
-      subst (λ (x : Turn). Turns x (Gives (recordOf p at) (at + size p) next)) (sym b) (turns g)
+      let q : Part = textPart k set code octets in
+      let a : textAt at to k set code octets ≡ turn (recordOf q at (to .directions)) (cursor (at + size q) to) = rw (m, n) in
+      rw a (subst (λ (x : Part). Turns (turn (recordOf q at (to .directions)) (cursor (at + size q) to)) (Gives (recordOf x at (next .directions)) (at + size x) next))
+      (same-part o .0)
+      (subst (λ (x : State). Turns (turn (recordOf q at (to .directions)) (cursor (at + size q) to)) (Gives (recordOf q at (x .directions)) (at + size q) x))
+      (same-part o .1) (of-text at q l)))
 
   silent-by : {at : ℕ} {st to : State} {same : st .sets ≡ to .sets} {e : Element} {k : ℕ} {next : State} {r other : Turn} → e ≡ Silent k next
       → Quick at st to same other e r → r ≡ other
@@ -105,7 +112,7 @@ module _ (s : List ℕ) (short : length s ≤ limit.octets) where
   quick : (at : ℕ) {st to : State} (l : Like st to)
       → Quick at st to (same-sets l) (elementTurn s (cursor at to)) (elementOf (from at s) st) (textTurn s (cursor at to))
   unfolding textTurn
-  quick at {st} like = quick-turn at st (freed (st .sets)) (same-sets like) (elementTurn s (cursor at (freed (st .sets)))) (from at s)
+  quick at {st} like = quick-turn at st (kept st) (same-sets like) (elementTurn s (cursor at st)) (from at s)
 
   text-turns : {at : ℕ} {st to : State} {es : Elements} → Ahead s at st es → Like st to → 1 ≤ length (recordsFrom es)
       → Turns (textTurn s (cursor at to)) (outcomeOf st es)

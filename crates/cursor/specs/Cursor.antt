@@ -7,11 +7,10 @@ use lib.Dec.{eqb, leb, ltb}
 use Rattle.base.specs.Choice.{pick, from}
 use Rattle.base.specs.Kind as kind
 use Rattle.base.specs.declared.Unit.{Unit as UnitRecord}
-use Rattle.state.specs.Directions.{directions}
+use Rattle.state.specs.Directions.{directions, inForceOf}
 use Rattle.state.specs.State.{sets, state, fresh, designatedOf}
 use Rattle.state.specs.declared.Sets.{Sets}
 use Rattle.state.specs.declared.State.{State}
-use Rattle.state.specs.declared.directions.Directions.{Directions}
 use Rattle.designations.specs.Designation.{designationAt}
 use Rattle.designations.specs.declared.Designation.{Designation}
 use Rattle.charset.specs.Charsets.{no-set, first-double}
@@ -22,19 +21,21 @@ use Rattle.units.specs.declared.Outcome.the-variants.{Gives, Stops}
 use Rattle.cursor.specs.declared.Cursor.{Cursor}
 use Rattle.cursor.specs.declared.Turn.{Turn}
 
--- directions that refuse nothing: one is open, and more may be opened
-abbrev pub free : Directions
-free = directions 1 0 true true
+-- a state with its sets and its open directions, and other flags: whether a mark was read, and whether text
+abbrev pub flagged : Bool → Bool → State → State
+flagged marked texted st = state (st .sets) (directions (st .directions .depth) (st .directions .levels) marked texted)
 
-abbrev pub freed : Sets → State
-freed s = state s free
+-- as if neither had been read: nothing is refused that is accepted with the flags of the state itself
+abbrev pub kept : State → State
+kept st = flagged false false st
 
--- a cursor keeps the sets of a state
+-- a cursor keeps the sets and the open directions of a state
 abbrev pub cursor : ℕ → State → Cursor
-cursor place st = record { place = place; gl = st .sets .gl; gr = st .sets .gr }
+cursor place st =
+    record { place = place; levels = st .directions .levels; gl = st .sets .gl; gr = st .sets .gr; depth = st .directions .depth }
 
 abbrev pub stateIn : Cursor → State
-stateIn c = freed (sets (c .gl) (c .gr))
+stateIn c = state (sets (c .gl) (c .gr)) (directions (c .depth) (c .levels) false false)
 
 -- the start of a string
 abbrev pub first : Cursor
@@ -80,20 +81,37 @@ kindAt b = pick (ltb 0x20 b) kind.character (b % 8 + 1)
 unfoldable pub ifGraphic : ℕ → ℕ → ℕ
 ifGraphic b x = pick (leb b 0x20) 0 x
 
--- the record of a unit of one octet, and that of a character of two
-abbrev pub oneOf : ℕ → ℕ → ℕ → UnitRecord
-oneOf at b set =
-    record { kind = kindAt b; set = ifGraphic b set; code = ifGraphic b (b % 128); start = at % 2 ^ 32; length = 1 }
+-- the record of a unit of one octet, and that of a character of two, under a direction in force and a depth
+abbrev pub oneOf : ℕ → ℕ → ℕ → ℕ → ℕ → UnitRecord
+oneOf at b set direction depth =
+    record {
+      kind = kindAt b;
+      set = ifGraphic b set;
+      code = ifGraphic b (b % 128);
+      start = at % 2 ^ 32;
+      length = 1;
+      direction = direction;
+      depth = depth;
+    }
 
-abbrev pub twoOf : ℕ → ℕ → ℕ → ℕ → UnitRecord
-twoOf at b d set =
-    record { kind = kind.character; set = set; code = b % 128 * 256 + d % 128; start = at % 2 ^ 32; length = 2 }
+abbrev pub twoOf : ℕ → ℕ → ℕ → ℕ → ℕ → ℕ → UnitRecord
+twoOf at b d set direction depth =
+    record {
+      kind = kind.character;
+      set = set;
+      code = b % 128 * 256 + d % 128;
+      start = at % 2 ^ 32;
+      length = 2;
+      direction = direction;
+      depth = depth;
+    }
 
+-- text keeps the directions of the state
 abbrev pub single : ℕ → ℕ → ℕ → State → Turn
-single at b set st = turn (oneOf at b set) (cursor (at + 1) st)
+single at b set st = turn (oneOf at b set (inForceOf (st .directions)) (st .directions .depth)) (cursor (at + 1) st)
 
 abbrev pub double : ℕ → ℕ → ℕ → ℕ → State → Turn
-double at b d set st = turn (twoOf at b d set) (cursor (at + 2) st)
+double at b d set st = turn (twoOf at b d set (inForceOf (st .directions)) (st .directions .depth)) (cursor (at + 2) st)
 
 -- the octets t after b, where the set on its side has two octets
 unfoldable pub doubleOf : ℕ → ℕ → List ℕ → ℕ → State → Turn → Turn

@@ -1,11 +1,12 @@
-// The unit at a cursor of an accepted string. Since nothing of it can be refused, text is read by its octets alone, and no directions are
-// kept: a cursor that held a whole state would be copied through memory at each step, and reads notes at half the speed (docs/SPEED.md).
+// The unit at a cursor of an accepted string. Since nothing of it can be refused, text is read by its octets alone, and of the state a cursor
+// keeps the sets and the open directions, as plain numbers: one that held a whole state would be copied through memory at each step (docs/SPEED.md).
 ghost use mathlib.Core.Path.{_≡_};
 ghost use Prim.Native.Nat.{_+_, _<_, _^_};
 ghost use lib.ListN.{length};
 ghost use Rattle.base.specs.Choice.{from};
-ghost use Rattle.cursor.specs.Cursor.{freed, first, stateIn, elementTurn, textOctet, setAt, single, double, doubleOf, textTurn, placedOf, passedOf};
+ghost use Rattle.cursor.specs.Cursor.{cursor, first, stateIn, elementTurn, textOctet, setAt, single, double, doubleOf, textTurn, placedOf, passedOf};
 ghost use Rattle.cursor.specs.Cursor.{advanceOf};
+ghost use Rattle.state.specs.Directions.{inForceOf};
 ghost use Rattle.state.specs.State.{sets};
 ghost use Rattle.designations.specs.Designation.{designationAt};
 use crate::octets::one_octet;
@@ -22,19 +23,13 @@ use units::Outcome;
 
 pub mod octets;
 
-// Directions under which nothing is refused: one is open, and more may be opened.
-const FREE: Directions = Directions {
-    levels: 0,
-    depth: 1,
-    marked: true,
-    texted: true,
-};
-
-// Where the next unit is looked for: a place of the string, and the sets in force there.
+// Where the next unit is looked for: a place of the string, the sets in force there, and the open directions, as `Directions` has them.
 pub struct Cursor {
     pub place: usize,
+    pub levels: u64,
     pub gl: u8,
     pub gr: u8,
+    pub depth: u8,
 }
 
 // A unit, and the cursor after it.
@@ -50,19 +45,68 @@ impl Cursor {
     {
         Cursor {
             place: 0,
+            levels: 0,
             gl: 0,
             gr: 3,
+            depth: 0,
+        }
+    }
+
+    // The state there, as if neither a mark nor text had been read: it refuses nothing that the string's own state accepts.
+    fn state(self) -> State
+        ensures { λ r. ⌜ r ≡ stateIn self ⌝ }
+    {
+        State {
+            directions: Directions {
+                levels: self.levels,
+                depth: self.depth,
+                marked: false,
+                texted: false,
+            },
+            sets: Sets {
+                gl: self.gl,
+                gr: self.gr,
+            },
+        }
+    }
+
+    // The direction in force there.
+    pub fn direction(self) -> u16
+        ensures { λ r. ⌜ r ≡ inForceOf (stateIn self .directions) ⌝ }
+    {
+        let st = self.state();
+        let directions = st.directions;
+        directions.in_force() as u16
+    }
+
+    // So many octets further, in the same state.
+    fn moved(self, octets: usize) -> Cursor
+        requires { ⌜ self .place + octets < 2 ^ 64 ⌝ }
+        ensures { λ r. ⌜ r ≡ cursor (self .place + octets) (stateIn self) ⌝ }
+    {
+        let place = self.place + octets;
+        Cursor {
+            place: place,
+            levels: self.levels,
+            gl: self.gl,
+            gr: self.gr,
+            depth: self.depth,
         }
     }
 }
 
-// A state with these sets, under whose directions nothing is refused.
-fn free_state(gl: u8, gr: u8) -> State
-    ensures { λ r. ⌜ r ≡ freed (sets gl gr) ⌝ }
+// A place, with what a cursor keeps of a state.
+fn cursor_at(place: usize, st: State) -> Cursor
+    ensures { λ r. ⌜ r ≡ cursor place st ⌝ }
 {
-    State {
-        directions: FREE,
-        sets: Sets { gl: gl, gr: gr },
+    let directions = st.directions;
+    let sets = st.sets;
+    Cursor {
+        place: place,
+        levels: directions.levels,
+        gl: sets.gl,
+        gr: sets.gr,
+        depth: directions.depth,
     }
 }
 
@@ -70,19 +114,12 @@ fn free_state(gl: u8, gr: u8) -> State
 pub fn by_element(s: &[u8], c: Cursor) -> Turn
     ensures { λ r. ⌜ r ≡ elementTurn (now (s .entry)) c ⌝ }
 {
-    let o = units::next_unit(s, c.place, free_state(c.gl, c.gr));
+    let o = units::next_unit(s, c.place, c.state());
     match o {
-        Outcome::Gives(unit, place, next) => {
-            let after = next.sets;
-            Turn {
-                cursor: Cursor {
-                    place: place,
-                    gl: after.gl,
-                    gr: after.gr,
-                },
-                unit: unit,
-            }
-        }
+        Outcome::Gives(unit, place, next) => Turn {
+            cursor: cursor_at(place, next),
+            unit: unit,
+        },
         Outcome::Stops(number, place, start, to) => Turn {
             cursor: c,
             unit: Unit::BLANK,
@@ -114,34 +151,24 @@ pub fn set_at(b: u8, gl: u8, gr: u8) -> u8
 }
 
 // A character or space of one octet, of this set.
-fn single_turn(at: usize, b: u8, set: u8, gl: u8, gr: u8) -> Turn
-    requires { ⌜ at + 1 < 2 ^ 64 ⌝ }
-    ensures { λ r. ⌜ r ≡ single at b set (freed (sets gl gr)) ⌝ }
+fn single_turn(c: Cursor, b: u8, set: u8) -> Turn
+    requires { ⌜ c .place + 1 < 2 ^ 64 ⌝ }
+    ensures { λ r. ⌜ r ≡ single (c .place) b set (stateIn c) ⌝ }
 {
-    let place = at + 1;
     Turn {
-        cursor: Cursor {
-            place: place,
-            gl: gl,
-            gr: gr,
-        },
-        unit: one_octet(at, b, set),
+        cursor: c.moved(1),
+        unit: one_octet(c.place, b, set, c.direction(), c.depth as u16),
     }
 }
 
 // A character of two octets, of this set.
-fn double_turn(at: usize, b: u8, d: u8, set: u8, gl: u8, gr: u8) -> Turn
-    requires { ⌜ at + 2 < 2 ^ 64 ⌝ }
-    ensures { λ r. ⌜ r ≡ double at b d set (freed (sets gl gr)) ⌝ }
+fn double_turn(c: Cursor, b: u8, d: u8, set: u8) -> Turn
+    requires { ⌜ c .place + 2 < 2 ^ 64 ⌝ }
+    ensures { λ r. ⌜ r ≡ double (c .place) b d set (stateIn c) ⌝ }
 {
-    let place = at + 2;
     Turn {
-        cursor: Cursor {
-            place: place,
-            gl: gl,
-            gr: gr,
-        },
-        unit: two_octets(at, b, d, set),
+        cursor: c.moved(2),
+        unit: two_octets(c.place, b, d, set, c.direction(), c.depth as u16),
     }
 }
 
@@ -159,7 +186,7 @@ fn or_two(s: &[u8], c: Cursor, b: u8, set: u8) -> Turn
         return by_element(s, c);
     }
     if set < NO_SET {
-        return double_turn(at, b, d, set, c.gl, c.gr);
+        return double_turn(c, b, d, set);
     }
     by_element(s, c)
 }
@@ -176,7 +203,7 @@ fn text_or_element(s: &[u8], c: Cursor) -> Turn
     if text_octet(b) {
         let set = set_at(b, c.gl, c.gr);
         if set < FIRST_DOUBLE {
-            return single_turn(at, b, set, c.gl, c.gr);
+            return single_turn(c, b, set);
         }
         return or_two(s, c, b, set);
     }
@@ -191,15 +218,10 @@ fn placed(s: &[u8], c: Cursor, d: Designation) -> Cursor
     let set = d.set;
     if set < NO_SET {
         let side = d.side;
-        let state = free_state(c.gl, c.gr);
+        let state = c.state();
         let next = state.designated(side, set);
-        let after = next.sets;
         let place = c.place + d.octets;
-        return Cursor {
-            place: place,
-            gl: after.gl,
-            gr: after.gr,
-        };
+        return cursor_at(place, next);
     }
     c
 }

@@ -1,4 +1,4 @@
-// The records of units of one octet and of two, by their octets alone: one constructor for each width.
+// The records of units of one octet and of two, by their octets and the directions around them alone: one constructor for each width.
 ghost use mathlib.Core.Path.{_≡_};
 ghost use Rattle.cursor.specs.Cursor.{kindAt, ifGraphic, oneOf, twoOf};
 use base::Unit;
@@ -25,8 +25,8 @@ fn if_graphic(b: u8, x: u8) -> u8
 }
 
 // A character of this set, a space, a tab or a newline.
-pub fn one_octet(at: usize, b: u8, set: u8) -> Unit
-    ensures { λ r. ⌜ r ≡ oneOf at b set ⌝ }
+pub fn one_octet(at: usize, b: u8, set: u8, direction: u16, depth: u16) -> Unit
+    ensures { λ r. ⌜ r ≡ oneOf at b set direction depth ⌝ }
 {
     let code = if_graphic(b, b % 128) as u16;
     let start = (at % 0x1_0000_0000) as u32;
@@ -36,12 +36,14 @@ pub fn one_octet(at: usize, b: u8, set: u8) -> Unit
         code: code,
         start: start,
         length: 1,
+        direction: direction,
+        depth: depth,
     }
 }
 
 // A character of this set.
-pub fn two_octets(at: usize, b: u8, d: u8, set: u8) -> Unit
-    ensures { λ r. ⌜ r ≡ twoOf at b d set ⌝ }
+pub fn two_octets(at: usize, b: u8, d: u8, set: u8, direction: u16, depth: u16) -> Unit
+    ensures { λ r. ⌜ r ≡ twoOf at b d set direction depth ⌝ }
 {
     let high = (b % 128) as u16;
     let low = (d % 128) as u16;
@@ -53,5 +55,7 @@ pub fn two_octets(at: usize, b: u8, d: u8, set: u8) -> Unit
         code: code,
         start: start,
         length: 2,
+        direction: direction,
+        depth: depth,
     }
 }
