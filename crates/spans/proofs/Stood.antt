@@ -4,7 +4,8 @@
 use Rattle.element.proofs.Names.{ℕ, zero, suc, _+_, _-_, _*_, _/_, _%_, _^_, _≤_, _<_, arith, _≡_, refl, ap, sym, _∙_, Bool, true, false, List, _∷_}
 use Rattle.element.proofs.Names.{eqb, leb, ltb, length, getD, eqb-true, ltb-true, ltb-false, leb-true, leb-false, le-ltb, le-leb, pick, off, test, tested}
 use Rattle.element.proofs.Names.{pick-by, pick-last, from, on-false, on-ne, on-lt, on-ge, from-octet, UnitRecord, no-set, first-double, stepOf, part}
-use Rattle.element.proofs.Names.{Sets, Found}
+use Rattle.element.proofs.Names.{State, Sets, Found}
+use Rattle.state.specs.Directions.{inForceOf}
 use native.Mathlib.Nat.{mod-eq-of-lt}
 use Rattle.base.specs.Kind as kind
 use Rattle.base.specs.Limit as limit
@@ -13,13 +14,13 @@ use Rattle.element.specs.Start.{startOf, begunBy}
 use Rattle.element.proofs.Sizes.{found}
 use Rattle.grammar.proofs.Places.{at-passed}
 use Rattle.units.specs.Next.{outcomeOf, nextOf}
-use Rattle.cursor.specs.Cursor.{freed, cursor, stateIn, turn, outcomeTurn, elementTurn, textOctet, setAt, kindAt, ifGraphic, oneOf, doubleOf}
+use Rattle.cursor.specs.Cursor.{stateIn, turn, outcomeTurn, elementTurn, textOctet, setAt, kindAt, ifGraphic, oneOf, doubleOf}
 use Rattle.cursor.specs.Cursor.{octetOf, quickOf, textTurn, advanceAt, advanceOf}
 use Rattle.cursor.specs.declared.Cursor.{Cursor}
 use Rattle.cursor.specs.declared.Turn.{Turn}
 use Rattle.cursor.proofs.Rules.{on-quick, on-text, on-double, on-advance}
 use Rattle.spans.specs.Spans.{any, ones, left-twos, right-twos, singleUnder, leftFirst, hasTwo, formAt, lesserOf, anyOf, ofForm, byForm, spanOf, Fits}
-use Rattle.spans.specs.Spans.{movedOf, standsAfter, oneUnitAt, twoOctetUnitAt, unitAfter}
+use Rattle.spans.specs.Spans.{placedAt, movedOf, standsAfter, oneUnitAt, twoOctetUnitAt, unitAfter}
 use Rattle.spans.specs.declared.Span.{Span}
 
 -- ---- what an octet is taken for
@@ -65,54 +66,63 @@ singled b to =
     (λ _. pick-by P _ (λ _ e. off e) (λ k e. text (to .gr) (right b to (omega (tested, k))) (omega (tested, e)))))
 
 -- ---- the turn there
-module _ (s : List ℕ) (at : ℕ) (to : Sets) (inside : at < length s) where
+module _ (s : List ℕ) (at : ℕ) (c : Cursor) (inside : at < length s) where
   abbrev b : ℕ
   b = getD s at 0
 
+  abbrev st : State
+  st = stateIn c
+
+  abbrev force : ℕ
+  force = inForceOf (st .directions)
+
+  abbrev depth : ℕ
+  depth = c .depth
+
   abbrev here : Cursor
-  here = cursor at (freed to)
+  here = placedAt at c
 
   -- the unit there, of so many octets
   abbrev Gives : UnitRecord → ℕ → Type 0
-  Gives u octets = turn u (cursor (at + octets) (freed to)) ≡ advanceOf s here
+  Gives u octets = turn u (placedAt (at + octets) c) ≡ advanceOf s here
 
   -- an octet that is not an escape: the unit is that of text, or the element's
-  plain-turn : (r : Turn) → (b ≡ 0x1B → ⊥) → r ≡ quickOf at (b ∷ from (at + 1) s) (freed to) (elementTurn s here) → r ≡ advanceOf s here
+  plain-turn : (r : Turn) → (b ≡ 0x1B → ⊥) → r ≡ quickOf at (b ∷ from (at + 1) s) st (elementTurn s here) → r ≡ advanceOf s here
   unfolding advanceAt textTurn
-  plain-turn r n e = on-advance s at here r inside (on-ne b 0x1B _ _ _ n (on-quick s at (freed to) (elementTurn s here) r inside e))
+  plain-turn r n e = on-advance s at here r inside (on-ne b 0x1B _ _ _ n (on-quick s at st (elementTurn s here) r inside e))
 
-  one-text : (set : ℕ) → Text b set to → set < first-double → Gives (oneUnitAt s at to) 1
+  one-text : (set : ℕ) → Text b set (st .sets) → set < first-double → Gives (oneUnitAt s at c) 1
   unfolding octetOf
   one-text set t l =
       plain-turn _ (λ q. omega (arith, q, t .high))
-      (rw (← (t .of)) (on-text at b _ set (freed to) (elementTurn s here) _ (t .is) (t .of) (on-lt set first-double _ _ _ l refl)))
+      (rw (← (t .of)) (on-text at b _ set st (elementTurn s here) _ (t .is) (t .of) (on-lt set first-double _ _ _ l refl)))
 
-  two-text : (set : ℕ) → Text b set to → 0x20 < b → at + 1 < length s → hasTwo set ≡ true
-      → Gives (twoOctetUnitAt s at set) 2
+  two-text : (set : ℕ) → Text b set (st .sets) → 0x20 < b → at + 1 < length s → hasTwo set ≡ true
+      → Gives (twoOctetUnitAt s at set c) 2
   unfolding octetOf doubleOf hasTwo
   two-text set t k h e =
       let two = pick-last (ltb set first-double) (ltb set no-set) e in
       plain-turn _ (λ q. omega (arith, q, k))
-      (on-text at b _ set (freed to) (elementTurn s here) _ (t .is) (t .of)
+      (on-text at b _ set st (elementTurn s here) _ (t .is) (t .of)
       (on-ge set first-double _ _ _ (ltb-false set first-double (two .0))
-      (on-double s at b set (freed to) (elementTurn s here) _ h
+      (on-double s at b set st (elementTurn s here) _ h
       (on-ne b 0x20 _ _ _ (λ q. omega (arith, q, k)) (on-lt set no-set _ _ _ (ltb-true set no-set (two .1)) refl)))))
 
   module _ (short : length s ≤ limit.octets) where
     -- the octet x of kind k, which is no text and leaves the state
     blank-turn : (x k : ℕ) → b ≡ x → (x ≡ 0x1B → ⊥) → textOctet x ≡ false
-        → oneOf at x (setAt x to) ≡ record { kind = k; set = 0; code = 0; start = at % 2 ^ 32; length = 1 }
-        → ((t : List ℕ) → elementOf (x ∷ t) (freed to) ≡ Found (part k 0 0 0 1 false) (freed to))
-        → Gives (oneUnitAt s at to) 1
+        → oneOf at x (setAt x (st .sets)) force depth ≡ record { kind = k; set = 0; code = 0; start = at % 2 ^ 32; length = 1; direction = force; depth = depth }
+        → ((t : List ℕ) → elementOf (x ∷ t) st ≡ Found (part k 0 0 0 1 false) st)
+        → Gives (oneUnitAt s at c) 1
     unfolding quickOf elementTurn nextOf outcomeOf outcomeTurn pick
     blank-turn x k e n t g f =
-        let i : elementOf (from at s) (freed to) ≡ Found (part k 0 0 0 1 false) (freed to) = rw (from-octet s at inside, e) (f _) in
+        let i : elementOf (from at s) st ≡ Found (part k 0 0 0 1 false) st = rw (from-octet s at inside, e) (f _) in
         let m : at % 2 ^ 32 ≡ at + 0 = mod-eq-of-lt (omega (arith, inside, short)) ∙ (let z : at ≡ at + 0 = omega arith in z) in
         let z : at + 1 ≡ at + (0 + 1) = omega arith in
         plain-turn _ (rw e n) (on-false (textOctet b) _ _ _ (rw e t)
-        (rw (e, g, le-ltb limit.octets (length s) short, at-passed s at (freed to) _ refl found i, m, z)))
+        (rw (e, g, le-ltb limit.octets (length s) short, at-passed s at st _ refl found i, m, z)))
 
-    one-by : Single b to → Gives (oneUnitAt s at to) 1
+    one-by : Single b (st .sets) → Gives (oneUnitAt s at c) 1
     unfolding shapeOf startOf begunBy directedOf steppedOf stepOf textOctet kindAt ifGraphic pick
     one-by (tab i) = blank-turn 0x09 kind.tab i (λ q. omega arith) refl refl (λ _. refl)
     one-by (newline i) = blank-turn 0x0A kind.newline i (λ q. omega arith) refl refl (λ _. refl)
@@ -139,8 +149,8 @@ module _ (s : List ℕ) (c : Cursor) (n : ℕ) where
   -- a form of two octets, the set on its side, and the test of a first octet: the test of each unit, the unit, the cursor after it
   record Twos (form set : ℕ) (first : ℕ → Bool) : Type 0 where
     stands : (m j : ℕ) → standsAfter s (ofForm c form m) j ≡ first (getD s (c .place + 2 * j) 0)
-    unit : (m j : ℕ) → unitAfter s (ofForm c form m) j ≡ twoOctetUnitAt s (c .place + 2 * j) set
-    moved : (m j : ℕ) → movedOf (ofForm c form m) j ≡ cursor (c .place + 2 * j) (stateIn c)
+    unit : (m j : ℕ) → unitAfter s (ofForm c form m) j ≡ twoOctetUnitAt s (c .place + 2 * j) set c
+    moved : (m j : ℕ) → movedOf (ofForm c form m) j ≡ placedAt (c .place + 2 * j) c
     two : ones < form
     starts : (b : ℕ) → first b ≡ true → (0x20 < b) × Text b set to
 
@@ -252,14 +262,14 @@ module _ (s : List ℕ) (c : Cursor) (n : ℕ) where
   stood r zero = c
   stood r (suc j) = movedOf r (suc j)
 
-  ones-at : (m j : ℕ) → stood (ofForm c ones m) j ≡ cursor (c .place + j) (stateIn c)
+  ones-at : (m j : ℕ) → stood (ofForm c ones m) j ≡ placedAt (c .place + j) c
   unfolding movedOf pick
-  ones-at m zero = ap (λ (p : ℕ). cursor p (stateIn c)) none
+  ones-at m zero = ap (λ (p : ℕ). placedAt p c) none
   ones-at m (suc j) = refl
 
   twos-at : {form set : ℕ} {first : ℕ → Bool} → Twos form set first → (m j : ℕ)
-      → stood (ofForm c form m) j ≡ cursor (c .place + 2 * j) (stateIn c)
-  twos-at w m zero = ap (λ (p : ℕ). cursor p (stateIn c)) nothing
+      → stood (ofForm c form m) j ≡ placedAt (c .place + 2 * j) c
+  twos-at w m zero = ap (λ (p : ℕ). placedAt p c) nothing
   twos-at w m (suc j) = w .moved m (suc j)
 
   any-by : (j : ℕ) → j < 1 → turn (unitAfter s (anyOf s c) j) (stood (anyOf s c) (suc j)) ≡ advanceOf s (stood (anyOf s c) j)
@@ -275,13 +285,13 @@ module _ (s : List ℕ) (c : Cursor) (n : ℕ) where
     turns-by (as-ones k i) j h e =
         let on : c .place + j + 1 ≡ c .place + suc j = omega arith in
         rw (ones-at (lesserOf octets n) j, ones-at (lesserOf octets n) (suc j), ← on)
-        (one-by s (c .place + j) to (omega (arith, h, k, least octets n .0)) short (singled _ to e))
+        (one-by s (c .place + j) c (omega (arith, h, k, least octets n .0)) short (singled _ to e))
     turns-by (as-twos {m = m} w i k f l t) j h e =
         let on : c .place + 2 * j + 2 ≡ c .place + 2 * suc j = omega arith in
         let in-string : c .place + 2 * j + 1 < length s = omega (arith, h, i, k) in
         let first = w .starts (getD s (c .place + 2 * j) 0) (sym (w .stands m j) ∙ e) in
         rw (w .unit m j, twos-at w m j, twos-at w m (suc j), ← on)
-        (two-text s (c .place + 2 * j) to (omega (arith, in-string)) _ (first .1) (first .0) in-string t)
+        (two-text s (c .place + 2 * j) c (omega (arith, in-string)) _ (first .1) (first .0) in-string t)
 
     pub span-turns : (j : ℕ) → j < spanOf s c n .most → standsAfter s (spanOf s c n) j ≡ true
         → turn (unitAfter s (spanOf s c n) j) (stood (spanOf s c n) (suc j)) ≡ advanceOf s (stood (spanOf s c n) j)

@@ -9,10 +9,10 @@ use lib.ListN.{length, getD}
 use Rattle.base.specs.Choice.{pick}
 use Rattle.base.specs.declared.Unit.{Unit as UnitRecord}
 use Rattle.charset.specs.Charsets.{no-set, first-double}
-use Rattle.state.specs.State.{sets}
+use Rattle.state.specs.Directions.{inForceOf}
 use Rattle.state.specs.declared.Sets.{Sets}
 use Rattle.units.specs.Records.{blank}
-use Rattle.cursor.specs.Cursor.{freed, cursor, stateIn, setAt, oneOf, twoOf, advanceOf}
+use Rattle.cursor.specs.Cursor.{cursor, stateIn, setAt, oneOf, twoOf, advanceOf}
 use Rattle.cursor.specs.declared.Cursor.{Cursor}
 use Rattle.spans.specs.declared.Span.{Span}
 
@@ -57,22 +57,11 @@ formAt b s =
 unfoldable pub lesserOf : ℕ → ℕ → ℕ
 lesserOf m n = pick (ltb m n) m n
 
-abbrev pub setsOf : Span → Sets
-setsOf r = sets (r .gl) (r .gr)
-
 abbrev pub anyOf : List ℕ → Cursor → Span
-anyOf s c =
-    record {
-      place = advanceOf s c .cursor .place;
-      most = 1;
-      unit = advanceOf s c .unit;
-      form = any;
-      gl = advanceOf s c .cursor .gl;
-      gr = advanceOf s c .cursor .gr;
-    }
+anyOf s c = record { cursor = advanceOf s c .cursor; most = 1; unit = advanceOf s c .unit; form = any }
 
 abbrev pub ofForm : Cursor → ℕ → ℕ → Span
-ofForm c form most = record { place = c .place; most = most; unit = blank; form = form; gl = c .gl; gr = c .gr }
+ofForm c form most = record { cursor = c; most = most; unit = blank; form = form }
 
 -- by the form of its first unit, where so many octets are left
 unfoldable pub byForm : List ℕ → Cursor → ℕ → ℕ → ℕ → Span
@@ -88,35 +77,39 @@ spanOf s c n =
 
 -- the octets of its units are in the string
 pub record Fits (s : List ℕ) (r : Span) : Type 0 where
-  pub of-ones : r .form ≡ ones → r .place + r .most ≤ length s
-  pub of-twos : ones < r .form → r .place + 2 * r .most ≤ length s
+  pub of-ones : r .form ≡ ones → r .cursor .place + r .most ≤ length s
+  pub of-twos : ones < r .form → r .cursor .place + 2 * r .most ≤ length s
+
+-- a cursor with another place
+abbrev pub placedAt : ℕ → Cursor → Cursor
+placedAt place c = cursor place (stateIn c)
 
 -- the cursor after j of its units
 unfoldable pub movedOf : Span → ℕ → Cursor
 movedOf r j =
-    pick (eqb (r .form) ones) (cursor (r .place + j) (freed (setsOf r)))
-    (pick (ltb ones (r .form)) (cursor (r .place + 2 * j) (freed (setsOf r))) (cursor (r .place) (freed (setsOf r))))
+    pick (eqb (r .form) ones) (placedAt (r .cursor .place + j) (r .cursor))
+    (pick (ltb ones (r .form)) (placedAt (r .cursor .place + 2 * j) (r .cursor)) (r .cursor))
 
 -- ---- the units of a span
 
 -- whether the unit after j units is of its form
 unfoldable pub standsAfter : List ℕ → Span → ℕ → Bool
 standsAfter s r j =
-    pick (eqb (r .form) ones) (singleUnder (getD s (r .place + j) 0) (setsOf r))
-    (pick (eqb (r .form) left-twos) (leftFirst (getD s (r .place + 2 * j) 0))
-    (pick (eqb (r .form) right-twos) (leb 0xA0 (getD s (r .place + 2 * j) 0)) true))
+    pick (eqb (r .form) ones) (singleUnder (getD s (r .cursor .place + j) 0) (stateIn (r .cursor) .sets))
+    (pick (eqb (r .form) left-twos) (leftFirst (getD s (r .cursor .place + 2 * j) 0))
+    (pick (eqb (r .form) right-twos) (leb 0xA0 (getD s (r .cursor .place + 2 * j) 0)) true))
 
--- the octet at a place, as a unit by itself
-abbrev pub oneUnitAt : List ℕ → ℕ → Sets → UnitRecord
-oneUnitAt s at to = oneOf at (getD s at 0) (setAt (getD s at 0) to)
+-- the octet at a place, as a unit by itself in the state of a cursor
+abbrev pub oneUnitAt : List ℕ → ℕ → Cursor → UnitRecord
+oneUnitAt s at c = oneOf at (getD s at 0) (setAt (getD s at 0) (stateIn c .sets)) (inForceOf (stateIn c .directions)) (c .depth)
 
 -- the two octets at a place, as a character of a set
-abbrev pub twoOctetUnitAt : List ℕ → ℕ → ℕ → UnitRecord
-twoOctetUnitAt s at set = twoOf at (getD s at 0) (getD s (at + 1) 0) set
+abbrev pub twoOctetUnitAt : List ℕ → ℕ → ℕ → Cursor → UnitRecord
+twoOctetUnitAt s at set c = twoOf at (getD s at 0) (getD s (at + 1) 0) set (inForceOf (stateIn c .directions)) (c .depth)
 
 -- the unit after j units
 unfoldable pub unitAfter : List ℕ → Span → ℕ → UnitRecord
 unitAfter s r j =
-    pick (eqb (r .form) ones) (oneUnitAt s (r .place + j) (setsOf r))
-    (pick (eqb (r .form) left-twos) (twoOctetUnitAt s (r .place + 2 * j) (r .gl))
-    (pick (eqb (r .form) right-twos) (twoOctetUnitAt s (r .place + 2 * j) (r .gr)) (r .unit)))
+    pick (eqb (r .form) ones) (oneUnitAt s (r .cursor .place + j) (r .cursor))
+    (pick (eqb (r .form) left-twos) (twoOctetUnitAt s (r .cursor .place + 2 * j) (r .cursor .gl) (r .cursor))
+    (pick (eqb (r .form) right-twos) (twoOctetUnitAt s (r .cursor .place + 2 * j) (r .cursor .gr) (r .cursor)) (r .unit)))

@@ -17,15 +17,13 @@ pub const LEFT_TWOS: u8 = 2;
 
 pub const RIGHT_TWOS: u8 = 3;
 
-// The units of a form that start at a place, so many at most, under these sets. Of any one unit the unit is given, and the place and the
-// sets are those after it.
+// The units of a form that start at a cursor, so many at most, which leave its state as it is. Of any one unit the unit is given, and the cursor
+// is the one after it.
 pub struct Span {
-    pub place: usize,
+    pub cursor: Cursor,
     pub most: usize,
     pub unit: Unit,
     pub form: u8,
-    pub gl: u8,
-    pub gr: u8,
 }
 
 // An octet that is a unit: a tab, a newline, a space or a character.
@@ -105,12 +103,10 @@ fn any_unit(s: &[u8], c: Cursor) -> Span
     let next = t.cursor;
     let unit = t.unit;
     Span {
-        place: next.place,
+        cursor: next,
         most: 1,
         unit: unit,
         form: ANY,
-        gl: next.gl,
-        gr: next.gr,
     }
 }
 
@@ -118,12 +114,10 @@ fn of_form(c: Cursor, form: u8, most: usize) -> Span
     ensures { λ r. ⌜ r ≡ ofForm c form most ⌝ }
 {
     Span {
-        place: c.place,
+        cursor: c,
         most: most,
         unit: Unit::BLANK,
         form: form,
-        gl: c.gl,
-        gr: c.gr,
     }
 }
 
