@@ -37,6 +37,10 @@ cursor place st =
 abbrev pub stateIn : Cursor → State
 stateIn c = state (sets (c .gl) (c .gr)) (directions (c .depth) (c .levels) false false)
 
+-- another place, in the same state
+abbrev pub placedAt : ℕ → Cursor → Cursor
+placedAt place c = cursor place (stateIn c)
+
 -- the start of a string
 abbrev pub first : Cursor
 first = cursor 0 fresh

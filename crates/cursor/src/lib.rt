@@ -4,7 +4,7 @@ ghost use mathlib.Core.Path.{_≡_};
 ghost use Prim.Native.Nat.{_+_, _<_, _^_};
 ghost use lib.ListN.{length};
 ghost use Rattle.base.specs.Choice.{from};
-ghost use Rattle.cursor.specs.Cursor.{cursor, first, stateIn, elementTurn, textOctet, setAt, single, double, doubleOf, textTurn, placedOf, passedOf};
+ghost use Rattle.cursor.specs.Cursor.{cursor, placedAt, first, stateIn, elementTurn, textOctet, setAt, single, double, doubleOf, textTurn, placedOf, passedOf};
 ghost use Rattle.cursor.specs.Cursor.{advanceOf};
 ghost use Rattle.state.specs.Directions.{inForceOf};
 ghost use Rattle.state.specs.State.{sets};
@@ -79,12 +79,10 @@ impl Cursor {
         directions.in_force() as u16
     }
 
-    // So many octets further, in the same state.
-    fn moved(self, octets: usize) -> Cursor
-        requires { ⌜ self .place + octets < 2 ^ 64 ⌝ }
-        ensures { λ r. ⌜ r ≡ cursor (self .place + octets) (stateIn self) ⌝ }
+    // Another place, in the same state.
+    pub fn placed_at(self, place: usize) -> Cursor
+        ensures { λ r. ⌜ r ≡ placedAt place self ⌝ }
     {
-        let place = self.place + octets;
         Cursor {
             place: place,
             levels: self.levels,
@@ -155,8 +153,9 @@ fn single_turn(c: Cursor, b: u8, set: u8) -> Turn
     requires { ⌜ c .place + 1 < 2 ^ 64 ⌝ }
     ensures { λ r. ⌜ r ≡ single (c .place) b set (stateIn c) ⌝ }
 {
+    let place = c.place + 1;
     Turn {
-        cursor: c.moved(1),
+        cursor: c.placed_at(place),
         unit: one_octet(c.place, b, set, c.direction(), c.depth as u16),
     }
 }
@@ -166,8 +165,9 @@ fn double_turn(c: Cursor, b: u8, d: u8, set: u8) -> Turn
     requires { ⌜ c .place + 2 < 2 ^ 64 ⌝ }
     ensures { λ r. ⌜ r ≡ double (c .place) b d set (stateIn c) ⌝ }
 {
+    let place = c.place + 2;
     Turn {
-        cursor: c.moved(2),
+        cursor: c.placed_at(place),
         unit: two_octets(c.place, b, d, set, c.direction(), c.depth as u16),
     }
 }

@@ -4,8 +4,8 @@ use Rattle.spans.specs.Spans.{ones, Fits}
 use Rattle.spans.specs.declared.Span.{Span}
 
 module _ {s : List ℕ} {r : Span} {j : ℕ} where
-  pub one-within : Fits s r × (j < r .most) → r .form ≡ ones → r .place + j < length s
+  pub one-within : Fits s r × (j < r .most) → r .form ≡ ones → r .cursor .place + j < length s
   one-within (h, k) e = omega (arith, h .of-ones e)
 
-  pub two-within : Fits s r × (j < r .most) → ones < r .form → r .place + 2 * j + 1 < length s
+  pub two-within : Fits s r × (j < r .most) → ones < r .form → r .cursor .place + 2 * j + 1 < length s
   two-within (h, k) e = omega (arith, h .of-twos e)

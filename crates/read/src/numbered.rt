@@ -19,30 +19,19 @@ use spans::single;
 
 // The cursor after j units of a span.
 pub fn moved(r: Span, j: usize) -> Cursor
-    requires { ⌜ (r .form ≡ ones → r .place + j < 2 ^ 64) × (ones < r .form → r .place + 2 * j < 2 ^ 64) ⌝ }
+    requires { ⌜ (r .form ≡ ones → r .cursor .place + j < 2 ^ 64) × (ones < r .form → r .cursor .place + 2 * j < 2 ^ 64) ⌝ }
     ensures { λ c. ⌜ c ≡ movedOf r j ⌝ }
 {
+    let c = r.cursor;
     if r.form == ONES {
-        let place = r.place + j;
-        return Cursor {
-            place: place,
-            gl: r.gl,
-            gr: r.gr,
-        };
+        let place = c.place + j;
+        return c.placed_at(place);
     }
     if ONES < r.form {
-        let place = r.place + 2 * j;
-        return Cursor {
-            place: place,
-            gl: r.gl,
-            gr: r.gr,
-        };
+        let place = c.place + 2 * j;
+        return c.placed_at(place);
     }
-    Cursor {
-        place: r.place,
-        gl: r.gl,
-        gr: r.gr,
-    }
+    c
 }
 
 // The octet at a place, as `single` and `left_first` take it, and as the first of two in GR. Each reads it by itself, so that the compiler
@@ -73,31 +62,33 @@ pub fn stands_at(s: &[u8], r: Span, j: usize) -> bool
     requires { ⌜ Fits (now s) r × (j < r .most) ⌝ }
     ensures { λ b. ⌜ b ≡ standsAfter (now (s .entry)) r j ⌝ }
 {
+    let c = r.cursor;
     if r.form == ONES {
-        return single_at(s, r.place + j, r.gl, r.gr);
+        return single_at(s, c.place + j, c.gl, c.gr);
     }
     if r.form == LEFT_TWOS {
-        return left_at(s, r.place + 2 * j);
+        return left_at(s, c.place + 2 * j);
     }
     if r.form == RIGHT_TWOS {
-        return right_at(s, r.place + 2 * j);
+        return right_at(s, c.place + 2 * j);
     }
     true
 }
 
-fn one(s: &[u8], at: usize, gl: u8, gr: u8) -> Unit
+// The units at a place, in the state of a cursor, whose direction does not change within a span.
+fn one(s: &[u8], at: usize, c: Cursor) -> Unit
     requires { ⌜ at < length (now s) ⌝ }
-    ensures { λ r. ⌜ r ≡ oneUnitAt (now (s .entry)) at (sets gl gr) ⌝ }
+    ensures { λ r. ⌜ r ≡ oneUnitAt (now (s .entry)) at c ⌝ }
 {
     let b = s[at];
-    one_octet(at, b, set_at(b, gl, gr))
+    one_octet(at, b, set_at(b, c.gl, c.gr), c.direction(), c.depth as u16)
 }
 
-fn two(s: &[u8], at: usize, set: u8) -> Unit
+fn two(s: &[u8], at: usize, set: u8, c: Cursor) -> Unit
     requires { ⌜ at + 1 < length (now s) ⌝ }
-    ensures { λ r. ⌜ r ≡ twoOctetUnitAt (now (s .entry)) at set ⌝ }
+    ensures { λ r. ⌜ r ≡ twoOctetUnitAt (now (s .entry)) at set c ⌝ }
 {
-    two_octets(at, s[at], s[at + 1], set)
+    two_octets(at, s[at], s[at + 1], set, c.direction(), c.depth as u16)
 }
 
 // The unit after j units of a span.
@@ -105,14 +96,15 @@ pub fn nth(s: &[u8], r: Span, j: usize) -> Unit
     requires { ⌜ Fits (now s) r × (j < r .most) ⌝ }
     ensures { λ u. ⌜ u ≡ unitAfter (now (s .entry)) r j ⌝ }
 {
+    let c = r.cursor;
     if r.form == ONES {
-        return one(s, r.place + j, r.gl, r.gr);
+        return one(s, c.place + j, c);
     }
     if r.form == LEFT_TWOS {
-        return two(s, r.place + 2 * j, r.gl);
+        return two(s, c.place + 2 * j, c.gl, c);
     }
     if r.form == RIGHT_TWOS {
-        return two(s, r.place + 2 * j, r.gr);
+        return two(s, c.place + 2 * j, c.gr, c);
     }
     r.unit
 }

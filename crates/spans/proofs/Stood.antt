@@ -14,13 +14,13 @@ use Rattle.element.specs.Start.{startOf, begunBy}
 use Rattle.element.proofs.Sizes.{found}
 use Rattle.grammar.proofs.Places.{at-passed}
 use Rattle.units.specs.Next.{outcomeOf, nextOf}
-use Rattle.cursor.specs.Cursor.{stateIn, turn, outcomeTurn, elementTurn, textOctet, setAt, kindAt, ifGraphic, oneOf, doubleOf}
+use Rattle.cursor.specs.Cursor.{stateIn, placedAt, turn, outcomeTurn, elementTurn, textOctet, setAt, kindAt, ifGraphic, oneOf, doubleOf}
 use Rattle.cursor.specs.Cursor.{octetOf, quickOf, textTurn, advanceAt, advanceOf}
 use Rattle.cursor.specs.declared.Cursor.{Cursor}
 use Rattle.cursor.specs.declared.Turn.{Turn}
 use Rattle.cursor.proofs.Rules.{on-quick, on-text, on-double, on-advance}
 use Rattle.spans.specs.Spans.{any, ones, left-twos, right-twos, singleUnder, leftFirst, hasTwo, formAt, lesserOf, anyOf, ofForm, byForm, spanOf, Fits}
-use Rattle.spans.specs.Spans.{placedAt, movedOf, standsAfter, oneUnitAt, twoOctetUnitAt, unitAfter}
+use Rattle.spans.specs.Spans.{movedOf, standsAfter, oneUnitAt, twoOctetUnitAt, unitAfter}
 use Rattle.spans.specs.declared.Span.{Span}
 
 -- ---- what an octet is taken for

@@ -12,7 +12,7 @@ use Rattle.charset.specs.Charsets.{no-set, first-double}
 use Rattle.state.specs.Directions.{inForceOf}
 use Rattle.state.specs.declared.Sets.{Sets}
 use Rattle.units.specs.Records.{blank}
-use Rattle.cursor.specs.Cursor.{cursor, stateIn, setAt, oneOf, twoOf, advanceOf}
+use Rattle.cursor.specs.Cursor.{placedAt, stateIn, setAt, oneOf, twoOf, advanceOf}
 use Rattle.cursor.specs.declared.Cursor.{Cursor}
 use Rattle.spans.specs.declared.Span.{Span}
 
@@ -79,10 +79,6 @@ spanOf s c n =
 pub record Fits (s : List ℕ) (r : Span) : Type 0 where
   pub of-ones : r .form ≡ ones → r .cursor .place + r .most ≤ length s
   pub of-twos : ones < r .form → r .cursor .place + 2 * r .most ≤ length s
-
--- a cursor with another place
-abbrev pub placedAt : ℕ → Cursor → Cursor
-placedAt place c = cursor place (stateIn c)
 
 -- the cursor after j of its units
 unfoldable pub movedOf : Span → ℕ → Cursor

@@ -140,7 +140,7 @@ module _ {M : Type 1} (𝓤 : kit.URA M) (H : kit.Heap 𝓤) (𝓜 : kit.Model �
   sum-fits : (g : Going) → g .0 < r .most → start + g .0 < 2 ^ 64
   sum-fits g less = omega (arith, inside g less, room .0)
 
-  place-fits : (g : Going) → g .0 < r .most → (start + g .0) * 12 < 2 ^ 64
+  place-fits : (g : Going) → g .0 < r .most → (start + g .0) * 16 < 2 ^ 64
   place-fits g less = omega (arith, inside g less, room .1)
 
   next-fits : (g : Going) → g .0 < r .most → g .0 + 1 < 2 ^ 64
@@ -211,7 +211,7 @@ module _ {M : Type 1} (𝓤 : kit.URA M) (H : kit.Heap 𝓤) (𝓜 : kit.Model �
         sets ! 9 (bin ! (var ! 21 refl) (var ! 17 refl) (record { fits = sum-fits g less })) refl (in64 (sum-fits g less)) $
         sets ! 7 (bin ! (var ! 9 refl) (lit ! tt) (record { fits = place-fits g less })) refl (in64 (place-fits g less)) $
         sets ! 5 (bin ! (part ! 23 0 refl refl refl) (var ! 7 refl) tt) refl (tt, tt) $
-        recasts ! 5 (kit.vptr b) (sym (kit.place-is 12 o (start + g .0))) refl $
+        recasts ! 5 (kit.vptr b) (sym (kit.place-is 16 o (start + g .0))) refl $
         -- the element is taken out, stored to, and put back
         move ! (1 ∷ []) $ kit.elem-out ! U.the-row (Is U.the-row) (kit.shows 𝓤 H A U.the-row) (LL.vals U.the-type U′.the-laws)
         (LL.tells U.the-type U′.the-laws) fullShare (got g) (start + g .0) (unit g) b o (within g less) (λ _.

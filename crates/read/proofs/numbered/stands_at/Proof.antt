@@ -7,17 +7,17 @@ use Rattle.read.proofs.numbered.stands_at.Tie as tie
 
 mul-right-at : tie.Need-mul-right-at
 mul-right-at c =
-    let h = two-within (c .before .before .before .before .before .before .before .pre) (omega (arith, c .if3 .taken)) in
+    let h = two-within (c .before .before .before .before .before .before .before .before .pre) (omega (arith, c .if3 .taken)) in
     record { fits = omega (arith, h) }
 
 add-right-at : tie.Need-add-right-at
 add-right-at c =
-    let h = two-within (c .before .before .before .before .before .before .before .before .pre) (omega (arith, c .before .if3 .taken)) in
+    let h = two-within (c .before .before .before .before .before .before .before .before .before .pre) (omega (arith, c .before .if3 .taken)) in
     omega (arith, h)
 
 right-at-requires : tie.Need-right-at-requires
 right-at-requires c κs =
-    let h = two-within (c .before .before .before .before .before .before .before .before .pre) (omega (arith, c .before .if3 .taken)) in
+    let h = two-within (c .before .before .before .before .before .before .before .before .before .pre) (omega (arith, c .before .if3 .taken)) in
     omega (arith, h)
 
 pub stands-at-spec : {M : Type 1} → statement M
@@ -25,12 +25,12 @@ unfolding standsAfter
 stands-at-spec =
     tie.close
     (tie.spec
-    (λ c. omega (arith, one-within (c .before .before .before .before .pre) (c .before .if1 .taken)))
-    (λ c κs. omega (arith, one-within (c .before .before .before .before .pre) (c .before .if1 .taken)))
+    (λ c. omega (arith, one-within (c .before .before .before .before .before .pre) (c .before .if1 .taken)))
+    (λ c κs. omega (arith, one-within (c .before .before .before .before .before .pre) (c .before .if1 .taken)))
     (λ c. search ladder depth 9)
-    (λ c. record { fits = omega (arith, two-within (c .before .before .before .before .before .pre) (omega (arith, c .if2 .taken))) })
-    (λ c. omega (arith, two-within (c .before .before .before .before .before .before .pre) (omega (arith, c .before .if2 .taken))))
-    (λ c κs. omega (arith, two-within (c .before .before .before .before .before .before .pre) (omega (arith, c .before .if2 .taken))))
+    (λ c. record { fits = omega (arith, two-within (c .before .before .before .before .before .before .pre) (omega (arith, c .if2 .taken))) })
+    (λ c. omega (arith, two-within (c .before .before .before .before .before .before .before .pre) (omega (arith, c .before .if2 .taken))))
+    (λ c κs. omega (arith, two-within (c .before .before .before .before .before .before .before .pre) (omega (arith, c .before .if2 .taken))))
     (λ c. search ladder depth 9)
     mul-right-at
     add-right-at
