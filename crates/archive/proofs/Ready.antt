@@ -1,7 +1,7 @@
--- The unit at a cursor from which one is next, by the class of the octet there: the element is what the class starts, under directions that refuse
--- nothing, and since a unit is next it is not refused (`one-turn`, `two-turn`); so both octets of a character in GL are below 128 (`two-low`). A
+-- The unit at a cursor from which one is next, by the class of the octet there: the element is what the class starts, which the direction rule lets
+-- pass, and since a unit is next it is not refused (`one-turn`, `two-turn`); so both octets of a character in GL are below 128 (`two-low`). A
 -- designation that is passed changes nothing of what is next (`ready-passed`, `turn-passed`).
-use Rattle.element.proofs.Names.{ℕ, _+_, _-_, _*_, _%_, _/_, _^_, _<_, _≤_, arith, _≡_, refl, ap, sym, _∙_, subst, true, List, [], _∷_, eqb, ltb}
+use Rattle.element.proofs.Names.{ℕ, _+_, _-_, _*_, _%_, _/_, _^_, _<_, _≤_, arith, _≡_, refl, ap, sym, _∙_, subst, true, false, List, [], _∷_, eqb, ltb}
 use Rattle.element.proofs.Names.{length, getD, le-ltb, ltb-true, ltb-false, pick, pick-by, test, clash, on-lt, on-ge, from, from-octet, from-end}
 use Rattle.element.proofs.Names.{UnitRecord, no-set, Side, GL, GR, part, next, get, put, on, stepOf, writtenOf, State, Sets, Part, Shape, Gives as Makes}
 use Rattle.element.proofs.Names.{Element, Refused, Found, eqb-true, on-true, on-eq, on-ne}
@@ -16,6 +16,8 @@ use Rattle.element.specs.Start as start
 use Rattle.element.proofs.Starts.{On, Starts, starts}
 use Rattle.element.proofs.Starts as starts-of
 use Rattle.grammar.specs.Reading.{size}
+use Rattle.state.specs.Directions.{inForceOf}
+use Rattle.state.specs.State.{designatedOf}
 use Rattle.grammar.proofs.Elements.{at-nothing}
 use Rattle.designations.specs.Designation.{absent, sequenceOf, toldOf, designationAt}
 use Rattle.designations.specs.declared.Designation.{Designation}
@@ -25,62 +27,68 @@ use Rattle.units.specs.Next.{nextOf}
 use Rattle.units.specs.declared.Outcome.{Outcome}
 use Rattle.units.specs.declared.Outcome.the-variants.{Gives, Stops}
 use Rattle.units.proofs.Turn.{outcome, gives-end, gives-refused, gives-silent, gives-found}
-use Rattle.cursor.specs.Cursor.{freed, cursor, stateIn, outcomeTurn, elementTurn, placedOf, passedOf, twoOf}
+use Rattle.cursor.specs.Cursor.{flagged, cursor, stateIn, outcomeTurn, elementTurn, placedOf, passedOf}
 use Rattle.cursor.specs.declared.Cursor.{Cursor}
 use Rattle.cursor.proofs.Fits.{placed-fits}
 use Rattle.octet_table.specs.Table.{numberOf, classOf, rowOf}
 use Rattle.octet_table.proofs.Rule.{row-most, class-number}
 use Rattle.archive.specs.Passes.{Classed}
-use Rattle.archive.specs.Turns.{rowed, cursorIn, movedBy, turnOf, Ready, ifCharacter, setBy, oneRecord}
+use Rattle.archive.specs.Turns.{rowed, movedBy, turnOf, Ready, ifCharacter, setBy, oneRecord, twoRecord}
 use Rattle.archive.specs.declared.turns.RowCursor.{RowCursor}
 use Rattle.archive.specs.declared.turns.RowTurn.{RowTurn}
 use Rattle.archive.proofs.Passes.{number-is, sequence-at}
 
--- ---- what an octet gives, under directions that refuse nothing
+-- ---- what an octet gives, at a cursor
 
 -- the unit of a class of one octet
 abbrev onePart : ℕ → ℕ → Sets → Part
 onePart b k s = part (k % 4) (ifCharacter k (setBy k (s .gl) (s .gr))) (ifCharacter k (b % 128)) 0 1 (ltb (k % 4) 2)
 
-one-found : (b : ℕ) (t : List ℕ) (s : Sets) (c : Start) → numberOf c ≤ 4
-    → directedOf (begunBy c b t s) (freed s) ≡ Found (onePart b (numberOf c) s) (freed s)
+-- the state after a unit that leaves the directions
+abbrev after : Part → Cursor → State
+after p j = flagged false (p .text) (stateIn j)
+
+one-found : (b : ℕ) (t : List ℕ) (j : Cursor) (c : Start) → numberOf c ≤ 4
+    → directedOf (begunBy c b t (stateIn j .sets)) (stateIn j)
+    ≡ Found (onePart b (numberOf c) (stateIn j .sets)) (after (onePart b (numberOf c) (stateIn j .sets)) j)
 unfolding begunBy numberOf directedOf steppedOf stepOf writtenOf ifCharacter setBy pick
-one-found b t s start.escape h = absurd (omega arith)
-one-found b t s start.mark h = absurd (omega arith)
-one-found b t s start.tab h = refl
-one-found b t s start.newline h = refl
-one-found b t s start.space h = refl
-one-found b t s start.unused h = absurd (omega arith)
-one-found b t s (start.one GL) h = refl
-one-found b t s (start.one GR) h = refl
-one-found b t s (start.two GL) h = absurd (omega arith)
-one-found b t s (start.two GR) h = absurd (omega arith)
+one-found b t j start.escape h = absurd (omega arith)
+one-found b t j start.mark h = absurd (omega arith)
+one-found b t j start.tab h = refl
+one-found b t j start.newline h = refl
+one-found b t j start.space h = refl
+one-found b t j start.unused h = absurd (omega arith)
+one-found b t j (start.one GL) h = refl
+one-found b t j (start.one GR) h = refl
+one-found b t j (start.two GL) h = absurd (omega arith)
+one-found b t j (start.two GR) h = absurd (omega arith)
 
 -- the character of a class of two octets, which are of one side, and else a refusal
-data Two (b y : ℕ) (s : Sets) (p : Part) : Element → Type 0 where
-  refused : {n o : ℕ} → Two b y s p (Refused n o)
-  found : y / 128 ≡ b / 128 → Two b y s p (Found p (freed s))
+data Two (b y : ℕ) (j : Cursor) (p : Part) : Element → Type 0 where
+  refused : {n o : ℕ} → Two b y j p (Refused n o)
+  found : y / 128 ≡ b / 128 → Two b y j p (Found p (after p j))
 
 abbrev twoPart : ℕ → ℕ → ℕ → Part
 twoPart b y set = part kind.character set (b % 128 * 256 + y % 128) 0 2 true
 
 -- text is not refused
-free-text : (s : Sets) (p : Part) → p .text ≡ true → directedOf (Makes p) (freed s) ≡ Found p (freed s)
+free-text : (j : Cursor) (p : Part) → p .text ≡ true → directedOf (Makes p) (stateIn j) ≡ Found p (after p j)
 unfolding directedOf steppedOf stepOf writtenOf pick
-free-text s p e = rw e refl
+free-text j p e = rw e refl
 
-two-found : (b y : ℕ) (t : List ℕ) (s : Sets) (d : Side)
-    → Two b y s (twoPart b y (get d s)) (directedOf (begunBy (start.two d) b (y ∷ t) s) (freed s))
+two-found : (b y : ℕ) (t : List ℕ) (j : Cursor) (d : Side)
+    → Two b y j (twoPart b y (get d (stateIn j .sets))) (directedOf (begunBy (start.two d) b (y ∷ t) (stateIn j .sets)) (stateIn j))
 unfolding begunBy secondOctetOf next directedOf
-two-found b y t s d =
-    let P : Shape → Type 0 = λ x. Two b y s (twoPart b y (get d s)) (directedOf x (freed s)) in
-    let e = free-text s (twoPart b y (get d s)) refl in
+two-found b y t j d =
+    let p : Part = twoPart b y (get d (stateIn j .sets)) in
+    let P : Shape → Type 0 = λ x. Two b y j p (directedOf x (stateIn j)) in
+    let e = free-text j p refl in
     pick-by P (eqb (y / 128) (b / 128))
-    (λ h. pick-by P (graphicOf (y % 128)) (λ _. subst (Two b y s _) (sym e) (found (eqb-true _ _ h))) (λ _. refused)) (λ _. refused)
+    (λ h. pick-by P (graphicOf (y % 128)) (λ _. subst (Two b y j _) (sym e) (found (eqb-true _ _ h))) (λ _. refused)) (λ _. refused)
 
-two-cut : (b : ℕ) (s : Sets) (d : Side) → Refused refusal.cut 1 ≡ directedOf (begunBy (start.two d) b [] s) (freed s)
+two-cut : (b : ℕ) (j : Cursor) (d : Side) → Refused refusal.cut 1 ≡ directedOf (begunBy (start.two d) b [] (stateIn j .sets)) (stateIn j)
 unfolding begunBy secondOctetOf next directedOf
-two-cut b s d = refl
+two-cut b j d = refl
 
 -- where the first octet of a class of two octets lies
 two-on : {s : Sets} {b : ℕ} {d : Side} → Starts s b (start.two d) → On d b
@@ -120,13 +128,13 @@ turn-given s j e = ap (λ (o : Outcome). record { unit = outcomeTurn j o .unit; 
 
 module _ (s : List ℕ) (c : RowCursor) (ready : Ready s c) where
   abbrev k : Cursor
-  k = cursorIn c
+  k = c .cursor
 
   abbrev st : State
   st = stateIn k
 
   abbrev at : ℕ
-  at = c .place
+  at = k .place
 
   -- what is next, as it is given
   abbrev given : Outcome
@@ -163,14 +171,23 @@ module _ (s : List ℕ) (c : RowCursor) (ready : Ready s c) where
   row-fits = rw (ready .row) (row-most (st .sets))
 
   -- a unit of so many octets, which leaves the sets
-  found-turn : (p : Part) (n : ℕ) (r : UnitRecord) (j : RowCursor) → Found p st ≡ elementOf (from at s) st → p .skip ≡ 0 → p .octets ≡ n
-      → r ≡ record { kind = p .kind; set = p .set; code = p .code; start = at % 2 ^ 32; length = n } → j ≡ movedBy c n
-      → record { unit = r; cursor = j } ≡ turnOf s k
+  found-turn : (p : Part) (n : ℕ) (r : UnitRecord) (j : RowCursor) → Found p (after p k) ≡ elementOf (from at s) st → p .skip ≡ 0 → p .octets ≡ n
+      → r ≡ record {
+        kind = p .kind;
+        set = p .set;
+        code = p .code;
+        start = at % 2 ^ 32;
+        length = n;
+        direction = inForceOf (st .directions);
+        depth = k .depth;
+      }
+      → j ≡ movedBy c n → record { unit = r; cursor = j } ≡ turnOf s k
+  unfolding inForceOf
   found-turn p n r j e z l i m =
       let q : at % 2 ^ 32 ≡ at + p .skip = mod-eq-of-lt (omega (arith, inside, short)) ∙ (let x : at ≡ at + p .skip = omega arith in x) in
       let o : at + n ≡ at + size p = omega arith in
-      let f : r ≡ recordOf p at = i ∙ rw (q, l) refl in
-      let g : j ≡ rowed (cursor (at + size p) st) = m ∙ rw (ready .row, o) refl in
+      let f : r ≡ recordOf p at (after p k .directions) = i ∙ rw (q, l) refl in
+      let g : j ≡ rowed (cursor (at + size p) (after p k)) = m ∙ rw (ready .row, o) refl in
       rw (f, g) (turn-is (gives-found s at st _ e refl refl))
 
   -- ---- by the class of the octet at the cursor
@@ -190,10 +207,10 @@ module _ (s : List ℕ) (c : RowCursor) (ready : Ready s c) where
     unfolding shapeOf
     begun = ap (λ (t : List ℕ). elementOf t st) (sym (from-octet s at inside))
 
-    pub one-turn : (r : UnitRecord) (j : RowCursor) → n ≤ 4 → r ≡ oneRecord at b n (setBy n (c .gl) (c .gr)) → j ≡ movedBy c 1
+    pub one-turn : (r : UnitRecord) (j : RowCursor) → n ≤ 4 → r ≡ oneRecord k b n (setBy n (k .gl) (k .gr)) → j ≡ movedBy c 1
         → record { unit = r; cursor = j } ≡ turnOf s k
     one-turn r j h i m =
-        let e = sym (one-found b (from (at + 1) s) (st .sets) (startIn (st .sets) b) (rw number h)) ∙ begun in
+        let e = sym (one-found b (from (at + 1) s) k (startIn (st .sets) b) (rw number h)) ∙ begun in
         found-turn (onePart b n (st .sets)) 1 r j (rw number at e) refl refl i m
 
     abbrev y : ℕ
@@ -209,22 +226,25 @@ module _ (s : List ℕ) (c : RowCursor) (ready : Ready s c) where
       pub two-inside : at + 1 < length s
       two-inside =
           test (ltb (at + 1) (length s)) (ltb-true _ _)
-          (λ f. no-refusal (two-cut b (st .sets) d ∙ ap (begins (start.two d)) (sym (from-end s (at + 1) (ltb-false _ _ f))) ∙ pair))
+          (λ f. no-refusal (two-cut b k d ∙ ap (begins (start.two d)) (sym (from-end s (at + 1) (ltb-false _ _ f))) ∙ pair))
 
       -- both octets are of one side, and the unit is their character
-      not-refused : {p : Part} {o : Element} → Two b y (st .sets) p o → o ≡ elementOf (from at s) st
-          → (y / 128 ≡ b / 128) × (Found p st ≡ elementOf (from at s) st)
+      not-refused : {p : Part} {o : Element} → Two b y k p o → o ≡ elementOf (from at s) st
+          → (y / 128 ≡ b / 128) × (Found p (after p k) ≡ elementOf (from at s) st)
       not-refused refused i = no-refusal i
       not-refused (found h) i = (h, i)
 
-      character : (y / 128 ≡ b / 128) × (Found (twoPart b y (get d (st .sets))) st ≡ elementOf (from at s) st)
+      abbrev pair-part : Part
+      pair-part = twoPart b y (get d (st .sets))
+
+      character : (y / 128 ≡ b / 128) × (Found pair-part (after pair-part k) ≡ elementOf (from at s) st)
       character =
           let f = ap (begins (start.two d)) (sym (from-octet s (at + 1) two-inside)) ∙ pair in
-          not-refused (two-found b y (from (at + 1 + 1) s) (st .sets) d) f
+          not-refused (two-found b y (from (at + 1 + 1) s) k d) f
 
-      pub two-turn : (r : UnitRecord) (j : RowCursor) → r ≡ twoOf at b y (get d (st .sets)) → j ≡ movedBy c 2
+      pub two-turn : (r : UnitRecord) (j : RowCursor) → r ≡ twoRecord k b y (get d (st .sets)) → j ≡ movedBy c 2
           → record { unit = r; cursor = j } ≡ turnOf s k
-      two-turn r j i m = found-turn (twoPart b y (get d (st .sets))) 2 r j (character .1) refl refl i m
+      two-turn r j i m = found-turn pair-part 2 r j (character .1) refl refl i m
 
     -- in GL neither has a top bit
     pub two-low : n ≡ numberOf (start.two GL) → (b < 128) × (y < 128)
@@ -238,7 +258,7 @@ module _ (s : List ℕ) (c : RowCursor) (ready : Ready s c) where
   none-is : (d : Designation) → d ≡ designationAt (from at s) → no-set ≤ d .set → c ≡ rowed (passedOf s k)
   unfolding passedOf placedOf
   none-is d e h =
-      let f : c ≡ rowed k = ap (λ (n : ℕ). record { place = at; row = n; gl = c .gl; gr = c .gr }) (ready .row) in
+      let f : c ≡ rowed k = ap (λ (n : ℕ). record { cursor = k; row = n }) (ready .row) in
       f ∙ ap rowed (on-ge (d .set) no-set k _ k h refl ∙ ap (placedOf k) e)
 
   pub few-left : length s - at < 4 → c ≡ rowed (passedOf s k)
@@ -263,8 +283,7 @@ module _ (s : List ℕ) (c : RowCursor) (ready : Ready s c) where
 
         -- the cursor after it, as the code makes it
         pub placed-is : (row : ℕ) (v : Side) → d .side ≡ v → row ≡ rowOf (put (on v (d .set)) (st .sets))
-            → record { place = at + d .octets; row = row; gl = put (on v (d .set)) (st .sets) .gl; gr = put (on v (d .set)) (st .sets) .gr }
-            ≡ rowed (passedOf s k)
+            → record { cursor = cursor (at + d .octets) (designatedOf v (d .set) st); row = row } ≡ rowed (passedOf s k)
         unfolding passedOf placedOf
         placed-is row v j q =
             let f = on-lt (d .set) no-set _ _ k named refl in
@@ -284,6 +303,6 @@ module _ (s : List ℕ) (c : RowCursor) (ready : Ready s c) where
     ready-passed =
         subst (Ready s) (sym e) (record { row = refl; unit = ready .unit; place = ready .place; after = ready .after; next = placed-next })
 
-    pub turn-passed : turnOf s (cursorIn j) ≡ turnOf s k
+    pub turn-passed : turnOf s (j .cursor) ≡ turnOf s k
     turn-passed =
-        ap (λ (i : RowCursor). turnOf s (cursorIn i)) e ∙ sym (turn-given s (passedOf s k) placed-next) ∙ turn-given s k (ready .next)
+        ap (λ (i : RowCursor). turnOf s (i .cursor)) e ∙ sym (turn-given s (passedOf s k) placed-next) ∙ turn-given s k (ready .next)

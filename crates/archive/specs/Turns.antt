@@ -6,9 +6,10 @@ use mathlib.Core.List.{List}
 use lib.Dec.{eqb}
 use Rattle.base.specs.Choice.{pick}
 use Rattle.base.specs.declared.Unit.{Unit as UnitRecord}
-use Rattle.cursor.specs.Cursor.{first, stateIn, elementTurn}
+use Rattle.cursor.specs.Cursor.{first, placedAt, stateIn, elementTurn, twoOf}
 use Rattle.cursor.specs.declared.Cursor.{Cursor}
 use Rattle.octet_table.specs.Table.{rowOf}
+use Rattle.state.specs.Directions.{inForceOf}
 use Rattle.state.specs.State.{sets}
 use Rattle.state.specs.declared.State.{State}
 use Rattle.units.specs.Next.{nextOf}
@@ -16,18 +17,15 @@ use Rattle.units.specs.declared.Outcome.the-variants.{Gives}
 use Rattle.archive.specs.declared.turns.RowCursor.{RowCursor}
 use Rattle.archive.specs.declared.turns.RowTurn.{RowTurn}
 
--- a cursor with the row of its sets, and the cursor in it
+-- a cursor with the row of its sets
 abbrev pub rowed : Cursor → RowCursor
-rowed c = record { place = c .place; row = rowOf (sets (c .gl) (c .gr)); gl = c .gl; gr = c .gr }
-
-abbrev pub cursorIn : RowCursor → Cursor
-cursorIn c = record { place = c .place; gl = c .gl; gr = c .gr }
+rowed c = record { cursor = c; row = rowOf (sets (c .gl) (c .gr)) }
 
 abbrev pub firstRow : RowCursor
 firstRow = rowed first
 
 abbrev pub movedBy : RowCursor → ℕ → RowCursor
-movedBy c n = record { place = c .place + n; row = c .row; gl = c .gl; gr = c .gr }
+movedBy c n = record { cursor = placedAt (c .cursor .place + n) (c .cursor); row = c .row }
 
 -- the unit at a cursor, by the elements from there on
 abbrev pub turnOf : List ℕ → Cursor → RowTurn
@@ -35,11 +33,11 @@ turnOf s c = record { unit = elementTurn s c .unit; cursor = rowed (elementTurn 
 
 -- a cursor that has the row of its sets, and from which a unit is next
 pub record Ready (s : List ℕ) (c : RowCursor) : Type 0 where
-  pub row : c .row ≡ rowOf (sets (c .gl) (c .gr))
+  pub row : c .row ≡ rowOf (sets (c .cursor .gl) (c .cursor .gr))
   pub unit : UnitRecord
   pub place : ℕ
   pub after : State
-  pub next : nextOf s (c .place) (stateIn (cursorIn c)) ≡ Gives unit place after
+  pub next : nextOf s (c .cursor .place) (stateIn (c .cursor)) ≡ Gives unit place after
 
 -- x for a character of one octet, and 0 for a space, a tab and a newline, by the number of the class
 unfoldable pub ifCharacter : ℕ → ℕ → ℕ
@@ -48,6 +46,18 @@ ifCharacter k x = pick (eqb (k % 4) 0) x 0
 unfoldable pub setBy : ℕ → ℕ → ℕ → ℕ
 setBy k gl gr = pick (eqb k 4) gr gl
 
-abbrev pub oneRecord : ℕ → ℕ → ℕ → ℕ → UnitRecord
-oneRecord at b k set =
-    record { kind = k % 4; set = ifCharacter k set; code = ifCharacter k (b % 128); start = at % 2 ^ 32; length = 1 }
+-- the record of a unit of one octet at a cursor, by its class, and that of a character of two
+abbrev pub oneRecord : Cursor → ℕ → ℕ → ℕ → UnitRecord
+oneRecord c b k set =
+    record {
+      kind = k % 4;
+      set = ifCharacter k set;
+      code = ifCharacter k (b % 128);
+      start = c .place % 2 ^ 32;
+      length = 1;
+      direction = inForceOf (stateIn c .directions);
+      depth = c .depth;
+    }
+
+abbrev pub twoRecord : Cursor → ℕ → ℕ → ℕ → UnitRecord
+twoRecord c b y set = twoOf (c .place) b y set (inForceOf (stateIn c .directions)) (c .depth)

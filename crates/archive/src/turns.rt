@@ -2,9 +2,9 @@
 ghost use mathlib.Core.Path.{_≡_};
 ghost use Prim.Native.Nat.{_+_, _<_, _≤_, _^_};
 ghost use Rattle.octet_table.specs.Table.{table};
-ghost use Rattle.cursor.specs.Cursor.{passedOf, twoOf};
+ghost use Rattle.cursor.specs.Cursor.{passedOf};
 ghost use Rattle.archive.specs.Passes.{Classed};
-ghost use Rattle.archive.specs.Turns.{cursorIn, rowed, firstRow, Ready, turnOf, movedBy, ifCharacter, setBy, oneRecord};
+ghost use Rattle.archive.specs.Turns.{rowed, firstRow, Ready, turnOf, movedBy, ifCharacter, setBy, oneRecord, twoRecord};
 use crate::classes::class_at;
 use base::Unit;
 use base::kind;
@@ -20,12 +20,10 @@ use octet_table::TWO_GL;
 use octet_table::TWO_GR;
 use octet_table::row_of;
 
-// Where the next unit is looked for: a place of the string, the sets in force there, and where their row of the table starts.
+// Where the next unit is looked for, and where the row of the table starts that its sets have.
 pub struct RowCursor {
-    pub place: usize,
+    pub cursor: Cursor,
     pub row: usize,
-    pub gl: u8,
-    pub gr: u8,
 }
 
 // A unit, and the cursor after it.
@@ -40,24 +38,21 @@ impl RowCursor {
         ensures { λ r. ⌜ r ≡ firstRow ⌝ }
     {
         RowCursor {
-            place: 0,
+            cursor: Cursor::first(),
             row: row_of(0, 3),
-            gl: 0,
-            gr: 3,
         }
     }
 
-    // So many octets further, under the same sets.
+    // So many octets further, in the same state.
     fn moved(self, octets: usize) -> RowCursor
-        requires { ⌜ self .place + octets < 2 ^ 64 ⌝ }
+        requires { ⌜ self .cursor .place + octets < 2 ^ 64 ⌝ }
         ensures { λ r. ⌜ r ≡ movedBy self octets ⌝ }
     {
-        let place = self.place + octets;
+        let c = self.cursor;
+        let place = c.place + octets;
         RowCursor {
-            place: place,
+            cursor: c.placed_at(place),
             row: self.row,
-            gl: self.gl,
-            gr: self.gr,
         }
     }
 }
@@ -82,92 +77,89 @@ fn set_by(k: u8, gl: u8, gr: u8) -> u8
     gl
 }
 
-// The record of a unit of one octet, by its class.
-fn one(at: usize, b: u8, k: u8, set: u8) -> Unit
-    ensures { λ r. ⌜ r ≡ oneRecord at b k set ⌝ }
+// The record of a unit of one octet at a cursor, by its class.
+fn one(c: Cursor, b: u8, k: u8, set: u8) -> Unit
+    ensures { λ r. ⌜ r ≡ oneRecord c b k set ⌝ }
 {
     let code = if_character(k, b % 128) as u16;
-    let start = (at % 0x1_0000_0000) as u32;
+    let start = (c.place % 0x1_0000_0000) as u32;
     Unit {
         kind: k % 4,
         set: if_character(k, set),
         code: code,
         start: start,
         length: 1,
+        direction: c.direction(),
+        depth: c.depth as u16,
     }
 }
 
 // Any unit, by its element.
 fn by_element(s: &[u8], c: RowCursor) -> RowTurn
-    ensures { λ r. ⌜ r ≡ turnOf (now (s .entry)) (cursorIn c) ⌝ }
+    ensures { λ r. ⌜ r ≡ turnOf (now (s .entry)) (c .cursor) ⌝ }
 {
-    let r = cursor::by_element(
-        s,
-        Cursor {
-            place: c.place,
-            gl: c.gl,
-            gr: c.gr,
-        },
-    );
+    let r = cursor::by_element(s, c.cursor);
     let next = r.cursor;
     let unit = r.unit;
     RowTurn {
         cursor: RowCursor {
-            place: next.place,
+            cursor: next,
             row: row_of(next.gl, next.gr),
-            gl: next.gl,
-            gr: next.gr,
         },
         unit: unit,
     }
 }
 
-// The record of a character of this set in GL.
-fn two_left(at: usize, b: u8, d: u8, set: u8) -> Unit
+// The record of a character in GL at a cursor.
+fn two_left(c: Cursor, b: u8, d: u8) -> Unit
     requires { ⌜ (b < 128) × (d < 128) ⌝ }
-    ensures { λ r. ⌜ r ≡ twoOf at b d set ⌝ }
+    ensures { λ r. ⌜ r ≡ twoRecord c b d (c .gl) ⌝ }
 {
     let code = b as u16 * 256 + d as u16;
-    let start = (at % 0x1_0000_0000) as u32;
+    let start = (c.place % 0x1_0000_0000) as u32;
     Unit {
         kind: kind::CHARACTER,
-        set: set,
+        set: c.gl,
         code: code,
         start: start,
         length: 2,
+        direction: c.direction(),
+        depth: c.depth as u16,
     }
 }
 
 // A tab, a newline, a space or a character, by its class.
 fn text_turn(s: &[u8], c: RowCursor, k: u8) -> RowTurn
-    requires { ⌜ Ready (now s) c × Classed (c .row) (now s) (c .place) k × (k ≤ 6) ⌝ }
-    ensures { λ r. ⌜ r ≡ turnOf (now (s .entry)) (cursorIn c) ⌝ }
+    requires { ⌜ Ready (now s) c × Classed (c .row) (now s) (c .cursor .place) k × (k ≤ 6) ⌝ }
+    ensures { λ r. ⌜ r ≡ turnOf (now (s .entry)) (c .cursor) ⌝ }
 {
-    let at = c.place;
+    let j = c.cursor;
+    let at = j.place;
     if k == TWO_GL {
         return RowTurn {
             cursor: c.moved(2),
-            unit: two_left(at, s[at], s[at + 1], c.gl),
+            unit: two_left(j, s[at], s[at + 1]),
         };
     }
     if k <= ONE_GR {
         return RowTurn {
             cursor: c.moved(1),
-            unit: one(at, s[at], k, set_by(k, c.gl, c.gr)),
+            unit: one(j, s[at], k, set_by(k, j.gl, j.gr)),
         };
     }
     RowTurn {
         cursor: c.moved(2),
-        unit: two_octets(at, s[at], s[at + 1], c.gr),
+        unit: two_octets(at, s[at], s[at + 1], j.gr, j.direction(), j.depth as u16),
     }
 }
 
 // The cursor after a designation, where one stands at it.
 fn passed(s: &[u8], c: RowCursor) -> RowCursor
     requires { ⌜ Ready (now s) c ⌝ }
-    ensures { λ r. ⌜ r ≡ rowed (passedOf (now (s .entry)) (cursorIn c)) ⌝ }
+    ensures { λ r. ⌜ r ≡ rowed (passedOf (now (s .entry)) (c .cursor)) ⌝ }
 {
-    let at = c.place;
+    let j = c.cursor;
+    let at = j.place;
     if s.len() - at < 4 {
         return c;
     }
@@ -180,30 +172,33 @@ fn passed(s: &[u8], c: RowCursor) -> RowCursor
         return c;
     }
     let side = d.side;
-    let place = at + d.octets;
+    let mut next = j.placed_at(at + d.octets);
     match side {
-        Side::GL => RowCursor {
-            place: place,
-            row: row_of(set, c.gr),
-            gl: set,
-            gr: c.gr,
-        },
-        Side::GR => RowCursor {
-            place: place,
-            row: row_of(c.gl, set),
-            gl: c.gl,
-            gr: set,
-        },
+        Side::GL => {
+            next.gl = set;
+            RowCursor {
+                cursor: next,
+                row: row_of(set, j.gr),
+            }
+        }
+        Side::GR => {
+            next.gr = set;
+            RowCursor {
+                cursor: next,
+                row: row_of(j.gl, set),
+            }
+        }
     }
 }
 
 // The unit after a designation, where one stands at the cursor, and else the unit at it.
 fn escaped(t: &[u8], s: &[u8], c: RowCursor) -> RowTurn
     requires { ⌜ (now t ≡ table) × Ready (now s) c ⌝ }
-    ensures { λ r. ⌜ r ≡ turnOf (now (s .entry)) (cursorIn c) ⌝ }
+    ensures { λ r. ⌜ r ≡ turnOf (now (s .entry)) (c .cursor) ⌝ }
 {
     let d = passed(s, c);
-    let k = class_at(t, s, d.place, d.row);
+    let j = d.cursor;
+    let k = class_at(t, s, j.place, d.row);
     if k <= TWO_GR {
         return text_turn(s, d, k);
     }
@@ -213,9 +208,10 @@ fn escaped(t: &[u8], s: &[u8], c: RowCursor) -> RowTurn
 // The next unit, and the cursor after it.
 pub fn turn(t: &[u8], s: &[u8], c: RowCursor) -> RowTurn
     requires { ⌜ (now t ≡ table) × Ready (now s) c ⌝ }
-    ensures { λ r. ⌜ r ≡ turnOf (now (s .entry)) (cursorIn c) ⌝ }
+    ensures { λ r. ⌜ r ≡ turnOf (now (s .entry)) (c .cursor) ⌝ }
 {
-    let k = class_at(t, s, c.place, c.row);
+    let j = c.cursor;
+    let k = class_at(t, s, j.place, c.row);
     if k <= TWO_GR {
         return text_turn(s, c, k);
     }

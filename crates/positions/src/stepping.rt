@@ -91,13 +91,7 @@ pub fn hand(p: Position, item: Item) -> Handed
         Item::Ended(answer) => Handed {
             position: p,
             answer: answer,
-            unit: Unit {
-                kind: 0,
-                set: 0,
-                code: 0,
-                start: 0,
-                length: 0,
-            },
+            unit: Unit::BLANK,
             given: 0,
         },
     }

@@ -38,7 +38,7 @@ next-of s (stops f e) k = absurd (omega arith)
 next-of s (passes t e a) k = next-of s a k
 next-of s {at} (reads {p = p} {next = next} {es = es} t m e a) k =
     record {
-      unit = recordOf p at;
+      unit = recordOf p at (next .directions);
       place = at + size p;
       to = next;
       rest = recordsFrom es;

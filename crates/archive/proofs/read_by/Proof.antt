@@ -163,7 +163,7 @@ module _ {M : Type 1} (𝓤 : kit.URA M) (H : kit.Heap 𝓤) (𝓜 : kit.Model �
   within : (i : ℕ) → i < n → i < length (got i)
   within i less = subst (λ (m : ℕ). i < m) (sym (same i)) (inside i less)
 
-  place-fits : (i : ℕ) → i < n → i * 12 < 2 ^ 64
+  place-fits : (i : ℕ) → i < n → i * 16 < 2 ^ 64
   place-fits i less = omega (arith, inside i less, room .1)
 
   -- the list and the cursor after a turn
@@ -222,7 +222,7 @@ module _ {M : Type 1} (𝓤 : kit.URA M) (H : kit.Heap 𝓤) (𝓜 : kit.Model �
         -- the place of the element
         sets ! 7 (bin ! (var ! 15 refl) (lit ! tt) (record { fits = place-fits (i .0) less })) refl (in64 (place-fits (i .0) less)) $
         sets ! 5 (bin ! (part ! 23 0 refl refl refl) (var ! 7 refl) tt) refl (tt, tt) $
-        recasts ! 5 (kit.vptr b) (sym (kit.place-is 12 o (i .0))) refl $
+        recasts ! 5 (kit.vptr b) (sym (kit.place-is 16 o (i .0))) refl $
         -- the element is taken out, stored to, and put back
         move ! (1 ∷ []) $ kit.elem-out ! U.the-row (Is U.the-row) (kit.shows 𝓤 H A U.the-row) (LL.vals U.the-type U′.the-laws)
         (LL.tells U.the-type U′.the-laws) fullShare (got (i .0)) (i .0) (unit (i .0)) b o (within (i .0) less) (λ _.

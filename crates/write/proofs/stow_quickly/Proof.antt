@@ -156,7 +156,7 @@ module _ {M : Type 1} (𝓤 : kit.URA M) (H : kit.Heap 𝓤) (𝓜 : kit.Model �
   inside : (g : Going) → g .0 < end g → g .0 < length us
   inside g less = omega (arith, less, known g .most, n-most)
 
-  place-fits : (g : Going) → g .0 < end g → g .0 * 12 < 2 ^ 64
+  place-fits : (g : Going) → g .0 < end g → g .0 * 16 < 2 ^ 64
   place-fits g less = omega (arith, inside g less, s-room .1)
 
   next-fits : (g : Going) → g .0 < end g → g .0 + 1 < 2 ^ 64
@@ -225,7 +225,7 @@ module _ {M : Type 1} (𝓤 : kit.URA M) (H : kit.Heap 𝓤) (𝓜 : kit.Model �
         -- the record is read
         sets ! 11 (bin ! (var ! 17 refl) (lit ! tt) (record { fits = place-fits g less })) refl (in64 (place-fits g less)) $
         sets ! 9 (bin ! (part ! 27 0 refl refl refl) (var ! 11 refl) tt) refl (tt, tt) $
-        recasts ! 9 (kit.vptr (s .ptr .0)) (sym (kit.place-is 12 (s .ptr .1) (g .0))) refl $
+        recasts ! 9 (kit.vptr (s .ptr .0)) (sym (kit.place-is 16 (s .ptr .1) (g .0))) refl $
         split ! $ move ! (1 ∷ []) $ copies ! (named 0) κ₀ U.the-row s (vs ∷ []) $ past ! $ past ! $ move ! (0 ∷ 2 ∷ []) $
         kit.looks-slice ! tt U.the-row (Is U.the-row) (shows 𝓤 H A U.the-row) (LL.vals U.the-type U′.the-laws) (LL.tells U.the-type U′.the-laws)
         (LL.copy U.the-type U′.the-copy 𝓤 H A W) us (s .ptr .0) (s .ptr .1) (λ q.

@@ -261,7 +261,7 @@ module _ {M : Type 1} (𝓤 : kit.URA M) (H : kit.Heap 𝓤) (𝓜 : kit.Model �
   inside : (i : ℕ) → Holds (ltb i n) → i < length us
   inside i less = let h : i < n = ltb→lt i n less in let k : n ≤ length us = looked-most (length us) in omega arith
 
-  place-fits : (i : ℕ) → Holds (ltb i n) → i * 12 < 2 ^ 64
+  place-fits : (i : ℕ) → Holds (ltb i n) → i * 16 < 2 ^ 64
   place-fits i less = let h : i < length us = inside i less in omega (arith, s-room .1)
 
   next-fits : (i : ℕ) → Holds (ltb i n) → i + 1 < 2 ^ 64
@@ -309,7 +309,7 @@ module _ {M : Type 1} (𝓤 : kit.URA M) (H : kit.Heap 𝓤) (𝓜 : kit.Model �
         -- the record is read
         sets ! 26 (bin ! (var ! 34 refl) (lit ! tt) (record { fits = place-fits (g .0) less })) refl (in64 (place-fits (g .0) less)) $
         sets ! 24 (bin ! (part ! 46 0 refl refl refl) (var ! 26 refl) tt) refl (tt, tt) $
-        recasts ! 24 (kit.vptr (s .ptr .0)) (sym (kit.place-is 12 (s .ptr .1) (g .0))) refl $
+        recasts ! 24 (kit.vptr (s .ptr .0)) (sym (kit.place-is 16 (s .ptr .1) (g .0))) refl $
         split ! $ move ! (1 ∷ []) $ copies ! (named 0) κ₀ U.the-row s (vs ∷ []) $ past ! $ past ! $ move ! (0 ∷ 2 ∷ []) $
         kit.looks-slice ! tt U.the-row (Is U.the-row) (shows 𝓤 H A U.the-row) (LL.vals U.the-type U′.the-laws) (LL.tells U.the-type U′.the-laws)
         (LL.copy U.the-type U′.the-copy 𝓤 H A W) us (s .ptr .0) (s .ptr .1) (λ p.

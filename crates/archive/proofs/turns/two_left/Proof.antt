@@ -11,4 +11,7 @@ two-left-spec =
     (search arith)
     (search arith)
     (search arith)
-    (λ c. rw (mod-eq-of-lt (c .pre .0), mod-eq-of-lt (c .pre .1))))
+    (search arith)
+    (search arith)
+    (λ c. let pre = c .before .before .before .pre in
+    rw (c .before .direction .ensures, mod-eq-of-lt (pre .0), mod-eq-of-lt (pre .1))))

@@ -4,4 +4,4 @@ use Rattle.archive.proofs.turns.RowCursor.first.Statement.{statement}
 use Rattle.archive.proofs.turns.RowCursor.first.Tie as tie
 
 pub first-spec : {M : Type 1} → statement M
-first-spec = tie.close (tie.spec (search arith) (λ c. rw (c .row-of .ensures)))
+first-spec = tie.close (tie.spec (search arith) (search arith) (λ c. rw (c .row-of .ensures, c .before .first .ensures)))
