@@ -27,13 +27,15 @@ use Rattle.units.specs.Next.{nextOf}
 use Rattle.units.specs.declared.Outcome.{Outcome}
 use Rattle.units.specs.declared.Outcome.the-variants.{Gives, Stops}
 use Rattle.units.proofs.Turn.{outcome, gives-end, gives-refused, gives-silent, gives-found}
-use Rattle.cursor.specs.Cursor.{flagged, cursor, stateIn, outcomeTurn, elementTurn, placedOf, passedOf}
+use Rattle.cursor.specs.Cursor.{flagged, cursor, stateIn, outcomeTurn, elementTurn, markedTurn, placedOf, passedOf}
 use Rattle.cursor.specs.declared.Cursor.{Cursor}
+use Rattle.cursor.specs.declared.Turn.{Turn}
+use Rattle.cursor.proofs.Marked.{marked-is}
 use Rattle.cursor.proofs.Fits.{placed-fits}
 use Rattle.octet_table.specs.Table.{numberOf, classOf, rowOf}
 use Rattle.octet_table.proofs.Rule.{row-most, class-number}
 use Rattle.archive.specs.Passes.{Classed}
-use Rattle.archive.specs.Turns.{rowed, movedBy, turnOf, Ready, ifCharacter, setBy, oneRecord, twoRecord}
+use Rattle.archive.specs.Turns.{rowed, rowedTurn, movedBy, turnOf, Ready, ifCharacter, setBy, oneRecord, twoRecord}
 use Rattle.archive.specs.declared.turns.RowCursor.{RowCursor}
 use Rattle.archive.specs.declared.turns.RowTurn.{RowTurn}
 use Rattle.archive.proofs.Passes.{number-is, sequence-at}
@@ -148,6 +150,10 @@ module _ (s : List ℕ) (c : RowCursor) (ready : Ready s c) where
 
   gives : outcome s at st ≡ given
   gives = sym (next-short s at st short) ∙ ready .next
+
+  -- a mark that is read by its second octet is that unit
+  pub mark-turn : (t : Turn) → t ≡ markedTurn s k → rowedTurn t ≡ turnOf s k
+  mark-turn t e = ap rowedTurn (e ∙ marked-is s k short (ready .next))
 
   -- the turn is that of the unit that the elements give
   turn-is : {u : UnitRecord} {p : ℕ} {a : State} → Gives u p a ≡ outcome s at st → turned u p a ≡ turnOf s k

@@ -8,6 +8,7 @@ use Rattle.base.specs.Choice.{pick}
 use Rattle.base.specs.declared.Unit.{Unit as UnitRecord}
 use Rattle.cursor.specs.Cursor.{first, placedAt, stateIn, elementTurn, twoOf}
 use Rattle.cursor.specs.declared.Cursor.{Cursor}
+use Rattle.cursor.specs.declared.Turn.{Turn}
 use Rattle.octet_table.specs.Table.{rowOf}
 use Rattle.state.specs.Directions.{inForceOf}
 use Rattle.state.specs.State.{sets}
@@ -27,9 +28,12 @@ firstRow = rowed first
 abbrev pub movedBy : RowCursor → ℕ → RowCursor
 movedBy c n = record { cursor = placedAt (c .cursor .place + n) (c .cursor); row = c .row }
 
+abbrev pub rowedTurn : Turn → RowTurn
+rowedTurn t = record { unit = t .unit; cursor = rowed (t .cursor) }
+
 -- the unit at a cursor, by the elements from there on
 abbrev pub turnOf : List ℕ → Cursor → RowTurn
-turnOf s c = record { unit = elementTurn s c .unit; cursor = rowed (elementTurn s c .cursor) }
+turnOf s c = rowedTurn (elementTurn s c)
 
 -- a cursor that has the row of its sets, and from which a unit is next
 pub record Ready (s : List ℕ) (c : RowCursor) : Type 0 where

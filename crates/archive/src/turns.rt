@@ -4,13 +4,15 @@ ghost use Prim.Native.Nat.{_+_, _<_, _≤_, _^_};
 ghost use Rattle.octet_table.specs.Table.{table};
 ghost use Rattle.cursor.specs.Cursor.{passedOf};
 ghost use Rattle.archive.specs.Passes.{Classed};
-ghost use Rattle.archive.specs.Turns.{rowed, firstRow, Ready, turnOf, movedBy, ifCharacter, setBy, oneRecord, twoRecord};
+ghost use Rattle.archive.specs.Turns.{rowed, rowedTurn, firstRow, Ready, turnOf, movedBy, ifCharacter, setBy, oneRecord, twoRecord};
 use crate::classes::class_at;
 use base::Unit;
 use base::kind;
 use charset::NO_SET;
 use charset::Side;
 use cursor::Cursor;
+use cursor::Turn;
+use cursor::marks::marked;
 use cursor::octets::two_octets;
 use designations::told;
 use octet_table::ESCAPE;
@@ -94,13 +96,12 @@ fn one(c: Cursor, b: u8, k: u8, set: u8) -> Unit
     }
 }
 
-// Any unit, by its element.
-fn by_element(s: &[u8], c: RowCursor) -> RowTurn
-    ensures { λ r. ⌜ r ≡ turnOf (now (s .entry)) (c .cursor) ⌝ }
+// A turn, with the row of the sets after it.
+fn with_row(t: Turn) -> RowTurn
+    ensures { λ r. ⌜ r ≡ rowedTurn t ⌝ }
 {
-    let r = cursor::by_element(s, c.cursor);
-    let next = r.cursor;
-    let unit = r.unit;
+    let next = t.cursor;
+    let unit = t.unit;
     RowTurn {
         cursor: RowCursor {
             cursor: next,
@@ -108,6 +109,21 @@ fn by_element(s: &[u8], c: RowCursor) -> RowTurn
         },
         unit: unit,
     }
+}
+
+// Any unit, by its element.
+fn by_element(s: &[u8], c: RowCursor) -> RowTurn
+    ensures { λ r. ⌜ r ≡ turnOf (now (s .entry)) (c .cursor) ⌝ }
+{
+    with_row(cursor::by_element(s, c.cursor))
+}
+
+// A mark.
+fn by_mark(s: &[u8], c: RowCursor) -> RowTurn
+    requires { ⌜ Ready (now s) c ⌝ }
+    ensures { λ r. ⌜ r ≡ turnOf (now (s .entry)) (c .cursor) ⌝ }
+{
+    with_row(marked(s, c.cursor))
 }
 
 // The record of a character in GL at a cursor.
@@ -216,7 +232,7 @@ pub fn turn(t: &[u8], s: &[u8], c: RowCursor) -> RowTurn
         return text_turn(s, c, k);
     }
     if k == MARK {
-        return by_element(s, c);
+        return by_mark(s, c);
     }
     // Two calls, so that the compiler leaves the function out of the loop over text.
     if k == ESCAPE {

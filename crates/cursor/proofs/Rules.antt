@@ -1,7 +1,7 @@
 -- The ladder's rules for the octets at a cursor: there is one, or the string ends there.
 use Rattle.element.proofs.Names.{ℕ, _+_, _<_, _≤_, _≡_, true, List, [], _∷_, length, getD, from, ladder, on-true, State}
 use Rattle.base.proofs.Ladder.{octet, ended}
-use Rattle.cursor.specs.Cursor.{textOctet, setAt, doubleOf, octetOf, quickOf, advanceAt}
+use Rattle.cursor.specs.Cursor.{afterCsi, markOf, textOctet, setAt, doubleOf, octetOf, quickOf, advanceAt}
 use Rattle.cursor.specs.declared.Cursor.{Cursor}
 use Rattle.cursor.specs.declared.Turn.{Turn}
 
@@ -11,6 +11,18 @@ module _ (s : List ℕ) (at : ℕ) (st : State) (other r : Turn) where
 
   pub on-quick-end : length s ≤ at → r ≡ quickOf at [] st other → r ≡ quickOf at (from at s) st other
   on-quick-end h e = ended (λ (t : List ℕ). quickOf at t st other) s at r h e
+
+  pub on-mark : at < length s → r ≡ markOf at (getD s at 0 ∷ from (at + 1) s) st other → r ≡ markOf at (from at s) st other
+  on-mark h e = octet (λ (t : List ℕ). markOf at t st other) s at r h e
+
+  pub on-mark-end : length s ≤ at → r ≡ markOf at [] st other → r ≡ markOf at (from at s) st other
+  on-mark-end h e = ended (λ (t : List ℕ). markOf at t st other) s at r h e
+
+  pub on-csi : at + 1 < length s → r ≡ afterCsi at (getD s (at + 1) 0 ∷ from (at + 1 + 1) s) st other → r ≡ afterCsi at (from (at + 1) s) st other
+  on-csi h e = octet (λ (t : List ℕ). afterCsi at t st other) s (at + 1) r h e
+
+  pub on-csi-end : length s ≤ at + 1 → r ≡ afterCsi at [] st other → r ≡ afterCsi at (from (at + 1) s) st other
+  on-csi-end h e = ended (λ (t : List ℕ). afterCsi at t st other) s (at + 1) r h e
 
 -- text of a set that is the one on its side
 module _ (at b : ℕ) (t : List ℕ) (set : ℕ) (st : State) (other r : Turn) where
@@ -32,5 +44,7 @@ module _ (s : List ℕ) (at : ℕ) (c : Cursor) (r : Turn) where
 
   pub on-advance-end : length s ≤ at → r ≡ advanceAt [] s c → r ≡ advanceAt (from at s) s c
   on-advance-end h e = ended (λ (t : List ℕ). advanceAt t s c) s at r h e
+
+pub ruleset marking = (on-mark, on-mark-end, on-csi, on-csi-end, ladder)
 
 pub ruleset reading = (on-quick, on-quick-end, on-double, on-double-end, on-advance, on-advance-end, ladder)

@@ -1,6 +1,6 @@
 -- The unit at a cursor of a string, if one is ahead, is that of the elements from there on (`advance-ahead`), where the cursor's sets are
--- theirs. An element that is not refused is the same under such a state (`next-ahead`, `by-element`); what is taken for text is the element
--- or is left to it (`text-turns`); and a designation that is passed is the element (`passed-on`).
+-- theirs. An element that is not refused is the same under such a state (`next-ahead`, `by-element`), and so is a mark (`by-marked`); what is taken
+-- for text is the element or is left to it (`text-turns`); and a designation that is passed is the element (`passed-on`).
 use Rattle.element.proofs.Names.{ℕ, _+_, _%_, _^_, _≤_, _<_, arith, _≡_, refl, ap, sym, _∙_, subst, Bool, true, false, List, [], _∷_, eqb, ltb}
 use Rattle.element.proofs.Names.{length, le-ltb, ltb-true, pick, from, UnitRecord, no-set, designatedOf, State, Part, Element, End, Refused}
 use Rattle.element.proofs.Names.{Silent, Found}
@@ -18,10 +18,12 @@ use Rattle.units.specs.Records.{recordOf, recordsFrom}
 use Rattle.units.specs.Next.{outcomeOf, nextOf}
 use Rattle.units.specs.declared.Outcome.{Outcome}
 use Rattle.units.specs.declared.Outcome.the-variants.{Gives}
-use Rattle.cursor.specs.Cursor.{flagged, kept, cursor, turn, outcomeTurn, elementTurn, placedOf, passedOf, textTurn, advanceAt, advanceOf}
+use Rattle.cursor.specs.Cursor.{flagged, kept, cursor, turn, outcomeTurn, elementTurn, markedTurn, placedOf, passedOf, textTurn, advanceAt}
+use Rattle.cursor.specs.Cursor.{advanceOf}
 use Rattle.cursor.specs.declared.Cursor.{Cursor}
 use Rattle.cursor.specs.declared.Turn.{Turn}
 use Rattle.cursor.proofs.Free.{Like, like, texted, like-texted, same-sets, Same, silent as same-silent, found as same-found, same-element}
+use Rattle.cursor.proofs.Marked.{marked-is}
 use Rattle.cursor.proofs.Quick.{Only, refused, found, textPart, textAt, Quick, as-text, as-other, quick-turn}
 
 -- a turn is that of a unit which is given
@@ -69,6 +71,14 @@ module _ (s : List ℕ) (short : length s ≤ limit.octets) where
   unfolding elementTurn
   by-element {at} {st} a like h = turned (cursor at st) (next-ahead a like h)
 
+  -- what is alike gives a unit
+  gives-some : {o given : Outcome} → Alike o given → (u : UnitRecord) × (place : ℕ) × (after : State) × (o ≡ Gives u place after)
+  gives-some (alike {u = u} {place = place} {st = st} {marked = m} {texted = t}) = (u, place, flagged m t st, refl)
+
+  by-marked : {at : ℕ} {st to : State} {es : Elements} → Ahead s at st es → Like st to → 1 ≤ length (recordsFrom es)
+      → Turns (markedTurn s (cursor at to)) (outcomeOf st es)
+  by-marked {at} {st} a like h = rw (marked-is s (cursor at st) short (gives-some (next-ahead a like h) .3)) (by-element a like h)
+
   -- ---- text
 
   same-part : {p q : Part} {st next : State} → Only q st (Found p next) → (q ≡ p) × (texted st ≡ next)
@@ -110,17 +120,17 @@ module _ (s : List ℕ) (short : length s ≤ limit.octets) where
   silent-by i (as-text k set code octets o) = absurd (not-silent o i)
 
   quick : (at : ℕ) {st to : State} (l : Like st to)
-      → Quick at st to (same-sets l) (elementTurn s (cursor at to)) (elementOf (from at s) st) (textTurn s (cursor at to))
+      → Quick at st to (same-sets l) (markedTurn s (cursor at to)) (elementOf (from at s) st) (textTurn s (cursor at to))
   unfolding textTurn
-  quick at {st} like = quick-turn at st (kept st) (same-sets like) (elementTurn s (cursor at st)) (from at s)
+  quick at {st} like = quick-turn at st (kept st) (same-sets like) (markedTurn s (cursor at st)) (from at s)
 
   text-turns : {at : ℕ} {st to : State} {es : Elements} → Ahead s at st es → Like st to → 1 ≤ length (recordsFrom es)
       → Turns (textTurn s (cursor at to)) (outcomeOf st es)
   unfolding recordsFrom outcomeOf
   text-turns (ends e) l h = absurd (omega arith)
   text-turns (stops f e) l h = absurd (omega arith)
-  text-turns {at} (passes t e a) l h = rw (silent-by (t .is) (quick at l)) (by-element (passes t e a) l h)
-  text-turns {at} (reads t m e a) l h = found-by (omega (arith, t .fits, short)) l (rw (t .is) at (quick at l)) (by-element (reads t m e a) l h)
+  text-turns {at} (passes t e a) l h = rw (silent-by (t .is) (quick at l)) (by-marked (passes t e a) l h)
+  text-turns {at} (reads t m e a) l h = found-by (omega (arith, t .fits, short)) l (rw (t .is) at (quick at l)) (by-marked (reads t m e a) l h)
 
   -- ---- designations
 

@@ -4,11 +4,14 @@ use Prim.Native.Nat.{ℕ, _+_, _*_, _%_, _^_}
 use mathlib.Core.Bool.{Bool, true, false}
 use mathlib.Core.List.{List, [], _∷_}
 use lib.Dec.{eqb, leb, ltb}
+use lib.ListN.{length}
 use Rattle.base.specs.Choice.{pick, from}
 use Rattle.base.specs.Kind as kind
+use Rattle.base.specs.Limit as limit
 use Rattle.base.specs.declared.Unit.{Unit as UnitRecord}
-use Rattle.state.specs.Directions.{directions, inForceOf}
-use Rattle.state.specs.State.{sets, state, fresh, designatedOf}
+use Rattle.state.specs.Directions.{directions, stepOf, inForceOf}
+use Rattle.state.specs.State.{sets, state, fresh, designatedOf, directedTo}
+use Rattle.state.specs.declared.directions.Step.{Step, the-variants.Goes, the-variants.Stops}
 use Rattle.state.specs.declared.Sets.{Sets}
 use Rattle.state.specs.declared.State.{State}
 use Rattle.designations.specs.Designation.{designationAt}
@@ -57,6 +60,44 @@ outcomeTurn c (Stops n place start to) = turn blank c
 
 unfoldable pub elementTurn : List ℕ → Cursor → Turn
 elementTurn s c = outcomeTurn c (nextOf s (c .place) (stateIn c))
+
+-- ---- marks, by their second octet alone, since the string is accepted
+
+-- a mark of a kind and so many octets, whose step by the direction rule is known
+unfoldable pub stepTurn : ℕ → ℕ → ℕ → State → Turn → Step → Turn
+stepTurn at k octets st other (Goes d) =
+    turn
+    (record {
+      kind = k;
+      set = 0;
+      code = 0;
+      start = at % 2 ^ 32;
+      length = octets;
+      direction = inForceOf d;
+      depth = d .depth;
+    })
+    (cursor (at + octets) (directedTo d st))
+stepTurn at k octets st other (Stops n) = other
+
+abbrev pub markTurn : ℕ → ℕ → ℕ → State → Turn → Turn
+markTurn at k octets st other = stepTurn at k octets st other (stepOf false k (st .directions))
+
+-- the octets t after 9B
+unfoldable pub afterCsi : ℕ → List ℕ → State → Turn → Turn
+afterCsi at [] st other = other
+afterCsi at (b ∷ t) st other =
+    pick (eqb b 0x31) (markTurn at kind.left-to-right 3 st other)
+    (pick (eqb b 0x32) (markTurn at kind.right-to-left 3 st other) (markTurn at kind.revert 2 st other))
+
+-- the octets at a place
+unfoldable pub markOf : ℕ → List ℕ → State → Turn → Turn
+markOf at [] st other = other
+markOf at (b ∷ t) st other = pick (eqb b 0x9B) (afterCsi at t st other) other
+
+-- a mark, and any other unit by its element
+unfoldable pub markedTurn : List ℕ → Cursor → Turn
+markedTurn s c =
+    pick (ltb limit.octets (length s)) (elementTurn s c) (markOf (c .place) (from (c .place) s) (stateIn c) (elementTurn s c))
 
 -- ---- designations
 
@@ -132,7 +173,7 @@ quickOf at [] st other = other
 quickOf at (b ∷ t) st other = pick (textOctet b) (octetOf at b t (setAt b (st .sets)) st other) other
 
 unfoldable pub textTurn : List ℕ → Cursor → Turn
-textTurn s c = quickOf (c .place) (from (c .place) s) (stateIn c) (elementTurn s c)
+textTurn s c = quickOf (c .place) (from (c .place) s) (stateIn c) (markedTurn s c)
 
 -- ---- the unit at a cursor: up to two designations are passed where there is an escape sequence
 

@@ -4,11 +4,12 @@ ghost use mathlib.Core.Path.{_≡_};
 ghost use Prim.Native.Nat.{_+_, _<_, _^_};
 ghost use lib.ListN.{length};
 ghost use Rattle.base.specs.Choice.{from};
-ghost use Rattle.cursor.specs.Cursor.{cursor, placedAt, first, stateIn, elementTurn, textOctet, setAt, single, double, doubleOf, textTurn, placedOf, passedOf};
+ghost use Rattle.cursor.specs.Cursor.{cursor, placedAt, first, stateIn, elementTurn, markedTurn, textOctet, setAt, single, double, doubleOf, textTurn, placedOf, passedOf};
 ghost use Rattle.cursor.specs.Cursor.{advanceOf};
 ghost use Rattle.state.specs.Directions.{inForceOf};
 ghost use Rattle.state.specs.State.{sets};
 ghost use Rattle.designations.specs.Designation.{designationAt};
+use crate::marks::marked;
 use crate::octets::one_octet;
 use crate::octets::two_octets;
 use base::Unit;
@@ -21,6 +22,7 @@ use state::State;
 use state::directions::Directions;
 use units::Outcome;
 
+pub mod marks;
 pub mod octets;
 
 // Where the next unit is looked for: a place of the string, the sets in force there, and the open directions, as `Directions` has them.
@@ -53,7 +55,7 @@ impl Cursor {
     }
 
     // The state there, as if neither a mark nor text had been read: it refuses nothing that the string's own state accepts.
-    fn state(self) -> State
+    pub fn state(self) -> State
         ensures { λ r. ⌜ r ≡ stateIn self ⌝ }
     {
         State {
@@ -94,7 +96,7 @@ impl Cursor {
 }
 
 // A place, with what a cursor keeps of a state.
-fn cursor_at(place: usize, st: State) -> Cursor
+pub fn cursor_at(place: usize, st: State) -> Cursor
     ensures { λ r. ⌜ r ≡ cursor place st ⌝ }
 {
     let directions = st.directions;
@@ -175,29 +177,29 @@ fn double_turn(c: Cursor, b: u8, d: u8, set: u8) -> Turn
 // A character of two octets that begins with b, where its set has two.
 fn or_two(s: &[u8], c: Cursor, b: u8, set: u8) -> Turn
     requires { ⌜ c .place < length (now s) ⌝ }
-    ensures { λ r. ⌜ r ≡ doubleOf (c .place) b (from (c .place + 1) (now (s .entry))) set (stateIn c) (elementTurn (now (s .entry)) c) ⌝ }
+    ensures { λ r. ⌜ r ≡ doubleOf (c .place) b (from (c .place + 1) (now (s .entry))) set (stateIn c) (markedTurn (now (s .entry)) c) ⌝ }
 {
     let at = c.place;
     if s.len() <= at + 1 {
-        return by_element(s, c);
+        return marked(s, c);
     }
     let d = s[at + 1];
     if b == 0x20 {
-        return by_element(s, c);
+        return marked(s, c);
     }
     if set < NO_SET {
         return double_turn(c, b, d, set);
     }
-    by_element(s, c)
+    marked(s, c)
 }
 
-// The unit at a cursor: a character or space by its octets alone, and any other unit by its element.
+// The unit at a cursor: a character or space by its octets alone, a mark by its second octet, and any other unit by its element.
 fn text_or_element(s: &[u8], c: Cursor) -> Turn
     ensures { λ r. ⌜ r ≡ textTurn (now (s .entry)) c ⌝ }
 {
     let at = c.place;
     if s.len() <= at {
-        return by_element(s, c);
+        return marked(s, c);
     }
     let b = s[at];
     if text_octet(b) {
@@ -207,7 +209,7 @@ fn text_or_element(s: &[u8], c: Cursor) -> Turn
         }
         return or_two(s, c, b, set);
     }
-    by_element(s, c)
+    marked(s, c)
 }
 
 // The cursor after a designation that was found.

@@ -14,11 +14,11 @@ use Rattle.element.specs.Start.{startOf, begunBy}
 use Rattle.element.proofs.Sizes.{found}
 use Rattle.grammar.proofs.Places.{at-passed}
 use Rattle.units.specs.Next.{outcomeOf, nextOf}
-use Rattle.cursor.specs.Cursor.{stateIn, placedAt, turn, outcomeTurn, elementTurn, textOctet, setAt, kindAt, ifGraphic, oneOf, doubleOf}
+use Rattle.cursor.specs.Cursor.{stateIn, placedAt, turn, outcomeTurn, elementTurn, markOf, markedTurn, textOctet, setAt, kindAt, ifGraphic, oneOf, doubleOf}
 use Rattle.cursor.specs.Cursor.{octetOf, quickOf, textTurn, advanceAt, advanceOf}
 use Rattle.cursor.specs.declared.Cursor.{Cursor}
 use Rattle.cursor.specs.declared.Turn.{Turn}
-use Rattle.cursor.proofs.Rules.{on-quick, on-text, on-double, on-advance}
+use Rattle.cursor.proofs.Rules.{on-mark, on-quick, on-text, on-double, on-advance}
 use Rattle.spans.specs.Spans.{any, ones, left-twos, right-twos, singleUnder, leftFirst, hasTwo, formAt, lesserOf, anyOf, ofForm, byForm, spanOf, Fits}
 use Rattle.spans.specs.Spans.{movedOf, standsAfter, oneUnitAt, twoOctetUnitAt, unitAfter}
 use Rattle.spans.specs.declared.Span.{Span}
@@ -87,15 +87,15 @@ module _ (s : List ℕ) (at : ℕ) (c : Cursor) (inside : at < length s) where
   Gives u octets = turn u (placedAt (at + octets) c) ≡ advanceOf s here
 
   -- an octet that is not an escape: the unit is that of text, or the element's
-  plain-turn : (r : Turn) → (b ≡ 0x1B → ⊥) → r ≡ quickOf at (b ∷ from (at + 1) s) st (elementTurn s here) → r ≡ advanceOf s here
+  plain-turn : (r : Turn) → (b ≡ 0x1B → ⊥) → r ≡ quickOf at (b ∷ from (at + 1) s) st (markedTurn s here) → r ≡ advanceOf s here
   unfolding advanceAt textTurn
-  plain-turn r n e = on-advance s at here r inside (on-ne b 0x1B _ _ _ n (on-quick s at st (elementTurn s here) r inside e))
+  plain-turn r n e = on-advance s at here r inside (on-ne b 0x1B _ _ _ n (on-quick s at st (markedTurn s here) r inside e))
 
   one-text : (set : ℕ) → Text b set (st .sets) → set < first-double → Gives (oneUnitAt s at c) 1
   unfolding octetOf
   one-text set t l =
       plain-turn _ (λ q. omega (arith, q, t .high))
-      (rw (← (t .of)) (on-text at b _ set st (elementTurn s here) _ (t .is) (t .of) (on-lt set first-double _ _ _ l refl)))
+      (rw (← (t .of)) (on-text at b _ set st (markedTurn s here) _ (t .is) (t .of) (on-lt set first-double _ _ _ l refl)))
 
   two-text : (set : ℕ) → Text b set (st .sets) → 0x20 < b → at + 1 < length s → hasTwo set ≡ true
       → Gives (twoOctetUnitAt s at set c) 2
@@ -103,29 +103,41 @@ module _ (s : List ℕ) (at : ℕ) (c : Cursor) (inside : at < length s) where
   two-text set t k h e =
       let two = pick-last (ltb set first-double) (ltb set no-set) e in
       plain-turn _ (λ q. omega (arith, q, k))
-      (on-text at b _ set st (elementTurn s here) _ (t .is) (t .of)
+      (on-text at b _ set st (markedTurn s here) _ (t .is) (t .of)
       (on-ge set first-double _ _ _ (ltb-false set first-double (two .0))
-      (on-double s at b set st (elementTurn s here) _ h
+      (on-double s at b set st (markedTurn s here) _ h
       (on-ne b 0x20 _ _ _ (λ q. omega (arith, q, k)) (on-lt set no-set _ _ _ (ltb-true set no-set (two .1)) refl)))))
 
   module _ (short : length s ≤ limit.octets) where
-    -- the octet x of kind k, which is no text and leaves the state
-    blank-turn : (x k : ℕ) → b ≡ x → (x ≡ 0x1B → ⊥) → textOctet x ≡ false
-        → oneOf at x (setAt x (st .sets)) force depth ≡ record { kind = k; set = 0; code = 0; start = at % 2 ^ 32; length = 1; direction = force; depth = depth }
-        → ((t : List ℕ) → elementOf (x ∷ t) st ≡ Found (part k 0 0 0 1 false) st)
-        → Gives (oneUnitAt s at c) 1
-    unfolding quickOf elementTurn nextOf outcomeOf outcomeTurn pick
-    blank-turn x k e n t g f =
-        let i : elementOf (from at s) st ≡ Found (part k 0 0 0 1 false) st = rw (from-octet s at inside, e) (f _) in
+    -- an element of one octet and kind k that leaves the state
+    abbrev blank-record : ℕ → UnitRecord
+    blank-record k = record { kind = k; set = 0; code = 0; start = at % 2 ^ 32; length = 1; direction = force; depth = depth }
+
+    blank-element : (k : ℕ) → elementOf (from at s) st ≡ Found (part k 0 0 0 1 false) st → (u : UnitRecord) → u ≡ blank-record k
+        → turn u (placedAt (at + 1) c) ≡ elementTurn s here
+    unfolding elementTurn nextOf outcomeOf outcomeTurn pick
+    blank-element k i u g =
         let m : at % 2 ^ 32 ≡ at + 0 = mod-eq-of-lt (omega (arith, inside, short)) ∙ (let z : at ≡ at + 0 = omega arith in z) in
         let z : at + 1 ≡ at + (0 + 1) = omega arith in
-        plain-turn _ (rw e n) (on-false (textOctet b) _ _ _ (rw e t)
-        (rw (e, g, le-ltb limit.octets (length s) short, at-passed s at st _ refl found i, m, z)))
+        rw (g, le-ltb limit.octets (length s) short, at-passed s at st _ refl found i, m, z)
+
+    -- the octet x of kind k, which is neither text nor mark
+    blank-turn : (x k : ℕ) → b ≡ x → (x ≡ 0x1B → ⊥) → (x ≡ 0x9B → ⊥) → textOctet x ≡ false
+        → oneOf at x (setAt x (st .sets)) force depth ≡ blank-record k
+        → ((t : List ℕ) → elementOf (x ∷ t) st ≡ Found (part k 0 0 0 1 false) st)
+        → Gives (oneUnitAt s at c) 1
+    unfolding quickOf markOf markedTurn
+    blank-turn x k e n q t g f =
+        let r = turn (oneUnitAt s at c) (placedAt (at + 1) c) in
+        let i : elementOf (from at s) st ≡ Found (part k 0 0 0 1 false) st = rw (from-octet s at inside, e) (f _) in
+        plain-turn r (rw e n) (on-false (textOctet b) _ _ _ (rw e t)
+        (on-ge limit.octets (length s) _ _ _ short (on-mark s at st (elementTurn s here) r inside
+        (on-ne b 0x9B _ _ _ (rw e q) (blank-element k i _ (rw e g))))))
 
     one-by : Single b (st .sets) → Gives (oneUnitAt s at c) 1
     unfolding shapeOf startOf begunBy directedOf steppedOf stepOf textOctet kindAt ifGraphic pick
-    one-by (tab i) = blank-turn 0x09 kind.tab i (λ q. omega arith) refl refl (λ _. refl)
-    one-by (newline i) = blank-turn 0x0A kind.newline i (λ q. omega arith) refl refl (λ _. refl)
+    one-by (tab i) = blank-turn 0x09 kind.tab i (λ q. omega arith) (λ q. omega arith) refl refl (λ _. refl)
+    one-by (newline i) = blank-turn 0x0A kind.newline i (λ q. omega arith) (λ q. omega arith) refl refl (λ _. refl)
     one-by (text set t l) = one-text set t l
 
 -- ---- the spans

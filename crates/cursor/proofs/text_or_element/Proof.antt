@@ -7,7 +7,7 @@ use Rattle.cursor.proofs.text_or_element.Tie as tie
 
 returns : tie.Need-returns
 unfolding quickOf textTurn
-returns c = on-quick-end _ _ _ _ _ (c .before .if1 .taken) (c .by-element .ensures)
+returns c = on-quick-end _ _ _ _ _ (c .before .if1 .taken) (c .marked .ensures)
 
 returns-2 : tie.Need-returns-2
 unfolding octetOf textTurn
@@ -30,7 +30,7 @@ unfolding quickOf textTurn
 returns-4 c =
     let read = c .before in
     on-quick _ _ _ _ _ (read .before .before .before .if1 .left)
-    (on-false _ _ _ _ (sym (read .before .text-octet .ensures) ∙ read .if2 .left) (c .by-element2 .ensures))
+    (on-false _ _ _ _ (sym (read .before .text-octet .ensures) ∙ read .if2 .left) (c .marked2 .ensures))
 
 pub text-or-element-spec : {M : Type 1} → statement M
 text-or-element-spec =
