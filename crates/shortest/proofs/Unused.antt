@@ -1,12 +1,13 @@
 -- Records that are alike in the fields that their kind uses stand for the same unit (`same-unit`), so that lists of such records have the
--- same reading, answer and output (`same-reading`, `same-answer`, `same-output`).
+-- same reading, answer and output (`same-reading`, `same-answer`, `same-output`). Records that differ in direction and depth alone are alike, so that
+-- whatever a list has there its reading, answer and output are the same (`redirected-reading`, `redirected-answer`, `redirected-output`).
 use Rattle.element.proofs.Names.{ℕ, suc, _≡_, refl, sym, ap, ap₂, _∙_, List, Option, none, inl, inr, length, eqb, ltb, eqb-true, UnitRecord, test}
 use Rattle.element.proofs.Names.{undirected, Directions, Step, Goes, Stops}
 use Rattle.base.specs.Kind as kind
 use Rattle.grammar.specs.Units.{TextUnit, unitOf}
 use Rattle.grammar.specs.Records.{readable, unitRead, prepend, listReading}
 use Rattle.shortest.specs.Records.{fault, onStep, checkRecords, writerAnswer, writerOutput}
-use Rattle.shortest.specs.Unused.{Alike, AllAlike, none, more}
+use Rattle.shortest.specs.Unused.{Alike, AllAlike, none, more, Redirected, AllRedirected, none-redirected, one-redirected}
 
 module _ (o : List ℕ) where
   -- by the kind: a segment, a character, one of the others, or none
@@ -48,3 +49,21 @@ module _ (o : List ℕ) where
   pub same-output : {rs qs : List UnitRecord} → AllAlike rs qs → (work : ℕ) (out : List ℕ) → writerOutput rs o work out ≡ writerOutput qs o work out
   unfolding writerOutput
   same-output {rs} {qs} a work out = rw (same-answer a work (length out), same-reading a)
+
+-- ---- direction and depth
+
+redirected-alike : {rs qs : List UnitRecord} → AllRedirected rs qs → AllAlike rs qs
+redirected-alike none-redirected = none
+redirected-alike (one-redirected h rest) =
+    more (record { kinds = h .kinds; sets = λ _. h .sets; codes = λ _. h .codes; starts = λ _. h .starts; lengths = λ _. h .lengths })
+    (redirected-alike rest)
+
+module _ (o : List ℕ) {rs qs : List UnitRecord} (a : AllRedirected rs qs) where
+  pub redirected-reading : listReading o rs ≡ listReading o qs
+  redirected-reading = same-reading o (redirected-alike a)
+
+  pub redirected-answer : (work m : ℕ) → writerAnswer rs o work m ≡ writerAnswer qs o work m
+  redirected-answer = same-answer o (redirected-alike a)
+
+  pub redirected-output : (work : ℕ) (out : List ℕ) → writerOutput rs o work out ≡ writerOutput qs o work out
+  redirected-output = same-output o (redirected-alike a)

@@ -1,2 +1,3 @@
 pub mod Records
 pub mod Next
+pub mod Directed

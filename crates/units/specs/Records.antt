@@ -13,7 +13,7 @@ abbrev pub blank : UnitRecord
 blank = record { kind = 0; set = 0; code = 0; start = 0; length = 0; direction = 0; depth = 0 }
 
 -- the record of a unit whose element starts at a place: its start and length are those of the unit's own octets (rule U2), its direction is the
--- one in force after the element, and its depth how many are then open (rule U9)
+-- one in force after the element, and its depth how many are then open (rule U10)
 abbrev pub recordOf : Part → ℕ → Directions → UnitRecord
 recordOf p at d =
     record {
