@@ -11,12 +11,16 @@
 #include <string.h>
 
 #include "calls.h"
+#include "library.h"
 #include "libx11.h"
 #include "yardstick.h"
 
 #ifdef WITH_LIMIT
 #include "limit.h"
 #endif
+
+static ctext_unit *const units = (void *)lent_list;
+static ctext_reader *ends; // of each string the reader that has handed out the last unit
 
 // ---- the functions beside those of calls.c, each on string number i of the corpus in hand
 
@@ -36,13 +40,13 @@ static size_t run_write_shared(size_t i)
     if (!name[0]) {
         memset(name, 'a', SHARED_NAME);
         name[SHARED_NAME] = 2;
-        for (size_t k = 0; k < CTEXT_MOST_UNITS; k++) shared[k] = (ctext_unit){CTEXT_KIND_SEGMENT, 0, 0x31, 0, sizeof name};
+        for (size_t k = 0; k < CTEXT_MOST_UNITS; k++) shared[k] = (ctext_unit){.kind = CTEXT_KIND_SEGMENT, .code = 0x31, .length = sizeof name};
     }
     return ctext_write(shared, corpus.notes[i].length, name, sizeof name, work, sizeof work, out, sizeof out).place;
 }
 
 // One call more, at the end.
-static size_t run_next_at_end(size_t i) { return ctext_next(corpus.notes[i].octets, corpus.notes[i].length, prepared[i].end).answer.place; }
+static size_t run_next_at_end(size_t i) { return ctext_next(corpus.notes[i].octets, corpus.notes[i].length, ends[i]).answer.place; }
 
 static size_t run_x11_read(size_t i) { return x11_read(corpus.notes[i].octets, corpus.notes[i].length); }
 
@@ -60,7 +64,15 @@ static struct function others[] = {{"next at the end", run_next_at_end, 0}, {"wr
 
 // ---- what has to hold before anything is measured
 
-static bool same_unit(const ctext_unit *a, const ctext_unit *b) { return a->kind == b->kind && a->set == b->set && a->code == b->code; }
+// All but where the octets stand, which may be another place in what was written.
+static bool same_unit(const ctext_unit *a, const ctext_unit *b)
+{
+    return a->kind == b->kind && a->set == b->set && a->code == b->code && a->direction == b->direction && a->depth == b->depth;
+}
+
+static const ctext_unit *unit_kept(size_t i, size_t k) { return (const ctext_unit *)prepared[i].lists[AFTER].units + k; }
+
+static size_t count_kept(size_t i) { return prepared[i].lists[AFTER].count; }
 
 static bool same_answer(ctext_answer a, ctext_answer b) { return a.number == b.number && a.place == b.place && a.count == b.count; }
 
@@ -69,32 +81,32 @@ static void prepare_read(const char *path, size_t i)
     struct note n = corpus.notes[i];
     ctext_answer a = ctext_read(n.octets, n.length, units, CTEXT_MOST_UNITS);
     require(a.number == 0 && a.count == ctext_check(n.octets, n.length).count, "read gives another answer than check", path, i);
-    keep_units(i, a.count);
+    keep_units(i, AFTER, a.count, sizeof *units);
 }
 
 // The list is emptied before, so that what `read` left there is not taken for what the archive reader reads.
 static void prepare_archive(const char *path, size_t i)
 {
     struct note n = corpus.notes[i];
-    size_t size = prepared[i].count * sizeof *units;
+    size_t size = count_kept(i) * sizeof *units;
     ctext_answer first = ctext_check(n.octets, n.length);
     memset(units, 0, size);
     require(same_answer(ctext_archive_check(n.octets, n.length), first), "archive_check gives another answer than check", path, i);
     require(same_answer(ctext_archive_read(n.octets, n.length, units, CTEXT_MOST_UNITS), first), "archive_read gives another answer", path, i);
-    require(!memcmp(units, prepared[i].units, size), "archive_read gives other units than read", path, i);
+    require(!memcmp(units, unit_kept(i, 0), size), "archive_read gives other units than read", path, i);
 }
 
 // How many runs the units of a string make: stretches of characters and spaces that follow each other on one side.
-static size_t runs_of(struct note n, const ctext_unit *list, size_t count)
+static size_t runs_of(struct note n, const ctext_unit *kept, size_t count)
 {
     size_t runs = 0, end = 0;
     int side = -1;
     for (size_t k = 0; k < count; k++) {
-        bool text = list[k].kind <= CTEXT_KIND_SPACE;
-        int own = text ? n.octets[list[k].start] / 128 : -1;
-        runs += text && (own != side || list[k].start != end);
+        bool text = kept[k].kind <= CTEXT_KIND_SPACE;
+        int own = text ? n.octets[kept[k].start] / 128 : -1;
+        runs += text && (own != side || kept[k].start != end);
         side = own;
-        end = list[k].start + list[k].length;
+        end = kept[k].start + kept[k].length;
     }
     return runs;
 }
@@ -102,7 +114,7 @@ static size_t runs_of(struct note n, const ctext_unit *list, size_t count)
 static void prepare_runs(const char *path, size_t i)
 {
     struct note n = corpus.notes[i];
-    size_t runs = prepared[i].runs = runs_of(n, prepared[i].units, prepared[i].count);
+    size_t runs = prepared[i].runs = runs_of(n, unit_kept(i, 0), count_kept(i));
     require(ctext_run(n.octets, n.length, runs).answer.number == CTEXT_BAD_UNIT, "it has more runs", path, i);
     require(!runs || ctext_run(n.octets, n.length, runs - 1).answer.number == 0, "it has fewer runs", path, i);
     require(!functions[NEXT_RUN].run || functions[NEXT_RUN].run(i) == runs, "next_run gives another number of runs", path, i);
@@ -114,26 +126,28 @@ static void prepare_next(const char *path, size_t i)
     struct note n = corpus.notes[i];
     ctext_step step = ctext_next(n.octets, n.length, (ctext_reader){.gr = CTEXT_SET_ISO8859_1_RIGHT});
     for (size_t k = 0; step.given; k++) {
-        require(k < prepared[i].count && same_unit(&step.unit, &prepared[i].units[k]), "next gives another unit", path, i);
+        require(k < count_kept(i) && same_unit(&step.unit, unit_kept(i, k)), "next gives another unit", path, i);
         step = ctext_next(n.octets, n.length, step.reader);
     }
-    require(step.answer.number == 0 && step.answer.count == prepared[i].count, "next gives another answer", path, i);
-    prepared[i].end = step.reader;
+    require(step.answer.number == 0 && step.answer.count == count_kept(i), "next gives another answer", path, i);
+    ends[i] = step.reader;
 }
 
 static void prepare_write(const char *path, size_t i)
 {
-    ctext_answer w = write_note(i);
-    require(w.number == 0 && w.count <= corpus.notes[i].length, "write refuses, or is longer than what was read", path, i);
-    ctext_answer r = ctext_read(out, w.count, units, CTEXT_MOST_UNITS);
-    bool same = r.number == 0 && r.count == prepared[i].count;
-    for (size_t k = 0; same && k < r.count; k++) same = same_unit(&units[k], &prepared[i].units[k]);
+    size_t written = functions[WRITE].run(i);
+    require(!tells_refusal(written) && written <= corpus.notes[i].length, "write refuses, or is longer than what was read", path, i);
+    ctext_answer r = ctext_read(out, written, units, CTEXT_MOST_UNITS);
+    bool same = r.number == 0 && r.count == count_kept(i);
+    for (size_t k = 0; same && k < r.count; k++) same = same_unit(&units[k], unit_kept(i, k));
     require(same, "what was written reads as other units", path, i);
 }
 
 static void load(const char *path, bool with_x11)
 {
     take(path);
+    ends = realloc(ends, (corpus.count + 1) * sizeof *ends);
+    if (!ends) abort();
     for (size_t i = 0; i < corpus.count; i++) {
         struct note n = corpus.notes[i];
         struct verdict v = yardstick(n.octets, n.length);
@@ -217,7 +231,7 @@ static void print(void *kept)
     struct measured *m = kept;
     turn_to(m);
     size_t count = 0;
-    for (size_t i = 0; i < corpus.count; i++) count += prepared[i].count;
+    for (size_t i = 0; i < corpus.count; i++) count += count_kept(i);
     for (int k = 0; k < FUNCTIONS; k++)
         if (functions[k].run)
             printf("%s\t%s\t%zu\t%zu\t%zu\t%.1f\t%.3f\t%.3f\t%.3f\n", m->path, functions[k].name, corpus.count, corpus.octets, count,
@@ -229,7 +243,7 @@ static const struct table table = {sizeof(struct measured), make_ready, repeat, 
 
 // ---- the ladder
 
-static double units_of(size_t i) { return (double)prepared[i].count; }
+static double units_of(size_t i) { return (double)count_kept(i); }
 
 static struct function named(const char *name)
 {
@@ -259,7 +273,7 @@ int main(int count, char **words)
 #ifdef WITH_LIMIT
     functions[LIMIT].run = run_limit;
 #endif
-    library_calls(functions);
+    library_calls(AFTER, functions);
     if (!functions[WRITE].run || !functions[NEXT].run) others[0].run = others[1].run = NULL;
     if (wants_table) x11_open();
     if (wants_table) fill_table(&table, (size_t)count - 2, words + 2);

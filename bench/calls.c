@@ -1,22 +1,33 @@
+// Compiled for each archive of a program anew, with that archive's header (library.h): nothing else knows the layout of its structs.
 #include "calls.h"
+#include "library.h"
 
-// What two archives must answer alike: a count, and above it the number of a refusal, which is 0 where there is none. The place is left out, since
-// that of a refusal became another with version 3.
-static size_t told(size_t count, ctext_answer a) { return count | (size_t)a.number << 32; }
+_Static_assert(CTEXT_MOST_UNITS * sizeof(ctext_unit) <= sizeof lent_list, "the list has room for all records of the header");
+_Static_assert(CTEXT_WORK_ROOM(CTEXT_MOST_UNITS) <= sizeof work && CTEXT_MOST_OCTETS <= sizeof out, "the work room and the output do");
+
+static ctext_unit *const units = (void *)lent_list;
+
+static int own; // which archive this is
 
 static size_t run_check(size_t i)
 {
     ctext_answer a = ctext_check(corpus.notes[i].octets, corpus.notes[i].length);
-    return told(a.count, a);
+    return told(a.count, a.number);
 }
 
 static size_t run_read(size_t i)
 {
     ctext_answer a = ctext_read(corpus.notes[i].octets, corpus.notes[i].length, units, CTEXT_MOST_UNITS);
-    return told(a.count, a);
+    return told(a.count, a.number);
 }
 
-static size_t run_write(size_t i) { return write_note(i).count; }
+static size_t run_write(size_t i)
+{
+    struct note n = corpus.notes[i];
+    struct list kept = prepared[i].lists[own];
+    ctext_answer a = ctext_write(kept.units, kept.count, n.octets, n.length, work, sizeof work, out, sizeof out);
+    return told(a.count, a.number);
+}
 
 // The last run, by its number: all that `ctext_run` does at most.
 static size_t run_run(size_t i)
@@ -31,7 +42,7 @@ static size_t run_next(size_t i)
     struct note n = corpus.notes[i];
     ctext_step step = ctext_next(n.octets, n.length, (ctext_reader){.gr = CTEXT_SET_ISO8859_1_RIGHT});
     while (step.given) step = ctext_next(n.octets, n.length, step.reader);
-    return told(step.reader.count, step.answer);
+    return told(step.reader.count, step.answer.number);
 }
 
 // All runs, one after the other.
@@ -60,17 +71,18 @@ static size_t run_next_runs(size_t i)
 static size_t run_archive_check(size_t i)
 {
     ctext_answer a = ctext_archive_check(corpus.notes[i].octets, corpus.notes[i].length);
-    return told(a.count, a);
+    return told(a.count, a.number);
 }
 
 static size_t run_archive_read(size_t i)
 {
     ctext_answer a = ctext_archive_read(corpus.notes[i].octets, corpus.notes[i].length, units, CTEXT_MOST_UNITS);
-    return told(a.count, a);
+    return told(a.count, a.number);
 }
 
-void library_calls(struct function functions[FUNCTIONS])
+size_t library_calls(int archive, struct function functions[FUNCTIONS])
 {
+    own = archive;
     functions[CHECK] = (struct function){"check", run_check, 0};
     functions[READ] = (struct function){"read", run_read, 0};
     functions[WRITE] = (struct function){"write", run_write, 0};
@@ -89,4 +101,5 @@ void library_calls(struct function functions[FUNCTIONS])
     if (!functions[RUN].run || !ctext_open_runs || !ctext_next_runs) functions[NEXT_RUNS].run = NULL;
     if (!ctext_archive_check) functions[ARCHIVE_CHECK].run = NULL;
     if (!ctext_archive_check || !ctext_archive_read) functions[ARCHIVE_READ].run = NULL;
+    return sizeof(ctext_unit);
 }

@@ -6,8 +6,8 @@
 struct corpus corpus;
 struct prepared *prepared;
 
-ctext_unit units[CTEXT_MOST_UNITS];
-uint8_t work[WORK_ROOM], out[CTEXT_MOST_OCTETS];
+_Alignas(64) uint8_t lent_list[LIST_ROOM];
+uint8_t work[WORK_LENT], out[MOST];
 uint64_t runs_list[LISTED_RUNS];
 
 void take(const char *path)
@@ -17,10 +17,11 @@ void take(const char *path)
     if (!prepared) abort();
 }
 
-void keep_units(size_t i, size_t count)
+void keep_units(size_t i, int archive, size_t count, size_t record)
 {
-    prepared[i].count = count;
-    prepared[i].units = malloc((count + 1) * sizeof *units);
-    if (!prepared[i].units) abort();
-    memcpy(prepared[i].units, units, count * sizeof *units);
+    struct list *kept = &prepared[i].lists[archive];
+    kept->count = count;
+    kept->units = malloc((count + 1) * record);
+    if (!kept->units) abort();
+    memcpy(kept->units, lent_list, count * record);
 }

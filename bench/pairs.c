@@ -6,22 +6,21 @@
 //
 // For each corpus a line: its path, and of each pair the name and the ratio of the times, as `archive_check to check`, which are both of the archive
 // that is measured; `before` in a name is the archive of the landing before, which CTEXT_BEFORE names to bench/run, and which need not be there.
-// Each archive stands in an object with calls of its own (calls.c) that shows nothing else; the strings, and what is lent to the calls, are the
-// same for all. In each repetition the two run directly after each other, and the first of them in turn; a ratio is the median of the ratios
-// within a repetition.
+// Each archive stands in an object with calls of its own (calls.c), compiled with its own header, that shows nothing else: the records of a unit may
+// differ, and each archive writes the units that it has read itself. The strings, and the memory that is lent to the calls, are the same for all. In
+// each repetition the two run directly after each other, and the first of them in turn; a ratio is the median of the ratios within a repetition.
 #include <stdio.h>
 #include <string.h>
 
 #include "calls.h"
 
 // calls.c under two names, one for each archive
-void after_calls(struct function functions[FUNCTIONS]);
-void before_calls(struct function functions[FUNCTIONS]);
+size_t after_calls(int archive, struct function functions[FUNCTIONS]);
+size_t before_calls(int archive, struct function functions[FUNCTIONS]);
 #pragma weak before_calls
 
-enum { AFTER, BEFORE, ARCHIVES };
-
 static struct function calls[ARCHIVES][FUNCTIONS]; // none of the landing before where there is none
+static size_t records[ARCHIVES];                   // octets of a unit's record
 
 // A function of the archive that is measured, to one of some archive.
 static const struct compared {
@@ -84,11 +83,13 @@ static struct pair pair_up(const struct compared *c, const char *path)
     return p;
 }
 
+// Both run before they are measured, which brings what their calls need into the caches; the units that are written are each one's own.
 static double ratio(const struct pair *p, int first)
 {
     int second = !first;
     double times[BOTH];
-    slice(&p->by[second], 0, corpus.count); // brings what the calls need into the caches
+    slice(&p->by[first], 0, corpus.count);
+    slice(&p->by[second], 0, corpus.count);
     times[first] = slice(&p->by[first], 0, corpus.count);
     times[second] = slice(&p->by[second], 0, corpus.count);
     return times[OWN] / times[OTHER];
@@ -103,11 +104,20 @@ struct measured {
     struct pair pairs[COMPARED];
 };
 
+// The units that the archive reads, to be written; none of a string that it refuses.
+static void keep_lists(int archive)
+{
+    for (size_t i = 0; calls[archive][READ].run && i < corpus.count; i++) {
+        size_t answer = calls[archive][READ].run(i);
+        keep_units(i, archive, tells_refusal(answer) ? 0 : answer, records[archive]);
+    }
+}
+
 static void make_ready(void *kept, const char *path)
 {
     struct measured *m = kept;
     take(path);
-    for (size_t i = 0; mode == ACCEPTED && calls[AFTER][READ].run && i < corpus.count; i++) keep_units(i, calls[AFTER][READ].run(i));
+    for (int archive = 0; mode == ACCEPTED && archive < ARCHIVES; archive++) keep_lists(archive);
     for (int k = 0; k < COMPARED; k++)
         if (is_wanted(&compared[k])) m->pairs[k] = pair_up(&compared[k], path);
     m->path = path;
@@ -143,8 +153,8 @@ int main(int count, char **words)
         fprintf(stderr, "usage: pairs accepted CORPUS.. | pairs refused CORPUS.. | pairs archive CORPUS..\n");
         return 2;
     }
-    after_calls(calls[AFTER]);
-    if (before_calls) before_calls(calls[BEFORE]);
+    records[AFTER] = after_calls(AFTER, calls[AFTER]);
+    if (before_calls) records[BEFORE] = before_calls(BEFORE, calls[BEFORE]);
     fill_table(&table, (size_t)count - 2, words + 2);
     return 0;
 }

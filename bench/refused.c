@@ -10,7 +10,10 @@
 #include <string.h>
 
 #include "calls.h"
+#include "library.h"
 #include "yardstick.h"
+
+static ctext_unit *const units = (void *)lent_list;
 
 static size_t run_yardstick(size_t i) { return yardstick(corpus.notes[i].octets, corpus.notes[i].length).place; }
 
@@ -37,7 +40,7 @@ static void prepare(const char *path, size_t i)
     ctext_step step = ctext_next(n.octets, n.length, (ctext_reader){.gr = CTEXT_SET_ISO8859_1_RIGHT});
     while (step.given) step = ctext_next(n.octets, n.length, step.reader);
     require(same_refusal(step.answer, v), "next gives another answer than the yardstick", path, i);
-    prepared[i].count = step.reader.count;
+    prepared[i].lists[AFTER].count = step.reader.count;
 }
 
 static void load(const char *path)
@@ -88,7 +91,7 @@ static void print(void *kept)
 {
     struct measured *m = kept;
     size_t count = 0;
-    for (size_t i = 0; i < m->corpus.count; i++) count += m->prepared[i].count;
+    for (size_t i = 0; i < m->corpus.count; i++) count += m->prepared[i].lists[AFTER].count;
     for (int k = 0; k < SHOWN; k++)
         if (m->functions[k].run)
             printf("%s\t%s\t%zu\t%zu\t%zu\t%.1f\t%.3f\n", m->path, m->functions[k].name, m->corpus.count, m->corpus.octets, count,
@@ -99,7 +102,7 @@ static const struct table table = {sizeof(struct measured), make_ready, repeat, 
 
 // ---- the ladder
 
-static double units_of(size_t i) { return (double)prepared[i].count; }
+static double units_of(size_t i) { return (double)prepared[i].lists[AFTER].count; }
 
 // Those that stop at the refusal. Of a refused string there is no list to be written, and no run.
 static struct function named(const char *name)
@@ -126,7 +129,7 @@ int main(int count, char **words)
         fprintf(stderr, "usage: refused table CORPUS.. | refused ladder FUNCTION CORPUS ..\n");
         return 2;
     }
-    library_calls(functions);
+    library_calls(AFTER, functions);
     if (!functions[NEXT].run) return 0;
     if (wants_table) fill_table(&table, (size_t)count - 2, words + 2);
     else

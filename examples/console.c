@@ -28,6 +28,7 @@ static void print_octets(const uint8_t *octets, size_t n)
     printf("\n");
 }
 
+/* The direction in force after a unit is told where one is open. */
 static void print_unit(const uint8_t *s, size_t n, ctext_unit unit)
 {
     ctext_segment parts = ctext_segment_parts(s, n, unit);
@@ -37,6 +38,8 @@ static void print_unit(const uint8_t *s, size_t n, ctext_unit unit)
     if (unit.kind == CTEXT_KIND_SEGMENT)
         printf(" of %.*s, octets of its text %lu", (int)parts.name_length,
                (const char *)s + parts.name_start, (unsigned long)parts.text_length);
+    if (unit.depth > 0)
+        printf(", then %s at depth %d", ctext_direction_text(unit.direction), unit.depth);
     printf("\n");
 }
 

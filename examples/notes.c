@@ -37,6 +37,7 @@ static void print_answer(const char *what, ctext_answer a)
         printf("refused %d at %zu: %s\n", a.number, a.place, ctext_refusal_text(a.number));
 }
 
+/* The direction in force after a unit is told where one is open. */
 static void print_unit(size_t index, ctext_unit unit)
 {
     printf("  unit %zu: %s", index, KINDS[unit.kind]);
@@ -44,7 +45,10 @@ static void print_unit(size_t index, ctext_unit unit)
         printf(", set %d", unit.set);
     if (unit.kind == CTEXT_KIND_CHARACTER || unit.kind == CTEXT_KIND_SEGMENT)
         printf(", code %X", (unsigned)unit.code);
-    printf(", octets %" PRIu32 " to %" PRIu32 "\n", unit.start, unit.start + unit.length);
+    printf(", octets %" PRIu32 " to %" PRIu32, unit.start, unit.start + unit.length);
+    if (unit.depth > 0)
+        printf(", then %s at depth %d", DIRECTIONS[unit.direction], unit.depth);
+    printf("\n");
 }
 
 static void print_run(const uint8_t *note, size_t index, uint64_t run)
@@ -133,13 +137,14 @@ static void show(const char *name, const uint8_t *note, size_t n)
     print_steps(note, n);
 }
 
-/* A list made by hand, and what the writer answers where it does not fit. */
+/* A list made by hand, and what the writer answers where it does not fit. It does
+   not look at direction and depth. */
 static void show_lists(void)
 {
     ctext_unit units[3] = {
-        { CTEXT_KIND_CHARACTER, CTEXT_SET_JISX0208, 0x3021, 0, 0 },
-        { CTEXT_KIND_SPACE, 0, 0, 0, 0 },
-        { CTEXT_KIND_CHARACTER, CTEXT_SET_JISX0201_LEFT, 0x5C, 0, 0 }
+        { CTEXT_KIND_CHARACTER, CTEXT_SET_JISX0208, 0x3021, 0, 0, 0, 0 },
+        { CTEXT_KIND_SPACE, 0, 0, 0, 0, CTEXT_DIRECTION_RIGHT_TO_LEFT, 99 },
+        { CTEXT_KIND_CHARACTER, CTEXT_SET_JISX0201_LEFT, 0x5C, 0, 0, 0, 0 }
     };
     uint8_t work[CTEXT_WORK_ROOM(3)];
     uint8_t out[16];
@@ -157,7 +162,8 @@ static void show_lists(void)
     print_answer("no direction", ctext_write(units, 3, NULL, 0, work, sizeof work, out, sizeof out));
 }
 
-/* Readers made by hand: in the middle of a note, and past its end. */
+/* Readers made by hand: in the middle of a note, within a direction, and past its
+   end. */
 static void show_readers(void)
 {
     static const uint8_t note[] = { 0x30, 0x21, 0x09 };
@@ -169,6 +175,10 @@ static void show_readers(void)
     step = ctext_next(note, sizeof note, reader);
     print_unit(step.reader.count - 1, step.unit);
     printf("  the reader stands at %zu\n", step.reader.place);
+    reader.levels = 1; /* right-to-left */
+    reader.depth = 1;
+    reader.marked = 1;
+    print_unit(0, ctext_next(note, sizeof note, reader).unit);
     reader.place = sizeof note + 1;
     print_answer("past the end", ctext_next(note, sizeof note, reader).answer);
     reader = ctext_open();

@@ -29,7 +29,7 @@
 #include <stddef.h>
 #include <stdint.h>
 
-#define CTEXT_VERSION "3.1"
+#define CTEXT_VERSION "4.0"
 
 /* The most octets of a string, units of a list, octets of an extended
    segment, and directions open at once. */
@@ -169,20 +169,35 @@ enum ctext_set {
     CTEXT_SET_KSC5601 = 14
 };
 
-/* kind    one of enum ctext_kind
-   set     of a character: one of enum ctext_set
-   code    of a character: its octet less the top bit; of two octets
-           first * 256 + second, each less its top bit;
-           of an extended segment: its octet d, 30 to 34
-   start   where the unit's octets start in the string, and how many they are;
-   length  of an extended segment those of its name, 02 and text
-   Set and code are 0 where they mean nothing. */
+/* The direction in force, of a unit and of a run. */
+enum ctext_direction {
+    CTEXT_DIRECTION_NONE = 0,
+    CTEXT_DIRECTION_LEFT_TO_RIGHT = 1,
+    CTEXT_DIRECTION_RIGHT_TO_LEFT = 2
+};
+
+/* kind       one of enum ctext_kind
+   set        of a character: one of enum ctext_set
+   code       of a character: its octet less the top bit; of two octets
+              first * 256 + second, each less its top bit;
+              of an extended segment: its octet d, 30 to 34
+   start      where the unit's octets start in the string, and how many they are;
+   length     of an extended segment those of its name, 02 and text
+   direction  in force after the unit: one of enum ctext_direction
+   depth      how many directions are then open, CTEXT_MOST_OPEN at most
+   Set and code are 0 where they mean nothing. A mark that begins a direction has
+   that direction, and counts it as open; a revert has the direction beneath, none
+   at depth 0; any other unit keeps both. Every reader fills direction and depth,
+   and ctext_write ignores them. They are new in 4.0, where the record grew from 12
+   octets to 16: programs for 3.x are to be compiled again. */
 typedef struct ctext_unit {
     uint8_t kind;
     uint8_t set;
     uint16_t code;
     uint32_t start;
     uint32_t length;
+    uint16_t direction;
+    uint16_t depth;
 } ctext_unit;
 
 /* ---- Sets -------------------------------------------------------------- */
@@ -262,15 +277,9 @@ ctext_answer ctext_archive_read(const uint8_t *s, size_t n, ctext_unit *units, s
    ctext_run        the one of a number: for a few runs, since each call checks
                     the string and reads it from its start */
 
-/* The direction in force. */
-enum ctext_direction {
-    CTEXT_DIRECTION_NONE = 0,
-    CTEXT_DIRECTION_LEFT_TO_RIGHT = 1,
-    CTEXT_DIRECTION_RIGHT_TO_LEFT = 2
-};
-
 /* A run: the octets start to end of the string, end not included, and the set,
-   the octets of one of its characters (1 or 2) and the direction in force. */
+   the octets of one of its characters (1 or 2) and the direction in force, one of
+   enum ctext_direction (above). */
 typedef struct ctext_run_bounds {
     size_t start;
     size_t end;
@@ -462,13 +471,13 @@ ctext_reader ctext_open(void);
    That costs what reading the string once does. At its end a reader stays
    where it is, and each further call looks at the offending element again.
 
-   A reader made by hand is read on by the rules from where it stands, and its
-   count goes on from its own; one whose place lies past the string, with a set
-   on a side it may not use, or whose depth is over 16, gives CTEXT_BAD_UNIT
-   at 0. No other reader is refused for what it holds: where its fields
-   contradict each other or the string (a direction open and marked 0, a place
-   inside a character, a count of other units), each is used as it is. Reads s,
-   touches nothing. */
+   A reader made by hand is read on by the rules from where it stands: its count
+   goes on from its own, and direction and depth of its units from its levels and
+   its depth. One whose place lies past the string, with a set on a side it may not
+   use, or whose depth is over 16, gives CTEXT_BAD_UNIT at 0. No other reader is
+   refused for what it holds: where its fields contradict each other or the string
+   (a direction open and marked 0, a place inside a character, a count of other
+   units), each is used as it is. Reads s, touches nothing. */
 ctext_step ctext_next(const uint8_t *s, size_t n, ctext_reader reader);
 
 /* ---- Writing ----------------------------------------------------------- */
@@ -476,8 +485,9 @@ ctext_step ctext_next(const uint8_t *s, size_t n, ctext_reader reader);
 /* The shortest string that reads as the count units. The extended segments of
    the list stand in the m octets at segments: of such a unit start and length
    name its octets there, so for units of ctext_read pass the string itself.
-   Fields that mean nothing for a unit's kind are ignored, and so are start and
-   length of all other units.
+   Fields that mean nothing for a unit's kind are ignored, start and length of all
+   other units, and direction and depth of every unit: the list's own marks say
+   which directions are open.
 
    The caller lends w octets of work room, at least CTEXT_WORK_ROOM(count), and
    o octets of output. For units of ctext_read the length of their string is
@@ -546,13 +556,20 @@ typedef struct ctext_printed {
 ctext_printed ctext_program(const uint8_t *s, size_t n, uint8_t *out, size_t o);
 
 /* The archive is for x86-64 Linux; another layout does not compile. */
-typedef char ctext_layout[sizeof(ctext_answer) == 24 && sizeof(ctext_unit) == 12
-                          && sizeof(ctext_row) == 5
+typedef char ctext_unit_layout[offsetof(ctext_unit, kind) == 0 && offsetof(ctext_unit, set) == 1
+                               && offsetof(ctext_unit, code) == 2
+                               && offsetof(ctext_unit, start) == 4
+                               && offsetof(ctext_unit, length) == 8
+                               && offsetof(ctext_unit, direction) == 12
+                               && offsetof(ctext_unit, depth) == 14
+                               && sizeof(ctext_unit) == 16
+                               ? 1 : -1];
+typedef char ctext_layout[sizeof(ctext_answer) == 24 && sizeof(ctext_row) == 5
                           && sizeof(ctext_run_bounds) == 48 && sizeof(ctext_printed) == 32
                           && sizeof(ctext_run_reader) == 24
                           && sizeof(ctext_run_step) == 72
                           && sizeof(ctext_runs_step) == 48
-                          && sizeof(ctext_reader) == 32 && sizeof(ctext_step) == 72
+                          && sizeof(ctext_reader) == 32 && sizeof(ctext_step) == 80
                           ? 1 : -1];
 
 /* ---- Names for people --------------------------------------------------- */

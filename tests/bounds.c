@@ -5,10 +5,11 @@
    shown, stepped over and written, and all of up to five octets out of another are
    put into their resource form and read as one. The archive reader is also held
    against the first one on longer strings, in lists of every length around the
-   need. The places of refusals, and where a reader
-   then stands, are those of a table of strings. What the direction rule says of
-   extended segments is tried on a table of strings, lists and readers, and the
-   table of sets is held against one of its own. What is lent is filled with a
+   need. The direction and the depth of each unit are held against those that its
+   string's marks give, counted here, and lists to be written hold anything there.
+   The places of refusals, and where a reader then stands, are those of a table of
+   strings. What the direction rule says of extended segments is tried on a table of
+   strings, lists and readers, and the table of sets is held against one of its own. What is lent is filled with a
    pattern or left as malloc gives it, and what must stay is looked at afterwards. */
 
 #include <stdio.h>
@@ -35,7 +36,7 @@ static const char *const ELEMENTS[] = {
 /* What escapes are made of and for, and others; resource forms are tried over it. */
 static const uint8_t LETTERS[] = { '\\', 'n', '0', 0x0A, 0x00, 'A', 0xE9 };
 
-static unsigned long failures, strings, accepted, archived, forms, designations, places;
+static unsigned long failures, strings, accepted, archived, directions, forms, designations, places;
 
 static void expect(int holds, const char *what, const uint8_t *s, size_t n)
 {
@@ -92,7 +93,7 @@ static int is_answer(ctext_answer a, unsigned number, size_t place, size_t count
 static int same_unit(const ctext_unit *a, const ctext_unit *b)
 {
     return a->kind == b->kind && a->set == b->set && a->code == b->code && a->start == b->start
-        && a->length == b->length;
+        && a->length == b->length && a->direction == b->direction && a->depth == b->depth;
 }
 
 static int untouched(const void *memory, size_t octets)
@@ -110,6 +111,107 @@ static int same_reader(ctext_reader a, ctext_reader b)
     return a.levels == b.levels && a.place == b.place && a.count == b.count && a.gl == b.gl
         && a.gr == b.gr && a.depth == b.depth && a.marked == b.marked && a.texted == b.texted;
 }
+
+/* ---- Directions ----------------------------------------------------------- */
+
+/* The directions that are open: those of numbers[1] to numbers[depth], from the one
+   opened first on; numbers[0] is none. */
+typedef struct open_directions {
+    uint16_t numbers[CTEXT_MOST_OPEN + 1];
+    uint16_t depth;
+} open_directions;
+
+/* Those of a reader: each a binary digit of its levels, the last opened lowest. */
+static open_directions open_of(ctext_reader r)
+{
+    open_directions open = { { CTEXT_DIRECTION_NONE }, 0 };
+    for (; open.depth < r.depth && open.depth < CTEXT_MOST_OPEN; open.depth++)
+        open.numbers[open.depth + 1] = r.levels >> (r.depth - 1 - open.depth) & 1 ? CTEXT_DIRECTION_RIGHT_TO_LEFT
+                                                                                  : CTEXT_DIRECTION_LEFT_TO_RIGHT;
+    return open;
+}
+
+/* The levels of a reader with these open; digits from the depth upwards mean nothing. */
+static uint64_t levels_of(const open_directions *open)
+{
+    uint64_t levels = UINT64_MAX;
+    unsigned i;
+    for (i = 1; i <= open->depth; i++)
+        levels = levels << 1 | (open->numbers[i] == CTEXT_DIRECTION_RIGHT_TO_LEFT);
+    return levels;
+}
+
+/* Those after a unit of the kind. */
+static void pass(open_directions *open, unsigned kind)
+{
+    if (kind == CTEXT_KIND_REVERT && open->depth > 0)
+        open->depth--;
+    if ((kind != CTEXT_KIND_LEFT_TO_RIGHT && kind != CTEXT_KIND_RIGHT_TO_LEFT) || open->depth == CTEXT_MOST_OPEN)
+        return;
+    open->depth++;
+    open->numbers[open->depth] = kind == CTEXT_KIND_RIGHT_TO_LEFT ? CTEXT_DIRECTION_RIGHT_TO_LEFT
+                                                                  : CTEXT_DIRECTION_LEFT_TO_RIGHT;
+}
+
+static int is_directed(const ctext_unit *unit, const open_directions *open)
+{
+    directions++;
+    return unit->direction == open->numbers[open->depth] && unit->depth == open->depth;
+}
+
+/* The direction and the depth of each unit of a list are those after it. */
+static void list_is_directed(const uint8_t *s, size_t n, const ctext_unit *units, size_t count)
+{
+    open_directions open = open_of(ctext_open());
+    size_t i;
+    for (i = 0; i < count; i++) {
+        pass(&open, units[i].kind);
+        expect(is_directed(&units[i], &open), "the direction and the depth of a unit", s, n);
+    }
+}
+
+/* The list with other directions and depths, which the caller frees: numbers that no
+   reader gives, or what malloc gives, which nobody may look at. */
+static ctext_unit *lend_misdirected(const ctext_unit *units, size_t count, int filled)
+{
+    ctext_unit *others = (ctext_unit *)lend(count * sizeof *others);
+    size_t i;
+    for (i = 0; i < count; i++) {
+        others[i].kind = units[i].kind;
+        others[i].set = units[i].set;
+        others[i].code = units[i].code;
+        others[i].start = units[i].start;
+        others[i].length = units[i].length;
+        if (filled) {
+            others[i].direction = (uint16_t)(UINT16_MAX - i);
+            others[i].depth = (uint16_t)(CTEXT_MOST_OPEN + 1 + i);
+        }
+    }
+    return others;
+}
+
+/* Whatever the directions and depths of a list are, it is written in the same way:
+   the answer is this one, and so are the octets, as many as it counts. */
+static void written_misdirected(const uint8_t *s, size_t n, const ctext_unit *units, size_t count,
+                                ctext_answer wanted, const uint8_t *octets)
+{
+    size_t room = CTEXT_WORK_ROOM(count), o = wanted.number == CTEXT_ACCEPTED ? wanted.count : n;
+    uint8_t *work = (uint8_t *)lend(room);
+    uint8_t *out = (uint8_t *)lend(o);
+    int filled;
+    for (filled = 0; filled < 2; filled++) {
+        ctext_unit *others = lend_misdirected(units, count, filled);
+        ctext_answer a = ctext_write(others, count, s, n, work, room, out, o);
+        expect(same_answer(a, wanted), "writing whatever the directions", s, n);
+        expect(wanted.number != CTEXT_ACCEPTED || same_octets(out, a.count, octets, wanted.count),
+               "the octets written whatever the directions", s, n);
+        free(others);
+    }
+    free(out);
+    free(work);
+}
+
+/* ---- One string ----------------------------------------------------------- */
 
 /* Whether the octets before a place, taken alone, are accepted, or only cut. */
 static int only_cut(const uint8_t *s, size_t place)
@@ -135,18 +237,24 @@ static void standing(const uint8_t *s, size_t n, ctext_reader r, size_t given, c
            "what is before the place where a reader stands", s, n);
 }
 
-/* The units of ctext_next are those of ctext_read, and so is the answer. */
+/* The units of ctext_next are those of ctext_read, and so is the answer. Those
+   before a refusal have their directions too, and where there is none it is all 0. */
 static void steps(const uint8_t *s, size_t n, const ctext_unit *units, ctext_answer check)
 {
+    static const ctext_unit none = { 0, 0, 0, 0, 0, 0, 0 };
     ctext_step step = ctext_next(s, n, ctext_open()), again;
+    open_directions open = open_of(ctext_open());
     size_t given = 0;
     while (step.given && given < n) {
         if (check.number == CTEXT_ACCEPTED && given < check.count)
             expect(same_unit(&units[given], &step.unit), "a unit of a step", s, n);
+        pass(&open, step.unit.kind);
+        expect(is_directed(&step.unit, &open), "the direction and the depth of a step", s, n);
         given++;
         step = ctext_next(s, n, step.reader);
     }
     expect(!step.given && same_answer(step.answer, check), "the answer of a step", s, n);
+    expect(same_unit(&step.unit, &none), "the unit beside an answer", s, n);
     expect(check.number != CTEXT_ACCEPTED || given == check.count, "the number of steps", s, n);
     standing(s, n, step.reader, given, check);
     again = ctext_next(s, n, step.reader);
@@ -274,7 +382,8 @@ static void rewritten(const uint8_t *out, size_t o, const ctext_unit *units, siz
     expect(a.number == CTEXT_ACCEPTED && a.count == count, "reading what was written", out, o);
     for (i = 0; i < a.count; i++)
         expect(units[i].kind == again[i].kind && units[i].set == again[i].set
-                   && units[i].code == again[i].code,
+                   && units[i].code == again[i].code && units[i].direction == again[i].direction
+                   && units[i].depth == again[i].depth,
                "a unit of what was written", out, o);
     a = ctext_write(again, count, out, o, work, CTEXT_WORK_ROOM(count), twice, o);
     expect(a.number == CTEXT_ACCEPTED && a.count == o, "writing twice", out, o);
@@ -304,6 +413,7 @@ static void written(const uint8_t *s, size_t n, const ctext_unit *units, size_t 
            "writing into exact output", s, n);
     expect(a.count == 0 || memcmp(exact, large, a.count) == 0, "the octets", s, n);
     rewritten(exact, a.count, units, count);
+    written_misdirected(s, n, units, count, a, exact);
     if (a.count > 0) {
         size_t needed = a.count;
         memset(exact, PATTERN, needed);
@@ -364,6 +474,19 @@ static void printed(const uint8_t *s, size_t n, const ctext_unit *units, ctext_a
     free(exact);
 }
 
+/* ctext_read or ctext_archive_read. */
+typedef ctext_answer list_way(const uint8_t *s, size_t n, ctext_unit *units, size_t room);
+
+/* Into a list with a record before it and one after it that are not lent: both stay. */
+static void list_within(list_way *way, const uint8_t *s, size_t n, size_t room)
+{
+    ctext_unit *list = (ctext_unit *)lend_pattern((room + 2) * sizeof *list);
+    way(s, n, list + 1, room);
+    expect(untouched(list, sizeof *list), "what stands before a list", s, n);
+    expect(untouched(list + 1 + room, sizeof *list), "what stands after a list", s, n);
+    free(list);
+}
+
 /* Both readers into lists of exactly so many records: the same answer, the same
    units, and the rest of the list stays, the whole of it beside a refusal. */
 static void archive_list(const uint8_t *s, size_t n, size_t room)
@@ -371,12 +494,14 @@ static void archive_list(const uint8_t *s, size_t n, size_t room)
     ctext_unit *first = (ctext_unit *)lend_pattern(room * sizeof *first);
     ctext_unit *second = (ctext_unit *)lend_pattern(room * sizeof *second);
     ctext_answer wanted = ctext_read(s, n, first, room), a = ctext_archive_read(s, n, second, room);
-    size_t stored = wanted.number == CTEXT_ACCEPTED ? wanted.count : 0, i;
+    size_t stored = wanted.number == CTEXT_ACCEPTED ? wanted.count : 0, rest = (room - stored) * sizeof *first, i;
     expect(same_answer(a, wanted), "the answer of an archive's list", s, n);
     for (i = 0; i < stored && i < room; i++)
         expect(same_unit(&first[i], &second[i]), "a unit of an archive's list", s, n);
-    expect(stored == room || (stored < room && untouched(second + stored, (room - stored) * sizeof *second)),
-           "what stays of an archive's list", s, n);
+    expect(stored == room || (stored < room && untouched(first + stored, rest)), "what stays of a list", s, n);
+    expect(stored == room || (stored < room && untouched(second + stored, rest)), "what stays of an archive's list", s, n);
+    list_within(ctext_read, s, n, room);
+    list_within(ctext_archive_read, s, n, room);
     free(second);
     free(first);
 }
@@ -418,6 +543,7 @@ static void try_string(const uint8_t *octets, size_t n)
     }
     a = ctext_read(s, n, units, room);
     expect(same_answer(a, check), "the answer of the list", s, n);
+    list_is_directed(s, n, units, a.number == CTEXT_ACCEPTED ? a.count : 0);
     archive(s, n);
     steps(s, n, units, check);
     runs(s, n, units, check);
@@ -645,7 +771,8 @@ static void try_readers(void)
                     step = ctext_next(s, sizeof s, r);
                     if (good && place < sizeof s)
                         expect(step.given == 1 && step.unit.kind == CTEXT_KIND_TAB
-                                   && step.reader.place == place + 1
+                                   && step.unit.direction == (depth == 0 ? 0 : CTEXT_DIRECTION_RIGHT_TO_LEFT)
+                                   && step.unit.depth == depth && step.reader.place == place + 1
                                    && step.reader.count == SIZE_MAX,
                                "a good reader", s, 2);
                     else
@@ -1018,27 +1145,32 @@ static const struct part *part_of(char letter)
     return &PARTS[i];
 }
 
-static ctext_unit unit_of(const struct part *p, size_t place)
+/* The unit of an element at a place, after which the directions are open. */
+static ctext_unit unit_of(const struct part *p, size_t place, const open_directions *open)
 {
     size_t head = p->kind == CTEXT_KIND_SEGMENT ? 6 : 0;
-    ctext_unit unit = { 0, 0, 0, 0, 0 };
+    ctext_unit unit = { 0, 0, 0, 0, 0, 0, 0 };
     unit.kind = p->kind;
     if (p->kind == CTEXT_KIND_SEGMENT || p->kind == CTEXT_KIND_CHARACTER)
         unit.code = (uint8_t)p->octets[head / 2]; /* d, or the character's octet */
     unit.start = (uint32_t)(place + head);
     unit.length = (uint32_t)(strlen(p->octets) - head);
+    unit.direction = open->numbers[open->depth];
+    unit.depth = open->depth;
     return unit;
 }
 
 static directed directed_of(const char *letters)
 {
     directed d;
+    open_directions open = open_of(ctext_open());
     size_t k;
     d.count = strlen(letters);
     d.places[0] = 0;
     for (k = 0; k < d.count; k++) {
         const struct part *p = part_of(letters[k]);
-        d.units[k] = unit_of(p, d.places[k]);
+        pass(&open, p->kind);
+        d.units[k] = unit_of(p, d.places[k], &open);
         d.places[k + 1] = d.places[k] + strlen(p->octets);
         memcpy(d.octets + d.places[k], p->octets, strlen(p->octets));
     }
@@ -1090,6 +1222,7 @@ static void directed_list(const directed *d, ctext_answer wanted)
     expect(same_answer(a, wanted), "a list by the direction rule", d->octets, n);
     expect(a.number == CTEXT_ACCEPTED ? same_octets(out, a.count, d->octets, n) : untouched(out, n),
            "the writing of a list by the direction rule", d->octets, n);
+    written_misdirected(d->octets, n, units, d->count, wanted, d->octets);
     a = ctext_write(units, d->count, segments, n, NULL, 0, NULL, 0);
     expect(a.number == (wanted.number == CTEXT_ACCEPTED ? CTEXT_NO_WORK_ROOM : wanted.number),
            "the direction rule before the work room", d->octets, n);
@@ -1133,8 +1266,8 @@ static void try_directed_spoiled(void)
     };
     size_t i;
     for (i = 0; i < sizeof SPOILED / sizeof SPOILED[0]; i++) {
-        ctext_unit units[3] = { { CTEXT_KIND_LEFT_TO_RIGHT, 0, 0, 0, 0 }, { CTEXT_KIND_REVERT, 0, 0, 0, 0 },
-                                { CTEXT_KIND_SEGMENT, 0, 0, 0, 0 } };
+        ctext_unit units[3] = { { CTEXT_KIND_LEFT_TO_RIGHT, 0, 0, 0, 0, 0, 0 }, { CTEXT_KIND_REVERT, 0, 0, 0, 0, 0, 0 },
+                                { CTEXT_KIND_SEGMENT, 0, 0, 0, 0, 0, 0 } };
         units[2].code = SPOILED[i].d;
         units[2].start = SPOILED[i].start;
         units[2].length = SPOILED[i].length;
@@ -1153,7 +1286,7 @@ static unsigned refused_from(const struct part *p, ctext_reader r)
     if (p->kind == CTEXT_KIND_REVERT)
         return r.depth == 0 ? CTEXT_BAD_DIRECTION : 0;
     if (p->kind == CTEXT_KIND_LEFT_TO_RIGHT || p->kind == CTEXT_KIND_RIGHT_TO_LEFT)
-        return r.marked == 0 && r.texted != 0 ? CTEXT_BAD_DIRECTION : 0;
+        return r.marked == 0 && r.texted != 0 ? CTEXT_BAD_DIRECTION : r.depth == CTEXT_MOST_OPEN ? CTEXT_TOO_DEEP : 0;
     return 0;
 }
 
@@ -1163,12 +1296,16 @@ static void step_from(const struct part *p, uint8_t marked, uint8_t depth, uint8
     size_t n = strlen(p->octets), place;
     uint8_t *s = lend_copy((const uint8_t *)p->octets, n);
     ctext_reader r = ctext_open();
-    ctext_unit unit = unit_of(p, 0);
+    open_directions open;
+    ctext_unit unit;
     ctext_step step;
     unsigned number;
     r.marked = marked;
     r.depth = depth;
     r.texted = texted;
+    open = open_of(r);
+    pass(&open, p->kind);
+    unit = unit_of(p, 0, &open);
     number = refused_from(p, r);
     step = ctext_next(s, n, r);
     place = number == CTEXT_BAD_SEGMENT ? fault_of(p->letter) : 0;
@@ -1222,6 +1359,129 @@ static void try_directed_readers(void)
                 continue;
             run_from(&PARTS[i], marked, depth, texted, 0);
             run_from(&PARTS[i], marked, depth, texted, 1);
+        }
+}
+
+/* ---- Directions of units --------------------------------------------------- */
+
+/* The octets of records as they lie in memory, of each number the lowest first: kind,
+   set, code, start, length, direction, depth, and nothing between them or after. */
+static void try_record(void)
+{
+    static const uint8_t s[] = { 0x9B, 0x31, 0x5D, 0x9B, 0x32, 0x5D, 0x1B, 0x24, 0x29, 0x42, 0xB0, 0xA1 };
+    static const uint8_t wanted[3][16] = {
+        { 4, 0, 0, 0, 0, 0, 0, 0, 3, 0, 0, 0, 1, 0, 1, 0 },
+        { 5, 0, 0, 0, 3, 0, 0, 0, 3, 0, 0, 0, 2, 0, 2, 0 },
+        { 0, 13, 0x21, 0x30, 10, 0, 0, 0, 2, 0, 0, 0, 2, 0, 2, 0 }
+    };
+    list_way *const ways[] = { ctext_read, ctext_archive_read };
+    size_t i;
+    expect(sizeof(ctext_unit) == sizeof wanted[0], "the octets of a record", NULL, 0);
+    for (i = 0; i < sizeof ways / sizeof ways[0]; i++) {
+        uint8_t *list = lend_pattern(sizeof wanted);
+        ways[i](s, sizeof s, (ctext_unit *)(void *)list, 3);
+        expect(memcmp(list, wanted, sizeof wanted) == 0, "a record's octets", s, sizeof s);
+        free(list);
+    }
+}
+
+/* Strings by the letters above, with the direction after each unit, and the depth as
+   one digit, a to g for 10 to 16. */
+static const struct { const char *letters, *directions, *depths; } TURNED[] = {
+    { "A_tns0", "000000", "000000" }, { ">A", "11", "11" }, { "<A", "22", "11" },
+    { "t><A|_|n", "01221100", "01221100" }, { "<<>s|0||t", "221122200", "123322100" },
+    { ">|<A|>|0", "10220100", "10110100" }, { "<>|>A|A|", "21211220", "12122110" },
+    { "><><><><><><><><A|", "121212121212121221", "123456789abcdefggf" }
+};
+
+static unsigned depth_shown(char digit)
+{
+    return digit <= '9' ? (unsigned)(digit - '0') : (unsigned)(digit - 'a') + 10;
+}
+
+/* A reader made by hand that stands before unit k, and has nothing else but the
+   directions that are open there. It gives that unit. */
+static void turned_by_hand(const directed *d, size_t k)
+{
+    size_t n = d->places[d->count], i;
+    uint8_t *s = lend_copy(d->octets, n);
+    open_directions open = open_of(ctext_open());
+    ctext_reader r = ctext_open();
+    ctext_step step;
+    for (i = 0; i < k; i++)
+        pass(&open, d->units[i].kind);
+    r.place = d->places[k];
+    r.levels = levels_of(&open);
+    r.depth = (uint8_t)open.depth;
+    step = ctext_next(s, n, r);
+    expect(step.given && same_unit(&step.unit, &d->units[k]), "a unit by a reader made by hand, within directions", s, n);
+    free(s);
+}
+
+/* By both lists, by steps and by readers made by hand: the row's directions. */
+static void try_turned(void)
+{
+    size_t i, k;
+    for (i = 0; i < sizeof TURNED / sizeof TURNED[0]; i++) {
+        directed d = directed_of(TURNED[i].letters);
+        size_t n = d.places[d.count];
+        ctext_unit *first = (ctext_unit *)lend(d.count * sizeof *first);
+        ctext_unit *second = (ctext_unit *)lend(d.count * sizeof *second);
+        ctext_step step = ctext_next(d.octets, n, ctext_open());
+        expect(ctext_read(d.octets, n, first, d.count).count == d.count
+                   && ctext_archive_read(d.octets, n, second, d.count).count == d.count,
+               "a row of directions", d.octets, n);
+        for (k = 0; k < d.count; k++) {
+            unsigned direction = depth_shown(TURNED[i].directions[k]), depth = depth_shown(TURNED[i].depths[k]);
+            expect(first[k].direction == direction && first[k].depth == depth, "a row's direction and depth", d.octets, n);
+            expect(same_unit(&first[k], &d.units[k]), "a row's unit", d.octets, n);
+            expect(same_unit(&second[k], &first[k]), "a row's unit by the archive reader", d.octets, n);
+            expect(step.given && same_unit(&step.unit, &first[k]), "a row's unit by a step", d.octets, n);
+            step = ctext_next(d.octets, n, step.reader);
+            turned_by_hand(&d, k);
+        }
+        free(second);
+        free(first);
+    }
+}
+
+/* A step of a reader made by hand, with these directions open, over the element. */
+static void step_under(const struct part *p, uint64_t levels, uint8_t depth)
+{
+    uint8_t *s = lend_copy((const uint8_t *)p->octets, strlen(p->octets));
+    ctext_reader r = ctext_open();
+    open_directions open;
+    ctext_unit unit;
+    ctext_step step;
+    r.levels = levels;
+    r.depth = depth;
+    r.marked = 1;
+    open = open_of(r);
+    pass(&open, p->kind);
+    unit = unit_of(p, 0, &open);
+    step = ctext_next(s, strlen(p->octets), r);
+    expect(step.given && same_unit(&step.unit, &unit), "a unit under directions made by hand", s, strlen(p->octets));
+    expect(step.unit.depth == step.reader.depth, "the depth of a unit, and the reader's", s, strlen(p->octets));
+    directions++;
+    free(s);
+}
+
+/* Each element under each depth at which it may stand, and several levels, whose
+   digits from the depth upwards mean nothing. */
+static void try_levels(void)
+{
+    static const uint64_t LEVELS[] = { 0, UINT64_MAX, 0x5555, 0xAAAAAAAAAAAAAAAA, 0x1234, 0x8001 };
+    uint8_t depth;
+    size_t i, k;
+    for (i = 0; i < PARTS_MANY; i++)
+        for (depth = 0; depth <= CTEXT_MOST_OPEN; depth++) {
+            ctext_reader r = ctext_open();
+            r.depth = depth;
+            r.marked = 1;
+            if (refused_from(&PARTS[i], r) != 0)
+                continue;
+            for (k = 0; k < sizeof LEVELS / sizeof LEVELS[0]; k++)
+                step_under(&PARTS[i], LEVELS[k], depth);
         }
 }
 
@@ -1354,13 +1614,16 @@ int main(int argc, char **argv)
     try_directed();
     try_directed_spoiled();
     try_directed_readers();
+    try_record();
+    try_turned();
+    try_levels();
     try_many_runs();
     try_limits();
     try_set_rows();
     try_set_of();
     try_designations();
-    printf("bounds: %lu strings, %lu accepted, %lu by both readers, %lu resource forms, %lu designations, %lu places, "
-           "%lu failures\n",
-           strings, accepted, archived, forms, designations, places, failures);
+    printf("bounds: %lu strings, %lu accepted, %lu by both readers, %lu units with directions, %lu resource forms, "
+           "%lu designations, %lu places, %lu failures\n",
+           strings, accepted, archived, directions, forms, designations, places, failures);
     return failures != 0;
 }

@@ -1,7 +1,7 @@
 /* installed.c: a program, C and C++, that knows the installed header alone: what
    tests/c does not call, or not from C++, the names for people, the table of sets,
-   the archive reader, the parts of a segment, and the version. Says what is wrong;
-   the exit status is 0 where nothing is. */
+   the archive reader, the directions of units, the parts of a segment, and the
+   version. Says what is wrong; the exit status is 0 where nothing is. */
 
 #include <ctext.h>
 #include <stdio.h>
@@ -79,6 +79,45 @@ static void try_archive(void)
     }
 }
 
+static void directions_are(const char *what, const ctext_unit *units)
+{
+    static const unsigned directions[] = { 1, 2, 2, 1, 0 }, depths[] = { 1, 2, 2, 1, 0 };
+    size_t i;
+    for (i = 0; i < 5; i++) {
+        if (units[i].direction == directions[i] && units[i].depth == depths[i])
+            continue;
+        printf("installed: the direction or the depth of unit %lu by %s\n", (unsigned long)i, what);
+        failures++;
+    }
+}
+
+/* By both lists and by steps; and the writer does not look at them. */
+static void try_directions(void)
+{
+    static const uint8_t note[] = { 0x9B, 0x31, 0x5D, 0x9B, 0x32, 0x5D, 'A', 0x9B, 0x5D, 0x9B, 0x5D };
+    static uint8_t work[CTEXT_WORK_ROOM(5)];
+    uint8_t out[sizeof note];
+    ctext_unit units[5];
+    ctext_step step = ctext_next(note, sizeof note, ctext_open());
+    size_t i;
+    ctext_read(note, sizeof note, units, 5);
+    directions_are("ctext_read", units);
+    ctext_archive_read(note, sizeof note, units, 5);
+    directions_are("ctext_archive_read", units);
+    for (i = 0; i < 5; i++) {
+        units[i] = step.unit;
+        step = ctext_next(note, sizeof note, step.reader);
+    }
+    directions_are("ctext_next", units);
+    for (i = 0; i < 5; i++)
+        units[i].direction = units[i].depth = UINT16_MAX;
+    if (ctext_write(units, 5, NULL, 0, work, sizeof work, out, sizeof out).count != sizeof note
+        || memcmp(out, note, sizeof note) != 0) {
+        printf("installed: the note written, whatever its directions\n");
+        failures++;
+    }
+}
+
 static void try_parts(void)
 {
     static const uint8_t note[] = { 'A', 0x1B, 0x25, 0x2F, 0x31, 0x80, 0x84, 'a', 'b', 0x02, 0xFF };
@@ -106,6 +145,7 @@ int main(void)
     try_names();
     try_sets();
     try_archive();
+    try_directions();
     try_parts();
     return failures != 0;
 }

@@ -262,6 +262,16 @@ static int our_writing(const list *l, const uint8_t *segments, size_t m, string 
     return a.number == CTEXT_ACCEPTED && a.place == l->count;
 }
 
+/* Whether after each unit the same direction is in force, and as many are open. */
+static int same_directions(const list *a, const list *b)
+{
+    size_t i;
+    for (i = 0; i < a->count && i < b->count; i++)
+        if (a->units[i].direction != b->units[i].direction || a->units[i].depth != b->units[i].depth)
+            return 0;
+    return a->count == b->count;
+}
+
 /* ---- Verdicts ----------------------------------------------------------- */
 
 typedef struct outcome {
@@ -300,10 +310,11 @@ static int fails(outcome *o, const char *why)
 }
 
 /* One note, its octets appended to the output in their shortest form. The text
-   of both must be this one. 0, the number of the refusal, or -1. */
+   of both must be this one, and the directions the same. 0, the number of the
+   refusal, or -1. */
 static int rewrite_note(const uint8_t *s, size_t n, const char *text, string *out, outcome *o)
 {
-    static list l;
+    static list l, written;
     char ours[MOST];
     size_t begins = out->length;
     ctext_answer a = our_reading(s, n, &l);
@@ -318,10 +329,12 @@ static int rewrite_note(const uint8_t *s, size_t n, const char *text, string *ou
         return fails(o, "it is not written");
     if (out->length - begins > n)
         return fails(o, "the shortest form is longer");
-    a = our_reading(out->octets + begins, out->length - begins, &l);
-    if (a.number != CTEXT_ACCEPTED || !text_of(&l, out->octets + begins, ours)
+    a = our_reading(out->octets + begins, out->length - begins, &written);
+    if (a.number != CTEXT_ACCEPTED || !text_of(&written, out->octets + begins, ours)
         || strcmp(ours, text) != 0)
         return fails(o, "our writing is another text");
+    if (!same_directions(&l, &written))
+        return fails(o, "our writing has other directions");
     return 0;
 }
 

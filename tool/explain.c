@@ -19,8 +19,8 @@ static summary summary_of(const note *n)
          step = ctext_next(n->octets, n->length, step.reader)) {
         if (step.unit.kind == CTEXT_KIND_CHARACTER)
             s.sets |= (uint32_t)1 << step.unit.set;
-        if (step.reader.depth > s.depth)
-            s.depth = step.reader.depth;
+        if (step.unit.depth > s.depth)
+            s.depth = step.unit.depth;
     }
     return s;
 }

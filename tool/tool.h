@@ -167,11 +167,6 @@ void progress_clear(int file);
    of ctext_write, with its octets, which stay until the next call. */
 ctext_answer shortest_form(const note *n, const uint8_t **octets);
 
-/* ---- units.c ------------------------------------------------------------ */
-
-/* The direction in force where the reader stands, one of enum ctext_direction. */
-unsigned direction_of(ctext_reader reader);
-
 /* ---- dump.c ------------------------------------------------------------- */
 
 /* The lines of the note that have the element's start and the place, 16 octets

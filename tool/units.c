@@ -6,13 +6,6 @@
 
 #define NAME_SHOWN 16 /* octets of an extended segment's name that a line shows */
 
-unsigned direction_of(ctext_reader reader)
-{
-    if (reader.depth == 0)
-        return CTEXT_DIRECTION_NONE;
-    return reader.levels & 1 ? CTEXT_DIRECTION_RIGHT_TO_LEFT : CTEXT_DIRECTION_LEFT_TO_RIGHT;
-}
-
 /* The set of a character; of an extended segment the start of its name. */
 static const char *set_shown(const note *n, ctext_unit unit, char *name)
 {
@@ -37,13 +30,14 @@ static const char *code_shown(ctext_unit unit, char *code)
     return code;
 }
 
-/* Place, kind, set, code, direction in force after the unit, octets. */
-static void print_unit(const note *n, ctext_unit unit, ctext_reader reader)
+/* Place, kind, set, code, direction in force and directions open after the unit,
+   octets. */
+static void print_unit(const note *n, ctext_unit unit)
 {
     char name[NAME_SHOWN + 1], code[8];
-    out_format("%5lu  %-16s  %-16s  %-4s  %-13s ", (unsigned long)unit.start,
+    out_format("%5lu  %-16s  %-16s  %-4s  %-13s  %2d ", (unsigned long)unit.start,
                ctext_kind_text(unit.kind), set_shown(n, unit, name), code_shown(unit, code),
-               ctext_direction_text(direction_of(reader)));
+               ctext_direction_text(unit.direction), unit.depth);
     out_hexadecimal(n->octets + unit.start, unit.length);
     out_text("\n");
 }
@@ -57,6 +51,6 @@ int units(const note *n)
     out_name(n, ":\n");
     for (step = ctext_next(n->octets, n->length, ctext_open()); step.given;
          step = ctext_next(n->octets, n->length, step.reader))
-        print_unit(n, step.unit, step.reader);
+        print_unit(n, step.unit);
     return STATUS_ACCEPTED;
 }
