@@ -1,10 +1,10 @@
 -- The unit at a cursor from which one is next, by the class of the octet there: the element is what the class starts, which the direction rule lets
 -- pass, and since a unit is next it is not refused (`one-turn`, `two-turn`); so both octets of a character in GL are below 128 (`two-low`). A
 -- designation that is passed changes nothing of what is next (`ready-passed`, `turn-passed`).
-use Rattle.element.proofs.Names.{ℕ, _+_, _-_, _*_, _%_, _/_, _^_, _<_, _≤_, arith, _≡_, refl, ap, sym, _∙_, subst, true, false, List, [], _∷_, eqb, ltb}
+use Rattle.element.proofs.Names.{ℕ, _+_, _-_, _*_, _%_, _/_, _^_, _<_, _≤_, arith, _≡_, refl, ap, sym, _∙_, subst, true, false, List, [], _∷_}
 use Rattle.element.proofs.Names.{length, getD, le-ltb, ltb-true, ltb-false, pick, pick-by, test, clash, on-lt, on-ge, from, from-octet, from-end}
 use Rattle.element.proofs.Names.{UnitRecord, no-set, Side, GL, GR, part, next, get, put, on, stepOf, writtenOf, State, Sets, Part, Shape, Gives as Makes}
-use Rattle.element.proofs.Names.{Element, Refused, Found, eqb-true, on-true, on-eq, on-ne}
+use Rattle.element.proofs.Names.{eqb, ltb, Element, Refused, Found, eqb-true, on-true, on-eq, on-ne}
 use native.Mathlib.Nat.{mod-eq-of-lt}
 use Rattle.base.specs.Kind as kind
 use Rattle.base.specs.Limit as limit

@@ -2,7 +2,8 @@
 -- of that octet, and then the step of the direction rule decides of both. `mark-goes` and `mark-stops` say the turn of a mark by its step.
 use Rattle.element.proofs.Names.{ℕ, _+_, _%_, _^_, _≤_, _<_, arith, _≡_, refl, ap, sym, _∙_, Bool, true, false, List, [], _∷_, eqb, ltb}
 use Rattle.element.proofs.Names.{length, getD, eqb-true, ltb-true, ltb-false, le-ltb, pick, test, clash, from, from-octet, from-end, UnitRecord}
-use Rattle.element.proofs.Names.{part, next, stepOf, State, Directions, Step, Goes, Stops as Halts, Part, Shape, Refuses, Gives as Makes, Element, Refused, Found}
+use Rattle.element.proofs.Names.{part, next, stepOf, State, Directions, Step, Goes, Stops as Halts, Part, Shape, Refuses, Gives as Makes}
+use Rattle.element.proofs.Names.{Element, Refused, Found}
 use native.Mathlib.Nat.{mod-eq-of-lt}
 use Rattle.base.specs.Kind as kind
 use Rattle.base.specs.Limit as limit
@@ -27,7 +28,8 @@ module _ (k octets : ℕ) (c : Cursor) (other r : Turn) (st : State) (x : Step) 
   by-step : r ≡ stepTurn (c .place) k octets st other x → r ≡ markTurn (c .place) k octets (stateIn c) other
   by-step q = q ∙ ap (stepTurn (c .place) k octets st other) is ∙ ap (λ (z : State). markTurn (c .place) k octets z other) kept
 
-  pub mark-goes : (d : Directions) → x ≡ Goes d → r ≡ stepTurn (c .place) k octets st other (Goes d) → r ≡ markTurn (c .place) k octets (stateIn c) other
+  pub mark-goes : (d : Directions) → x ≡ Goes d → r ≡ stepTurn (c .place) k octets st other (Goes d)
+      → r ≡ markTurn (c .place) k octets (stateIn c) other
   mark-goes d e q = by-step (rw e q)
 
   pub mark-stops : (n : ℕ) → x ≡ Halts n → r ≡ other → r ≡ markTurn (c .place) k octets (stateIn c) other

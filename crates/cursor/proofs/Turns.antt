@@ -109,10 +109,9 @@ module _ (s : List ℕ) (short : length s ≤ limit.octets) where
       let n : at + octets ≡ at + (0 + octets) = omega arith in
       let q : Part = textPart k set code octets in
       let a : textAt at to k set code octets ≡ turn (recordOf q at (to .directions)) (cursor (at + size q) to) = rw (m, n) in
-      rw a (subst (λ (x : Part). Turns (turn (recordOf q at (to .directions)) (cursor (at + size q) to)) (Gives (recordOf x at (next .directions)) (at + size x) next))
-      (same-part o .0)
-      (subst (λ (x : State). Turns (turn (recordOf q at (to .directions)) (cursor (at + size q) to)) (Gives (recordOf q at (x .directions)) (at + size q) x))
-      (same-part o .1) (of-text at q l)))
+      let t : Turn = turn (recordOf q at (to .directions)) (cursor (at + size q) to) in
+      rw a (subst (λ (x : Part). Turns t (Gives (recordOf x at (next .directions)) (at + size x) next)) (same-part o .0)
+      (subst (λ (x : State). Turns t (Gives (recordOf q at (x .directions)) (at + size q) x)) (same-part o .1) (of-text at q l)))
 
   silent-by : {at : ℕ} {st to : State} {same : st .sets ≡ to .sets} {e : Element} {k : ℕ} {next : State} {r other : Turn} → e ≡ Silent k next
       → Quick at st to same other e r → r ≡ other

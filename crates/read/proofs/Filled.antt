@@ -62,7 +62,8 @@ module _ (f : List ℕ → Cursor → Turn) where
     fills (reads t m e a) c h [] k = absurd (not-suc-le-zero k)
     fills {at} (reads {p = p} {next = next} {es = es} t m e a) c h (y ∷ ys) k =
         let g = given (h (omega arith)) in
-        ap (λ (t : Turn). t .unit ∷ filledBy s (length (recordsFrom es)) (t .cursor) ys) (g .1 .0) ∙ ap (λ (l : List UnitRecord). recordOf p at (next .directions) ∷ l)
+        ap (λ (t : Turn). t .unit ∷ filledBy s (length (recordsFrom es)) (t .cursor) ys) (g .1 .0)
+        ∙ ap (λ (l : List UnitRecord). recordOf p at (next .directions) ∷ l)
         (fills a (cursor (at + size p) (g .0)) (advances s short _ _ _ _ a (g .1 .1)) ys (le-of-suc-le-suc k))
 
     -- what holds of each cursor at which a unit is next holds after so many steps, if there are more units

@@ -26,6 +26,7 @@ module _ (s : List ℕ) (at : ℕ) (st : State) (e : Element) (is : e ≡ elemen
   unfolding outcomeOf
   gives-silent i = sym (ap (outcomeOf st) (at-passed s at st e is silent i))
 
-  pub gives-found : {p : Part} {next : State} {r : UnitRecord} → e ≡ Found p next → r ≡ recordOf p at (next .directions) → Gives r (at + size p) next ≡ outcome s at st
+  pub gives-found : {p : Part} {next : State} {r : UnitRecord} → e ≡ Found p next → r ≡ recordOf p at (next .directions)
+      → Gives r (at + size p) next ≡ outcome s at st
   unfolding outcomeOf
   gives-found i q = rw q (sym (ap (outcomeOf st) (at-passed s at st e is found i)))

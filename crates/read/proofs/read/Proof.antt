@@ -127,7 +127,8 @@ module _ {M : Type 1} (𝓤 : kit.URA M) (H : kit.Heap 𝓤) (𝓜 : kit.Model �
   count i = countFrom xs (span i) (span i .most) 0
 
   -- the place after the units is in the string
-  place-fits : (i : ℕ) → (span i .form ≡ ones → span i .cursor .place + count i < 2 ^ 64) × (ones < span i .form → span i .cursor .place + 2 * count i < 2 ^ 64)
+  place-fits : (i : ℕ) → (span i .form ≡ ones → span i .cursor .place + count i < 2 ^ 64)
+      × (ones < span i .form → span i .cursor .place + 2 * count i < 2 ^ 64)
   place-fits i =
       let h : count i ≤ 0 + span i .most = count-most xs (span i) (span i .most) 0 in
       let f = span-fits xs (cur xs ys i) (n - i) in

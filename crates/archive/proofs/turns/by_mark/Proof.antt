@@ -6,4 +6,5 @@ use Rattle.archive.proofs.turns.by_mark.Tie as tie
 
 pub by-mark-spec : {M : Type 1} → statement M
 by-mark-spec =
-    tie.close (tie.spec (search arith) (search arith) (λ c. c .with-row .ensures ∙ mark-turn _ _ (c .before .before .before .pre) _ (c .before .marked .ensures)))
+    tie.close
+    (tie.spec (search arith) (search arith) (λ c. c .with-row .ensures ∙ mark-turn _ _ (c .before .before .before .pre) _ (c .before .marked .ensures)))

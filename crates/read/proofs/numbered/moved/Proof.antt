@@ -15,4 +15,7 @@ add-place-2 c = let h = c .before .before .before .before .before .before .pre .
 
 pub moved-spec : {M : Type 1} → statement M
 unfolding movedOf
-moved-spec = tie.close (tie.spec add-place (search arith) (λ c. search ladder depth 9) mul-place add-place-2 (search arith) (λ c. search ladder depth 9) (λ c. search ladder depth 9))
+moved-spec =
+    tie.close
+    (tie.spec add-place (search arith) (λ c. search ladder depth 9) mul-place add-place-2 (search arith) (λ c. search ladder depth 9)
+    (λ c. search ladder depth 9))
