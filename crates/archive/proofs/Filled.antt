@@ -17,7 +17,7 @@ advances s short at st to es = by-element s short
 
 -- a cursor from which a unit is next by the elements
 ready-by : (s : List ℕ) (c : Cursor) {o given : Outcome} → Alike o given → nextOf s (c .place) (stateIn c) ≡ o → Ready s (rowed c)
-ready-by s c (alike {u = u} {place = place}) e = record { row = refl; unit = u; place = place; after = _; next = e }
+ready-by s c (alike {u = u} {place = place}) e = record { row = refl; force = refl; unit = u; place = place; after = _; next = e }
 
 ready-at : (s : List ℕ) (at : ℕ) {st to : State} {given : Outcome} → Like st to → Alike (nextOf s at to) given → Ready s (rowed (cursor at to))
 ready-at s at {st} like a = ready-by s (cursor at st) a refl

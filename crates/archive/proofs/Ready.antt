@@ -184,7 +184,7 @@ module _ (s : List ℕ) (c : RowCursor) (ready : Ready s c) where
         code = p .code;
         start = at % 2 ^ 32;
         length = n;
-        direction = inForceOf (st .directions);
+        direction = c .direction;
         depth = k .depth;
       }
       → j ≡ movedBy c n → record { unit = r; cursor = j } ≡ turnOf s k
@@ -192,8 +192,8 @@ module _ (s : List ℕ) (c : RowCursor) (ready : Ready s c) where
   found-turn p n r j e z l i m =
       let q : at % 2 ^ 32 ≡ at + p .skip = mod-eq-of-lt (omega (arith, inside, short)) ∙ (let x : at ≡ at + p .skip = omega arith in x) in
       let o : at + n ≡ at + size p = omega arith in
-      let f : r ≡ recordOf p at (after p k .directions) = i ∙ rw (q, l) refl in
-      let g : j ≡ rowed (cursor (at + size p) (after p k)) = m ∙ rw (ready .row, o) refl in
+      let f : r ≡ recordOf p at (after p k .directions) = i ∙ rw (q, l, ready .force) refl in
+      let g : j ≡ rowed (cursor (at + size p) (after p k)) = m ∙ rw (ready .row, ready .force, o) refl in
       rw (f, g) (turn-is (gives-found s at st _ e refl refl))
 
   -- ---- by the class of the octet at the cursor
@@ -213,7 +213,7 @@ module _ (s : List ℕ) (c : RowCursor) (ready : Ready s c) where
     unfolding shapeOf
     begun = ap (λ (t : List ℕ). elementOf t st) (sym (from-octet s at inside))
 
-    pub one-turn : (r : UnitRecord) (j : RowCursor) → n ≤ 4 → r ≡ oneRecord k b n (setBy n (k .gl) (k .gr)) → j ≡ movedBy c 1
+    pub one-turn : (r : UnitRecord) (j : RowCursor) → n ≤ 4 → r ≡ oneRecord k b n (setBy n (k .gl) (k .gr)) (c .direction) → j ≡ movedBy c 1
         → record { unit = r; cursor = j } ≡ turnOf s k
     one-turn r j h i m =
         let e = sym (one-found b (from (at + 1) s) k (startIn (st .sets) b) (rw number h)) ∙ begun in
@@ -248,7 +248,7 @@ module _ (s : List ℕ) (c : RowCursor) (ready : Ready s c) where
           let f = ap (begins (start.two d)) (sym (from-octet s (at + 1) two-inside)) ∙ pair in
           not-refused (two-found b y (from (at + 1 + 1) s) k d) f
 
-      pub two-turn : (r : UnitRecord) (j : RowCursor) → r ≡ twoRecord k b y (get d (st .sets)) → j ≡ movedBy c 2
+      pub two-turn : (r : UnitRecord) (j : RowCursor) → r ≡ twoRecord k b y (get d (st .sets)) (c .direction) → j ≡ movedBy c 2
           → record { unit = r; cursor = j } ≡ turnOf s k
       two-turn r j i m = found-turn pair-part 2 r j (character .1) refl refl i m
 
@@ -264,7 +264,7 @@ module _ (s : List ℕ) (c : RowCursor) (ready : Ready s c) where
   none-is : (d : Designation) → d ≡ designationAt (from at s) → no-set ≤ d .set → c ≡ rowed (passedOf s k)
   unfolding passedOf placedOf
   none-is d e h =
-      let f : c ≡ rowed k = ap (λ (n : ℕ). record { cursor = k; row = n }) (ready .row) in
+      let f : c ≡ rowed k = rw (← (ready .row), ← (ready .force)) refl in
       f ∙ ap rowed (on-ge (d .set) no-set k _ k h refl ∙ ap (placedOf k) e)
 
   pub few-left : length s - at < 4 → c ≡ rowed (passedOf s k)
@@ -289,11 +289,11 @@ module _ (s : List ℕ) (c : RowCursor) (ready : Ready s c) where
 
         -- the cursor after it, as the code makes it
         pub placed-is : (row : ℕ) (v : Side) → d .side ≡ v → row ≡ rowOf (put (on v (d .set)) (st .sets))
-            → record { cursor = cursor (at + d .octets) (designatedOf v (d .set) st); row = row } ≡ rowed (passedOf s k)
+            → record { cursor = cursor (at + d .octets) (designatedOf v (d .set) st); row = row; direction = c .direction } ≡ rowed (passedOf s k)
         unfolding passedOf placedOf
         placed-is row v j q =
             let f = on-lt (d .set) no-set _ _ k named refl in
-            rw (q, ← j) (ap rowed (f ∙ ap (placedOf k) told-at))
+            rw (q, ← j, ready .force) (ap rowed (f ∙ ap (placedOf k) told-at))
 
   -- what is next after it is what was next
   placed-next : nextOf s (passedOf s k .place) (stateIn (passedOf s k)) ≡ given
@@ -307,7 +307,7 @@ module _ (s : List ℕ) (c : RowCursor) (ready : Ready s c) where
   module _ (j : RowCursor) (e : j ≡ rowed (passedOf s k)) where
     pub ready-passed : Ready s j
     ready-passed =
-        subst (Ready s) (sym e) (record { row = refl; unit = ready .unit; place = ready .place; after = ready .after; next = placed-next })
+        subst (Ready s) (sym e) (record { row = refl; force = refl; unit = ready .unit; place = ready .place; after = ready .after; next = placed-next })
 
     pub turn-passed : turnOf s (j .cursor) ≡ turnOf s k
     turn-passed =

@@ -18,15 +18,15 @@ use Rattle.units.specs.declared.Outcome.the-variants.{Gives}
 use Rattle.archive.specs.declared.turns.RowCursor.{RowCursor}
 use Rattle.archive.specs.declared.turns.RowTurn.{RowTurn}
 
--- a cursor with the row of its sets
+-- a cursor with the row of its sets and the direction in force there
 abbrev pub rowed : Cursor → RowCursor
-rowed c = record { cursor = c; row = rowOf (sets (c .gl) (c .gr)) }
+rowed c = record { cursor = c; row = rowOf (sets (c .gl) (c .gr)); direction = inForceOf (stateIn c .directions) }
 
 abbrev pub firstRow : RowCursor
 firstRow = rowed first
 
 abbrev pub movedBy : RowCursor → ℕ → RowCursor
-movedBy c n = record { cursor = placedAt (c .cursor .place + n) (c .cursor); row = c .row }
+movedBy c n = record { cursor = placedAt (c .cursor .place + n) (c .cursor); row = c .row; direction = c .direction }
 
 abbrev pub rowedTurn : Turn → RowTurn
 rowedTurn t = record { unit = t .unit; cursor = rowed (t .cursor) }
@@ -35,9 +35,10 @@ rowedTurn t = record { unit = t .unit; cursor = rowed (t .cursor) }
 abbrev pub turnOf : List ℕ → Cursor → RowTurn
 turnOf s c = rowedTurn (elementTurn s c)
 
--- a cursor that has the row of its sets, and from which a unit is next
+-- a cursor that has the row of its sets and the direction in force, and from which a unit is next
 pub record Ready (s : List ℕ) (c : RowCursor) : Type 0 where
   pub row : c .row ≡ rowOf (sets (c .cursor .gl) (c .cursor .gr))
+  pub force : c .direction ≡ inForceOf (stateIn (c .cursor) .directions)
   pub unit : UnitRecord
   pub place : ℕ
   pub after : State
@@ -51,17 +52,17 @@ unfoldable pub setBy : ℕ → ℕ → ℕ → ℕ
 setBy k gl gr = pick (eqb k 4) gr gl
 
 -- the record of a unit of one octet at a cursor, by its class, and that of a character of two
-abbrev pub oneRecord : Cursor → ℕ → ℕ → ℕ → UnitRecord
-oneRecord c b k set =
+abbrev pub oneRecord : Cursor → ℕ → ℕ → ℕ → ℕ → UnitRecord
+oneRecord c b k set direction =
     record {
       kind = k % 4;
       set = ifCharacter k set;
       code = ifCharacter k (b % 128);
       start = c .place % 2 ^ 32;
       length = 1;
-      direction = inForceOf (stateIn c .directions);
+      direction = direction;
       depth = c .depth;
     }
 
-abbrev pub twoRecord : Cursor → ℕ → ℕ → ℕ → UnitRecord
-twoRecord c b y set = twoOf (c .place) b y set (inForceOf (stateIn c .directions)) (c .depth)
+abbrev pub twoRecord : Cursor → ℕ → ℕ → ℕ → ℕ → UnitRecord
+twoRecord c b y set direction = twoOf (c .place) b y set direction (c .depth)

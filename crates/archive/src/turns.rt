@@ -22,10 +22,11 @@ use octet_table::TWO_GL;
 use octet_table::TWO_GR;
 use octet_table::row_of;
 
-// Where the next unit is looked for, and where the row of the table starts that its sets have.
+// Where the next unit is looked for, where the row of the table starts that its sets have, and the direction in force there.
 pub struct RowCursor {
     pub cursor: Cursor,
     pub row: usize,
+    pub direction: u16,
 }
 
 // A unit, and the cursor after it.
@@ -42,6 +43,7 @@ impl RowCursor {
         RowCursor {
             cursor: Cursor::first(),
             row: row_of(0, 3),
+            direction: 0,
         }
     }
 
@@ -55,6 +57,7 @@ impl RowCursor {
         RowCursor {
             cursor: c.placed_at(place),
             row: self.row,
+            direction: self.direction,
         }
     }
 }
@@ -80,8 +83,8 @@ fn set_by(k: u8, gl: u8, gr: u8) -> u8
 }
 
 // The record of a unit of one octet at a cursor, by its class.
-fn one(c: Cursor, b: u8, k: u8, set: u8) -> Unit
-    ensures { λ r. ⌜ r ≡ oneRecord c b k set ⌝ }
+fn one(c: Cursor, b: u8, k: u8, set: u8, direction: u16) -> Unit
+    ensures { λ r. ⌜ r ≡ oneRecord c b k set direction ⌝ }
 {
     let code = if_character(k, b % 128) as u16;
     let start = (c.place % 0x1_0000_0000) as u32;
@@ -91,12 +94,13 @@ fn one(c: Cursor, b: u8, k: u8, set: u8) -> Unit
         code: code,
         start: start,
         length: 1,
-        direction: c.direction(),
+        direction: direction,
         depth: c.depth as u16,
     }
 }
 
-// A turn, with the row of the sets after it.
+// A turn, with the row of the sets after it and the direction in force. The cursor is made anew: copied as it stands, its padding would be carried
+// round the loop too.
 fn with_row(t: Turn) -> RowTurn
     ensures { λ r. ⌜ r ≡ rowedTurn t ⌝ }
 {
@@ -104,8 +108,9 @@ fn with_row(t: Turn) -> RowTurn
     let unit = t.unit;
     RowTurn {
         cursor: RowCursor {
-            cursor: next,
+            cursor: next.placed_at(next.place),
             row: row_of(next.gl, next.gr),
+            direction: next.direction(),
         },
         unit: unit,
     }
@@ -127,9 +132,9 @@ fn by_mark(s: &[u8], c: RowCursor) -> RowTurn
 }
 
 // The record of a character in GL at a cursor.
-fn two_left(c: Cursor, b: u8, d: u8) -> Unit
+fn two_left(c: Cursor, b: u8, d: u8, direction: u16) -> Unit
     requires { ⌜ (b < 128) × (d < 128) ⌝ }
-    ensures { λ r. ⌜ r ≡ twoRecord c b d (c .gl) ⌝ }
+    ensures { λ r. ⌜ r ≡ twoRecord c b d (c .gl) direction ⌝ }
 {
     let code = b as u16 * 256 + d as u16;
     let start = (c.place % 0x1_0000_0000) as u32;
@@ -139,7 +144,7 @@ fn two_left(c: Cursor, b: u8, d: u8) -> Unit
         code: code,
         start: start,
         length: 2,
-        direction: c.direction(),
+        direction: direction,
         depth: c.depth as u16,
     }
 }
@@ -154,18 +159,18 @@ fn text_turn(s: &[u8], c: RowCursor, k: u8) -> RowTurn
     if k == TWO_GL {
         return RowTurn {
             cursor: c.moved(2),
-            unit: two_left(j, s[at], s[at + 1]),
+            unit: two_left(j, s[at], s[at + 1], c.direction),
         };
     }
     if k <= ONE_GR {
         return RowTurn {
             cursor: c.moved(1),
-            unit: one(j, s[at], k, set_by(k, j.gl, j.gr)),
+            unit: one(j, s[at], k, set_by(k, j.gl, j.gr), c.direction),
         };
     }
     RowTurn {
         cursor: c.moved(2),
-        unit: two_octets(at, s[at], s[at + 1], j.gr, j.direction(), j.depth as u16),
+        unit: two_octets(at, s[at], s[at + 1], j.gr, c.direction, j.depth as u16),
     }
 }
 
@@ -195,6 +200,7 @@ fn passed(s: &[u8], c: RowCursor) -> RowCursor
             RowCursor {
                 cursor: next,
                 row: row_of(set, j.gr),
+                direction: c.direction,
             }
         }
         Side::GR => {
@@ -202,6 +208,7 @@ fn passed(s: &[u8], c: RowCursor) -> RowCursor
             RowCursor {
                 cursor: next,
                 row: row_of(j.gl, set),
+                direction: c.direction,
             }
         }
     }

@@ -31,7 +31,7 @@ pub fn moved(r: Span, j: usize) -> Cursor
         let place = c.place + 2 * j;
         return c.placed_at(place);
     }
-    c
+    c.placed_at(c.place)
 }
 
 // The octet at a place, as `single` and `left_first` take it, and as the first of two in GR. Each reads it by itself, so that the compiler

@@ -95,7 +95,7 @@ pub fn lesser(m: usize, n: usize) -> usize
     n
 }
 
-// Any one unit.
+// Any one unit. The cursor is made anew: copied as it stands, its padding would be carried along too.
 fn any_unit(s: &[u8], c: Cursor) -> Span
     ensures { λ r. ⌜ r ≡ anyOf (now (s .entry)) c ⌝ }
 {
@@ -103,7 +103,7 @@ fn any_unit(s: &[u8], c: Cursor) -> Span
     let next = t.cursor;
     let unit = t.unit;
     Span {
-        cursor: next,
+        cursor: next.placed_at(next.place),
         most: 1,
         unit: unit,
         form: ANY,

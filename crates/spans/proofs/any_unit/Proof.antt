@@ -8,4 +8,5 @@ any-unit-spec =
     tie.close
     (tie.spec
     (search arith)
-    (λ c. rw (c .before .before .advance .ensures)))
+    (search arith)
+    (λ c. rw (c .placed-at .ensures, c .before .before .before .advance .ensures)))

@@ -6,5 +6,5 @@ use Rattle.archive.proofs.turns.one.Tie as tie
 pub one-spec : {M : Type 1} → statement M
 one-spec =
     tie.close
-    (tie.spec (search arith) (search arith) (search arith) (search arith) (search arith) (search arith)
-    (λ c. rw (c .before .direction .ensures, c .before .before .if-character2 .ensures, c .before .before .before .before .if-character .ensures)))
+    (tie.spec (search arith) (search arith) (search arith) (search arith) (search arith)
+    (λ c. rw (c .before .if-character2 .ensures, c .before .before .before .if-character .ensures)))

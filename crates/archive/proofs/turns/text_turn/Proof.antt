@@ -38,8 +38,7 @@ text-turn-spec =
     two-inside _ _ (pre .0) _ (pre .1) GR (right-class _ (pre .2) (right .if2 .left) (right .before .if1 .left)))
     (search arith)
     (search arith)
-    (search arith)
-    (λ c. let right = c .before .before .before .before .before .before in
+    (λ c. let right = c .before .before .before .before .before in
     let pre = right .before .before .before .before .pre in
     two-turn _ _ (pre .0) _ (pre .1) GR (right-class _ (pre .2) (right .if2 .left) (right .before .if1 .left)) _ _
-    (rw (c .two-octets .ensures, c .before .before .direction .ensures)) (c .before .before .before .before .before .moved3 .ensures)))
+    (c .two-octets .ensures) (c .before .before .before .before .moved3 .ensures)))

@@ -12,6 +12,5 @@ two-left-spec =
     (search arith)
     (search arith)
     (search arith)
-    (search arith)
-    (λ c. let pre = c .before .before .before .pre in
-    rw (c .before .direction .ensures, mod-eq-of-lt (pre .0), mod-eq-of-lt (pre .1))))
+    (λ c. let pre = c .before .before .pre in
+    rw (mod-eq-of-lt (pre .0), mod-eq-of-lt (pre .1))))

@@ -4,4 +4,5 @@ use Rattle.archive.proofs.turns.with_row.Statement.{statement}
 use Rattle.archive.proofs.turns.with_row.Tie as tie
 
 pub with-row-spec : {M : Type 1} → statement M
-with-row-spec = tie.close (tie.spec (search arith) (λ c. rw (c .row-of .ensures)))
+with-row-spec = tie.close (tie.spec (search arith) (search arith) (search arith)
+    (λ c. rw (c .direction .ensures, c .before .row-of .ensures, c .before .before .placed-at .ensures)))

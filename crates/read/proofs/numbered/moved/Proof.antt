@@ -18,4 +18,4 @@ unfolding movedOf
 moved-spec =
     tie.close
     (tie.spec add-place (search arith) (λ c. search ladder depth 9) mul-place add-place-2 (search arith) (λ c. search ladder depth 9)
-    (λ c. search ladder depth 9))
+    (search arith) (λ c. search ladder depth 9))
