@@ -14,6 +14,8 @@ const MARK: Unit = Unit {
     code: 65535,
     start: 65535,
     length: 65535,
+    direction: 65535,
+    depth: 65535,
 };
 
 fn number(n: u64) {
@@ -36,6 +38,8 @@ fn show_unit(u: Unit) {
     number(u.code as u64);
     number(u.start as u64);
     number(u.length as u64);
+    number(u.direction as u64);
+    number(u.depth as u64);
     io::write_all(1, b"\n");
 }
 
@@ -70,10 +74,10 @@ fn show_items(s: &[u8]) {
 }
 
 // One step of a reader that is made by hand.
-fn show_step(s: &[u8], place: usize, count: usize, gl: u8, gr: u8, depth: u8) {
+fn show_step(s: &[u8], place: usize, count: usize, gl: u8, gr: u8, depth: u8, levels: u64) {
     let state = State {
         directions: Directions {
-            levels: 0,
+            levels: levels,
             depth: depth,
             marked: true,
             texted: true,
@@ -109,29 +113,61 @@ fn show_segments() {
     );
 }
 
+// Directions: nested and mixed, and a tab after the last revert; text of one and two octets and designations inside; one after another; eight deep.
+fn show_directions() {
+    show(b"\x9B\x31\x5D\x41\x9B\x32\x5D\x20\x9B\x5D\x41\x9B\x5D\x09");
+    show(b"\x9B\x32\x5D\x1B\x24\x28\x42\x30\x21\x1B\x2D\x42\xB1\x1B\x28\x42\x41\x42\x0A");
+    show(b"\x0A\x9B\x32\x5D\x41\x9B\x5D\x1B\x28\x4A\x0A\x9B\x31\x5D\x5C");
+    show(b"\x9B\x32\x5D\x9B\x31\x5D\x9B\x5D\x9B\x32\x5D\x9B\x5D\x9B\x5D\x41");
+    show(
+        b"\x9B\x32\x5D\x9B\x31\x5D\x9B\x31\x5D\x9B\x32\x5D\x9B\x32\x5D\x9B\x31\x5D\x9B\x32\x5D\x9B\x31\x5D",
+    );
+}
+
 fn show_steps() {
     // in the middle of a character, at the end, past it; a set that may not stand in GL, in GR, and no set; 16 and 17 directions open; the
     // largest count; more than 65,535 octets, at the end and past it
     let s = b"\x1B\x24\x28\x42\x30\x21";
-    show_step(s, 5, 7, 13, 3, 1);
-    show_step(s, 4, 7, 13, 3, 1);
-    show_step(s, 5, 7, 0, 3, 1);
-    show_step(s, 6, 7, 0, 3, 1);
-    show_step(s, 7, 7, 0, 3, 1);
-    show_step(s, 0, 7, 3, 3, 1);
-    show_step(s, 0, 7, 0, 0, 1);
-    show_step(s, 0, 7, 15, 3, 1);
-    show_step(s, 0, 7, 0, 3, 16);
-    show_step(s, 0, 7, 0, 3, 17);
-    show_step(s, 0, 0xFFFF_FFFF_FFFF_FFFF, 0, 3, 1);
+    show_step(s, 5, 7, 13, 3, 1, 0);
+    show_step(s, 4, 7, 13, 3, 1, 0);
+    show_step(s, 5, 7, 0, 3, 1, 0);
+    show_step(s, 6, 7, 0, 3, 1, 0);
+    show_step(s, 7, 7, 0, 3, 1, 0);
+    show_step(s, 0, 7, 3, 3, 1, 0);
+    show_step(s, 0, 7, 0, 0, 1, 0);
+    show_step(s, 0, 7, 15, 3, 1, 0);
+    show_step(s, 0, 7, 0, 3, 16, 0);
+    show_step(s, 0, 7, 0, 3, 17, 0);
+    show_step(s, 0, 0xFFFF_FFFF_FFFF_FFFF, 0, 3, 1, 0);
     let long = [0x20u8; 65536];
-    show_step(&long, 65536, 7, 0, 3, 1);
-    show_step(&long, 65537, 7, 3, 3, 17);
+    show_step(&long, 65536, 7, 0, 3, 1, 0);
+    show_step(&long, 65537, 7, 3, 3, 17, 0);
     // after a mark: an extended segment with text, no direction open and one open; one without text, none open
     let segment = b"\x1B\x25\x2F\x31\x80\x84\x61\x62\x02\xFF";
-    show_step(segment, 0, 7, 0, 3, 0);
-    show_step(segment, 0, 7, 0, 3, 1);
-    show_step(b"\x1B\x25\x2F\x34\x80\x82\x6E\x02", 0, 7, 0, 3, 0);
+    show_step(segment, 0, 7, 0, 3, 0, 0);
+    show_step(segment, 0, 7, 0, 3, 1, 0);
+    show_step(b"\x1B\x25\x2F\x34\x80\x82\x6E\x02", 0, 7, 0, 3, 0, 0);
+}
+
+// Readers made by hand under directions, by their levels: the last opened is the lowest binary digit, 1 for right-to-left.
+fn show_directed_steps() {
+    // text under each direction, one octet and two, behind a designation; levels past the depth mean nothing
+    show_step(b"\x41", 0, 7, 0, 3, 1, 0);
+    show_step(b"\xE9", 0, 7, 0, 3, 1, 1);
+    show_step(b"\x30\x21", 0, 7, 13, 3, 2, 2);
+    show_step(b"\x1B\x24\x29\x42\xB0\xA1", 0, 7, 0, 3, 16, 0x7FFF);
+    show_step(b"\x41", 0, 7, 0, 3, 1, 0xFFFF_FFFF_FFFF_FFFE);
+    show_step(b"\x0A", 0, 7, 0, 3, 0, 0xFFFF_FFFF_FFFF_FFFF);
+    // one more direction; a revert to each direction, and to none
+    show_step(b"\x9B\x31\x5D", 0, 7, 0, 3, 1, 1);
+    show_step(b"\x9B\x32\x5D", 0, 7, 0, 3, 15, 0);
+    show_step(b"\x9B\x5D", 0, 7, 0, 3, 2, 1);
+    show_step(b"\x9B\x5D", 0, 7, 0, 3, 2, 2);
+    show_step(b"\x9B\x5D", 0, 7, 0, 3, 16, 0xAAAA);
+    show_step(b"\x9B\x5D", 0, 7, 0, 3, 1, 0xFFFF_FFFF_FFFF_FFFF);
+    // an extended segment with text
+    let segment = b"\x1B\x25\x2F\x31\x80\x84\x61\x62\x02\xFF";
+    show_step(segment, 0, 7, 0, 3, 1, 1);
 }
 
 fn main() {
@@ -159,5 +195,7 @@ fn main() {
     show(b"\x41\x41\x41\x41\x41\x41\x41\x41\x41");
     show(b"\x41\x41\x1B\x2D\x42\x1B\x28\x42");
     show_segments();
+    show_directions();
     show_steps();
+    show_directed_steps();
 }

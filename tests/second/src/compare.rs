@@ -41,7 +41,7 @@ impl<L: Library> Comparer<L> {
             self.runs(s)?;
         }
         if self.functions.write && answer.is_accepted() {
-            self.writes(&units, s, Rooms::Few)?;
+            self.writes(&units, s, Rooms::Few, Rooms::One)?;
         }
         Ok(())
     }
@@ -53,6 +53,7 @@ impl<L: Library> Comparer<L> {
     }
 
     fn first_reader(&self, s: &[u8], units: &[Unit], answer: Answer) -> Compared {
+        depths(0, units)?;
         if self.functions.check {
             self.check(s, answer)?;
         }
@@ -64,7 +65,7 @@ impl<L: Library> Comparer<L> {
 
     /// Compares the writer on a list of units.
     pub fn list(&self, units: &[Unit], segments: &[u8]) -> Compared {
-        self.writes(units, segments, Rooms::Many)
+        self.writes(units, segments, Rooms::Many, Rooms::Few)
     }
 
     fn check(&self, s: &[u8], expected: Answer) -> Compared {
@@ -102,16 +103,35 @@ impl<L: Library> Comparer<L> {
         Ok(())
     }
 
-    fn writes(&self, units: &[Unit], segments: &[u8], rooms: Rooms) -> Compared {
+    /// In so many rooms the list as it is, and in some with other values in the
+    /// fields that the writer has to ignore.
+    fn writes(&self, units: &[Unit], segments: &[u8], rooms: Rooms, others: Rooms) -> Compared {
         let expected = match writer::list_refusal(units, segments) {
             Some(refusal) => Expected::Refused(refusal),
             None => written(units, segments)?,
         };
         let mut work = Vec::new();
+        self.writes_in(rooms, units, segments, &expected, &mut work)?;
+        let other = otherwise_directed(units);
+        let compared = self.writes_in(others, &other, segments, &expected, &mut work);
+        compared.map_err(|difference| Difference {
+            call: format!("{}, directions and depths changed", difference.call),
+            ..difference
+        })
+    }
+
+    /// What one call leaves in the work room is old contents to the next.
+    fn writes_in(
+        &self,
+        rooms: Rooms,
+        units: &[Unit],
+        segments: &[u8],
+        expected: &Expected,
+        work: &mut Vec<u8>,
+    ) -> Compared {
         for (work_room, room) in rooms_of_a_writing(units.len(), expected.length(), rooms) {
-            // What one call leaves in the work room is old contents to the next.
             work.resize(work_room + GUARD_OCTETS, 0xA5);
-            self.write(units, segments, &expected, &mut work, room)?;
+            self.write(units, segments, expected, work, room)?;
         }
         Ok(())
     }
@@ -185,6 +205,30 @@ pub fn pattern_list(room: usize) -> Vec<Unit> {
     (0..room + GUARD_RECORDS).map(pattern_unit).collect()
 }
 
+/// Holds this program's own reading to what request No. 6 promises, where so many
+/// directions are open before its first unit.
+pub fn depths(before: u16, units: &[Unit]) -> Compared {
+    if depths_follow(before, units) {
+        return Ok(());
+    }
+    Err(Difference {
+        call: format!("second alone: depths after {before} open directions"),
+        second: show_units(units),
+        library: String::new(),
+    })
+}
+
+/// The list with other values in the two fields that a reading leaves out: 0 in
+/// place of any, and the largest in place of 0.
+fn otherwise_directed(units: &[Unit]) -> Vec<Unit> {
+    let other = |value| if value == 0 { u16::MAX } else { 0 };
+    let unit = |unit: &Unit| {
+        let (direction, depth) = unit.directed();
+        unit.with_directed((other(direction), other(depth)))
+    };
+    units.iter().map(unit).collect()
+}
+
 /// What the writer has to do with a list.
 enum Expected {
     Refused(Answer),
@@ -256,6 +300,7 @@ pub fn rooms_of_a_list(units: usize) -> Vec<usize> {
 /// How many sizes of the work room and the output are tried.
 #[derive(Clone, Copy)]
 enum Rooms {
+    One,
     Few,
     Many,
 }
@@ -265,7 +310,10 @@ enum Rooms {
 fn rooms_of_a_writing(units: usize, length: usize, rooms: Rooms) -> Vec<(usize, usize)> {
     let work = writer::work_room(units);
     let short = length.saturating_sub(1);
-    let mut pairs = vec![(work, length + 3), (work, short), (work - 1, length)];
+    let mut pairs = vec![(work, length + 3)];
+    if let Rooms::Few | Rooms::Many = rooms {
+        pairs.extend([(work, short), (work - 1, length)]);
+    }
     if let Rooms::Many = rooms {
         pairs.extend([(work, length), (work, 0), (work + 5, length)]);
         pairs.extend([(work - 1, 0), (0, length + 3), (0, 0)]);
@@ -310,6 +358,8 @@ fn pattern_unit(place: usize) -> Unit {
         code: 0xFEED,
         start: 0xDEAD_0000 ^ place as u32,
         length: 0xBEEF_0000 ^ place as u32,
+        direction: 0xF00D ^ place as u16,
+        depth: 0xCAFE ^ place as u16,
     }
 }
 

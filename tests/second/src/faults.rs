@@ -13,6 +13,7 @@ use crate::steps::{self, Handed, Position};
 use crate::unit::*;
 use crate::writer;
 use crate::wrong_archive::WrongArchive;
+use crate::wrong_directions::{WrongDirection, WrongWriter};
 use crate::wrong_places::WrongPlace;
 use crate::wrong_rules::WrongRule;
 
@@ -98,6 +99,10 @@ pub enum Fault {
     Reads(WrongRule),
     /// The writer keeps one.
     Writes(WrongRule),
+    /// One of the functions gives wrong directions or depths.
+    Directions(WrongDirection, Call),
+    /// The writer looks at them.
+    LooksAtDirections(WrongWriter),
 }
 
 /// The functions that hand back the refusal of a string.
@@ -159,14 +164,35 @@ impl Faulty {
     fn steps(&self, s: &[u8], from: Position) -> Vec<Handed> {
         match self.fault {
             Fault::Reads(rule) => rule.steps(s, from),
+            Fault::Directions(wrong, Call::Next) => wrong.steps(s, from),
             _ => steps::steps(s, from),
         }
     }
 
     fn list_refusal(&self, units: &[Unit], segments: &[u8]) -> Option<Answer> {
         match self.fault {
-            Fault::Writes(rule) if units.len() <= LIMIT => rule.list_refusal(units, segments),
+            _ if units.len() > LIMIT => writer::list_refusal(units, segments),
+            Fault::Writes(rule) => rule.list_refusal(units, segments),
+            Fault::LooksAtDirections(wrong) => wrong.list_refusal(units, segments),
             _ => writer::list_refusal(units, segments),
+        }
+    }
+
+    /// The string of a list that is not refused.
+    fn written(&self, units: &[Unit], segments: &[u8]) -> Vec<u8> {
+        match self.fault {
+            Fault::LooksAtDirections(wrong) => {
+                writer::shortest_lazy(&wrong.written(units), segments)
+            }
+            _ => writer::shortest_lazy(units, segments),
+        }
+    }
+
+    /// The units of a list reader, with wrong directions if that is the fault.
+    fn directed(&self, call: Call, s: &[u8], units: Vec<Unit>) -> Vec<Unit> {
+        match self.fault {
+            Fault::Directions(wrong, faulty) if faulty == call => wrong.units(s, State::fresh()),
+            _ => units,
         }
     }
 
@@ -269,6 +295,7 @@ impl Library for Faulty {
 
     fn read(&self, s: &[u8], list: &mut [Unit], room: usize) -> Answer {
         let (units, answer) = reader::units_from(s, State::fresh());
+        let units = self.directed(Call::Read, s, units);
         let answer = reader::answer_with_room(answer, room);
         let early = self.fault == Fault::ListOfRefusal && room >= units.len();
         if answer.is_accepted() || early {
@@ -383,7 +410,7 @@ impl Library for Faulty {
         if let Some(refusal) = self.list_refusal(units, segments) {
             return refusal;
         }
-        let mut string = writer::shortest_lazy(units, segments);
+        let mut string = self.written(units, segments);
         let answer = writer::answer(units.len(), string.len(), work.lent, out.lent);
         if let (Fault::LastSpace, Some(0x20)) = (self.fault, string.last()) {
             string.pop();
@@ -451,6 +478,7 @@ impl Library for Faulty {
     ) -> Answer {
         let wrong = self.archive();
         let (units, answer) = wrong.reading(memory, string.clone());
+        let units = self.directed(Call::ArchiveRead, &memory[string.clone()], units);
         let answer = wrong.store(&units, answer, list, room);
         self.placed_in_string(Call::ArchiveRead, &memory[string], answer)
     }

@@ -151,6 +151,8 @@ struct CUnit {
     code: u16,
     start: u32,
     length: u32,
+    direction: u16,
+    depth: u16,
 }
 
 #[repr(C)]
@@ -246,8 +248,9 @@ struct CRow {
 }
 
 /// The header's sizes.
+const _: () = assert!(size_of::<CUnit>() == 16);
 const _: () = assert!(
-    size_of::<CReader>() == 32 && size_of::<CPassedReader>() == 32 && size_of::<CStep>() == 72
+    size_of::<CReader>() == 32 && size_of::<CPassedReader>() == 32 && size_of::<CStep>() == 80
 );
 const _: () = assert!(
     size_of::<CRunReader>() == 24
@@ -532,6 +535,8 @@ fn to_c(unit: &Unit) -> CUnit {
         code: unit.code,
         start: unit.start,
         length: unit.length,
+        direction: unit.direction,
+        depth: unit.depth,
     }
 }
 
@@ -542,6 +547,8 @@ fn unit_from_c(unit: &CUnit) -> Unit {
         code: unit.code,
         start: unit.start,
         length: unit.length,
+        direction: unit.direction,
+        depth: unit.depth,
     }
 }
 

@@ -1,6 +1,7 @@
 //! Lists of units to compare: random ones, damaged ones, and those at the limit.
 
 use crate::random::Random;
+use crate::reader::Marks;
 use crate::sets;
 use crate::shape;
 use crate::strings::{any_body, random_body, random_value};
@@ -32,6 +33,7 @@ pub fn random_list(random: &mut Random) -> List {
             fill_unused(random, unit);
         }
     }
+    direct(random, &mut list);
     list
 }
 
@@ -155,10 +157,10 @@ impl Maker {
         let start = self.list.segments.len();
         self.list.units.push(Unit {
             kind: SEGMENT,
-            set: 0,
             code: u16::from(d),
             start: start as u32,
             length: body.len() as u32,
+            ..Unit::default()
         });
         self.list.segments.extend(body);
     }
@@ -274,10 +276,10 @@ fn insert_misplaced(random: &mut Random, list: &mut List) {
     let kinds = [SPACE, LEFT_TO_RIGHT, RIGHT_TO_LEFT, REVERT, SEGMENT];
     let unit = Unit {
         kind: random.pick(&kinds),
-        set: 0,
         code: random.between(0x30, 0x34) as u16,
         start: start as u32,
         length: random.below(octets.saturating_sub(start) + 2) as u32,
+        ..Unit::default()
     };
     let place = random.below(list.units.len() + 1);
     list.units.insert(place, unit);
@@ -297,15 +299,46 @@ fn fill_unused(random: &mut Random, unit: &mut Unit) {
     }
 }
 
+/// Puts values into the direction and depth of each unit, which the writer does
+/// not look at: none, those of a reading, the largest, small ones, or any.
+fn direct(random: &mut Random, list: &mut List) {
+    let values = random.below(5);
+    let mut marks = Marks::default();
+    for unit in &mut list.units {
+        *unit = unit.with_directed(match values {
+            0 => (0, 0),
+            1 => directed(unit, &list.segments, &mut marks),
+            2 => (u16::MAX, u16::MAX),
+            3 => (random.below(4) as u16, random.below(DEPTH + 2) as u16),
+            _ => (random.number() as u16, random.number() as u16),
+        });
+    }
+}
+
+/// What a reading has there; a unit that is refused leaves the directions.
+fn directed(unit: &Unit, segments: &[u8], marks: &mut Marks) -> Directed {
+    // The list may be one that is refused.
+    let _ = writer::admit_unit(unit, segments, marks);
+    marks.directed()
+}
+
 /// Lists of about 65,535 units, and lists whose writing has about 65,535 octets.
 pub fn limit_lists(random: &mut Random) -> Vec<List> {
+    let mut all = plain_limit_lists(random);
+    for list in &mut all {
+        direct(random, list);
+    }
+    all
+}
+
+fn plain_limit_lists(random: &mut Random) -> Vec<List> {
     let mut all = Vec::new();
     for length in [LIMIT - 1, LIMIT, LIMIT + 1] {
         all.push(same_units(TAB, length));
         all.push(same_units(9, length));
     }
     for length in [LIMIT - 1, LIMIT, LIMIT + 1] {
-        all.push(list_with_writing(random, length));
+        all.push(plain_list_with_writing(random, length));
         all.push(segments_with_writing(length));
     }
     for length in [16_382, 16_383, 16_384, 16_385] {
@@ -333,6 +366,12 @@ fn same_units(kind: u8, length: usize) -> List {
 
 /// A random list with tabs at its end, whose shortest writing has this length.
 pub fn list_with_writing(random: &mut Random, length: usize) -> List {
+    let mut list = plain_list_with_writing(random, length);
+    direct(random, &mut list);
+    list
+}
+
+fn plain_list_with_writing(random: &mut Random, length: usize) -> List {
     let mut list = good_list(random, length / 10);
     while writer::list_refusal(&list.units, &list.segments).is_some()
         || writer::least_length(&list.units) > length
@@ -364,10 +403,9 @@ fn long_segment(length: usize, name: usize) -> List {
     segments[name] = 0x02;
     let unit = Unit {
         kind: SEGMENT,
-        set: 0,
         code: 0x30,
-        start: 0,
         length: length as u32,
+        ..Unit::default()
     };
     List {
         units: vec![unit],
@@ -438,6 +476,33 @@ mod tests {
                 assert!(least.iter().all(|&times| times > 5), "{phase}, d {d:X}");
             }
         }
+    }
+
+    /// The values of a reading, those that no reading has there, and none, in
+    /// lists that are written and in such as are refused.
+    #[test]
+    fn directions_of_every_make_are_met() {
+        let mut random = Random::new(1);
+        let mut times = HashMap::new();
+        for _ in 0..20_000 {
+            let List { units, segments } = random_list(&mut random);
+            if !units.iter().any(Unit::is_mark) {
+                continue;
+            }
+            let refused = writer::list_refusal(&units, &segments).is_some();
+            let mut marks = Marks::default();
+            let right = |unit: &Unit| directed(unit, &segments, &mut marks) == unit.directed();
+            let make = match units[0].directed() {
+                _ if units.iter().all(right) => "of a reading",
+                (0, 0) => "none",
+                (u16::MAX, u16::MAX) => "the largest",
+                (0..4, 0..18) => "small",
+                _ => "any",
+            };
+            *times.entry((make, refused)).or_insert(0) += 1;
+        }
+        assert_eq!(times.len(), 10);
+        assert!(times.values().all(|&times| times > 300), "{times:?}");
     }
 
     #[test]

@@ -14,6 +14,7 @@ mod forms;
 mod listing;
 mod lists;
 mod naming;
+mod nesting;
 mod odd;
 mod oracle;
 mod places;
@@ -38,6 +39,8 @@ mod unit;
 mod writer;
 #[cfg(test)]
 mod wrong_archive;
+#[cfg(test)]
+mod wrong_directions;
 #[cfg(test)]
 mod wrong_places;
 #[cfg(test)]

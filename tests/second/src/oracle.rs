@@ -26,7 +26,7 @@ pub fn answer(line: &str) -> Result<String, String> {
 }
 
 /// The answer, and the units before the end or the offending element as
-/// `[kind set code start length]`, the code in hexadecimal.
+/// `[kind set code start length direction depth]`, the code in hexadecimal.
 pub fn units(line: &str) -> Result<String, String> {
     let (units, answer) = reader::units_from(&octets(line)?, State::fresh());
     Ok(show_reading(&units, &answer))
@@ -120,8 +120,8 @@ pub fn show_answer(answer: &Answer) -> String {
 
 pub fn show_unit(unit: &Unit) -> String {
     format!(
-        "[{} {} {:02X} {} {}]",
-        unit.kind, unit.set, unit.code, unit.start, unit.length
+        "[{} {} {:02X} {} {} {} {}]",
+        unit.kind, unit.set, unit.code, unit.start, unit.length, unit.direction, unit.depth
     )
 }
 

@@ -139,6 +139,7 @@ fn reached(random: &mut Random, s: &[u8]) -> Position {
 /// it have not led to.
 fn directed(random: &mut Random, s: &[u8]) -> Position {
     Position {
+        levels: random.word(),
         depth: random.pick(&[0, 0, 1, DEPTH as u8]),
         marked: random.below(2) as u8,
         texted: random.below(2) as u8,

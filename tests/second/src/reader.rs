@@ -52,6 +52,11 @@ impl Marks {
     pub fn innermost(&self) -> Option<Direction> {
         self.open.last().copied()
     }
+
+    pub fn directed(&self) -> Directed {
+        let direction = direction_number(self.innermost());
+        (direction.into(), self.open.len() as u16)
+    }
 }
 
 /// What an element is to the direction rule.
@@ -153,11 +158,14 @@ fn pass_element(
     Ok(())
 }
 
-/// The unit of an element; a designation is none.
-pub fn unit_of(element: &Element) -> Option<Unit> {
+/// The unit of an element, with the directions after it; a designation is none.
+pub fn unit_of(element: &Element, after: &Marks) -> Option<Unit> {
+    let (direction, depth) = after.directed();
     let mut unit = Unit {
         start: element.start as u32,
         length: (element.end - element.start) as u32,
+        direction,
+        depth,
         ..Unit::default()
     };
     match element.piece {
@@ -185,7 +193,9 @@ pub fn unit_of(element: &Element) -> Option<Unit> {
 /// that it repeats from then on.
 pub fn units_from(s: &[u8], state: State) -> (Vec<Unit>, Answer) {
     let mut units = Vec::new();
-    let answer = read_on(s, state, |element, _| units.extend(unit_of(element)));
+    let answer = read_on(s, state, |element, after| {
+        units.extend(unit_of(element, &after.marks));
+    });
     (units, answer)
 }
 

@@ -6,6 +6,7 @@ use crate::compare::{Compared, Comparer, Difference};
 use crate::ffi::{Functions, Library};
 use crate::forms;
 use crate::lists::{self, List};
+use crate::nesting;
 use crate::oracle::{show_octets, show_units};
 use crate::positions;
 use crate::random::Random;
@@ -49,7 +50,7 @@ pub fn compare<L: Library>(library: L, plan: &Plan) -> u64 {
 }
 
 /// The comparison of one string by some of the functions.
-type StringComparison<L> = fn(&Comparer<L>, &[u8]) -> Compared;
+pub type StringComparison<L> = fn(&Comparer<L>, &[u8]) -> Compared;
 
 /// The comparison of readers made by hand at a position.
 type ReaderComparison<L> = fn(&Comparer<L>, &[u8], Position) -> Compared;
@@ -108,8 +109,11 @@ impl<L: Library> Session<L> {
         self.random_strings(200_000);
         self.all_stretches();
         self.random_stretches(20_000);
+        self.all_nested(10);
+        self.random_nested(5_000);
         self.all_readers();
         self.random_readers(200_000);
+        self.nested_readers(5_000);
         self.random_lists(100_000);
         self.limits();
         self.all_short_resources();
@@ -194,6 +198,30 @@ impl<L: Library> Session<L> {
         }
     }
 
+    /// So many strings for each word of marks, as for the stretches.
+    fn all_nested(&mut self, times: usize) {
+        let words = nesting::words(5).into_iter().chain(nesting::deep_words());
+        for word in words {
+            for _ in 0..times {
+                if !self.goes_on() {
+                    return;
+                }
+                let s = nesting::string(&mut self.random, &word);
+                self.stretch(&s);
+            }
+        }
+    }
+
+    fn random_nested(&mut self, count: usize) {
+        for _ in 0..count {
+            if !self.goes_on() {
+                return;
+            }
+            let s = nesting::random_string(&mut self.random);
+            self.stretch(&s);
+        }
+    }
+
     fn stretch(&mut self, s: &[u8]) {
         if self.strings.is_multiple_of(SOME) {
             self.string(s);
@@ -214,6 +242,17 @@ impl<L: Library> Session<L> {
                 return;
             }
             let s = strings::random_string(&mut self.random);
+            let position = positions::random_position(&mut self.random, &s);
+            self.reader(&s, position);
+        }
+    }
+
+    fn nested_readers(&mut self, count: usize) {
+        for _ in 0..count {
+            if !self.goes_on() {
+                return;
+            }
+            let s = nesting::random_string(&mut self.random);
             let position = positions::random_position(&mut self.random, &s);
             self.reader(&s, position);
         }
@@ -278,14 +317,16 @@ impl<L: Library> Session<L> {
         }
     }
 
-    /// All strings of three octets, then random strings, stretches, readers, lists
-    /// and resource strings until the time is over.
+    /// All strings of three octets, then random strings, stretches, strings under
+    /// directions, readers, lists and resource strings until the time is over.
     fn long_part(&mut self, time: Duration) {
         self.all_strings(&[], &strings::every_octet(), 3);
         while self.goes_on() && self.started.elapsed() < time {
             self.random_strings(20_000);
             self.random_stretches(20_000);
+            self.random_nested(5_000);
             self.random_readers(20_000);
+            self.nested_readers(2_000);
             self.random_lists(20_000);
             self.random_resources(5_000);
             self.one_at_the_limit();
@@ -551,6 +592,7 @@ mod tests {
     use crate::faults::{Call, Fault, Faulty};
     use crate::unit::*;
     use crate::wrong_archive::WrongArchive;
+    use crate::wrong_directions::{WrongDirection, WrongWriter, RECORDS};
     use crate::wrong_places::WrongPlace;
     use crate::wrong_rules::WrongRule;
 
@@ -603,8 +645,10 @@ mod tests {
         session.all_strings(&[0x1B], &strings::FEW, 3);
         session.random_strings(2_000);
         session.random_stretches(500);
+        session.random_nested(100);
         assert_eq!(session.archived, session.strings);
-        session.random_readers(2_000);
+        session.random_readers(1_900);
+        session.nested_readers(100);
         session.random_lists(2_000);
         session.all_resources(&forms::TELLING, 3);
         assert_eq!(session.resources, 7 * 7 * 7);
@@ -614,9 +658,9 @@ mod tests {
         session.all_designations();
         assert_eq!(session.differences, 0);
         assert_eq!((session.rows, session.designations), (256, 1 << 24));
-        assert_eq!(session.strings, 12 * 12 * 12 + 2_000 + 500);
-        // Of the stretches a fifth.
-        assert_eq!(session.stepped, session.strings - 400);
+        assert_eq!(session.strings, 12 * 12 * 12 + 2_000 + 500 + 100);
+        // Of the stretches, and of what is nested, a fifth.
+        assert_eq!(session.stepped, session.strings - 480);
         assert_eq!(session.readers, 2_000);
         assert_eq!(session.lists, 2_000);
     }
@@ -817,6 +861,69 @@ mod tests {
             });
             assert_eq!(differences, ENOUGH, "{wrong:?}");
         }
+    }
+
+    #[test]
+    fn wrong_directions_are_shrunk() {
+        let s = b"\x09\x9B2]A\x1B$)B\xB0\xA1\x9B1]\xB0\xA2\x9B]\x0A\x9B]\x09";
+        let found = |wrong, call| {
+            let (_, compare) = RECORDS.into_iter().find(|of| of.0 == call).expect("one");
+            smallest_by(compare, Fault::Directions(wrong, call), s)
+        };
+        let (smallest, call) = found(WrongDirection::DirectionBefore, Call::Read);
+        assert_eq!(smallest, b"\x9B2]");
+        assert_eq!(call, "ctext_read into a list of 1, the records after it");
+        let (smallest, call) = found(WrongDirection::TextAtNone, Call::Read);
+        assert_eq!(smallest, b"\x9B2]A");
+        assert_eq!(call, "ctext_read into a list of 2, the records after it");
+        let (smallest, call) = found(WrongDirection::NoneNotRestored, Call::ArchiveRead);
+        assert_eq!(smallest, b"\x9B2]\x9B]");
+        let records = "the records after it";
+        assert_eq!(
+            call,
+            format!("ctext_archive_read into a list of 2, {records}")
+        );
+        let (smallest, _) = found(WrongDirection::RevertKeepsDirection, Call::ArchiveRead);
+        assert_eq!(smallest, b"\x9B2]\x9B1]\x9B]");
+        let (smallest, call) = found(WrongDirection::ControlAtNone, Call::Next);
+        assert_eq!(smallest, b"\x9B2]\x09");
+        assert_eq!(call, "ctext_next number 1");
+    }
+
+    /// A reader made by hand that goes on from no direction.
+    #[test]
+    fn a_wrong_direction_of_a_reader_is_shrunk() {
+        let by_hand = Position {
+            levels: 0b101,
+            depth: 3,
+            ..Position::OPENED
+        };
+        let fault = Fault::Directions(WrongDirection::FromNone, Call::Next);
+        let (s, position) = smallest_reader(fault, b"\x09\xE9\x0A", by_hand);
+        assert_eq!(s, [0x09]);
+        assert_eq!((position.levels, position.depth), (0, 1));
+    }
+
+    /// A writer may not look at the directions of a list, be they those of a
+    /// reading or any others.
+    #[test]
+    fn writers_that_look_at_directions_are_found() {
+        for wrong in WrongWriter::ALL {
+            let differences = |compare: fn(&mut Session<Faulty>)| {
+                let mut session = session(Fault::LooksAtDirections(wrong));
+                compare(&mut session);
+                session.differences
+            };
+            let strings = differences(|session| session.random_strings(5_000));
+            let lists = differences(|session| session.random_lists(5_000));
+            let found = [strings, lists];
+            assert!(found.iter().all(|&times| times > 5), "{wrong:?} {found:?}");
+        }
+        let (smallest, call) =
+            smallest(Fault::LooksAtDirections(WrongWriter::LimitsDepth), b"A\x09");
+        assert_eq!(smallest, [0x41]);
+        let room = "ctext_write with work room 144 and output 4";
+        assert_eq!(call, format!("{room}, directions and depths changed"));
     }
 
     /// How often each fault in the table of sets shows, and first where.

@@ -2,10 +2,11 @@
 
 use std::ops::Range;
 
-use crate::compare::{pattern_octet, same, Compared, Comparer};
+use crate::compare::{depths, pattern_octet, same, Compared, Comparer};
 use crate::ffi::Library;
 use crate::oracle::{show_answer, show_octets, show_unit};
 use crate::steps::{self, Handed, Position};
+use crate::unit::Unit;
 
 /// Octets before and behind the string, which no call may change.
 const GUARD: usize = 5;
@@ -36,6 +37,7 @@ impl<L: Library> Comparer<L> {
     pub fn reader(&self, s: &[u8], from: Position) -> Compared {
         let mut memory = Memory::around(s, IN_GR);
         let mut expected = steps::steps(s, from);
+        depths(from.depth.into(), &given(&expected))?;
         expected.extend(expected.last().copied());
         let mut calls = Vec::with_capacity(expected.len());
         let mut position = from;
@@ -70,6 +72,12 @@ impl<L: Library> Comparer<L> {
         let string = memory.string.clone();
         self.library.next(&mut memory.octets, string, position)
     }
+}
+
+/// The units that are handed out.
+fn given(steps: &[Handed]) -> Vec<Unit> {
+    let given = steps.iter().filter(|step| step.given == 1);
+    given.map(|step| step.unit).collect()
 }
 
 /// What is handed back without the digits that mean nothing.

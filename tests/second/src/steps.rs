@@ -105,7 +105,7 @@ pub fn steps(s: &[u8], from: Position) -> Vec<Handed> {
     let mut state = from.state();
     let mut steps = Vec::new();
     let answer = reader::advance(s, &mut state, |element, after| {
-        if let Some(unit) = reader::unit_of(element) {
+        if let Some(unit) = reader::unit_of(element, &after.marks) {
             steps.push(Handed {
                 position: Position::of(after),
                 answer: Answer::accepted(0, 0),

@@ -42,9 +42,9 @@ const GR_SETS: [&[u8]; 3] = [&[1], &[3, 4, 5, 6, 7, 8, 9, 10, 11], &[12, 13, 14]
 /// are none, or leaves it open.
 const BEFORE: [&[u8]; 7] = [
     b"",
-    b"\x9B1]",
+    b"\x9B2]",
     b"A",
-    b"\x9B1]\x9B2]\xE9\x9B]",
+    b"\x9B2]\x9B1]\x9B2]\x9B]",
     b"\x09\x0A",
     b"\x1B%/1\x80\x83a\x02\x02",
     b"\x1B%/1\x80\x82a\x02",
@@ -347,7 +347,7 @@ fn random_stretch(random: &mut Random, part: &Part) -> Vec<u8> {
 
 /// A character, or a space where one may stand: the first and the last of the set
 /// come often, and the turns of seven fall on all places of a word.
-fn character(s: &mut Vec<u8>, side: Side, in_force: Sets, turn: usize) {
+pub fn character(s: &mut Vec<u8>, side: Side, in_force: Sets, turn: usize) {
     let set = in_force.on(side);
     let (first, last) = (*sets::values(set).start(), *sets::values(set).end());
     let octets = [

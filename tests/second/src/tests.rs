@@ -1,10 +1,12 @@
 //! Every string of the papers that names an answer, what they leave open (A ..)
-//! as docs/DECISIONS.md reads it, and request No. 2; the places by request No. 4.
+//! as docs/DECISIONS.md reads it, and requests No. 2 and 6; the places by request
+//! No. 4.
 
 use crate::oracle::octets;
 use crate::reader::{self, Marks, State};
 use crate::runs::{self, Run};
 use crate::sets::{self, Sets, Side, DESIGNATIONS};
+use crate::steps::Position;
 use crate::unit::*;
 use crate::writer;
 
@@ -52,10 +54,10 @@ fn plain(kind: u8) -> Unit {
 fn segment(d: u16, start: u32, length: u32) -> Unit {
     Unit {
         kind: SEGMENT,
-        set: 0,
         code: d,
         start,
         length,
+        ..Unit::default()
     }
 }
 
@@ -65,14 +67,14 @@ const X: Unit = Unit {
     code: 0x3021,
     start: 0,
     length: 0,
+    direction: 0,
+    depth: 0,
 };
 const Y: Unit = Unit { set: 14, ..X };
 const A: Unit = Unit {
-    kind: CHARACTER,
     set: 0,
     code: 0x41,
-    start: 0,
-    length: 0,
+    ..X
 };
 
 /// The one string of a list, by every way that this program knows.
@@ -144,21 +146,23 @@ fn units_of_a_checked_string() {
 #[test]
 fn every_kind_of_unit() {
     let s = hex("9B 31 5D 1B 24 29 43 B0 A1 20 9B 32 5D 0A 9B 5D 1B 25 2F 31 80 84 61 62 02 FF");
-    let unit = |kind, set, code, start, length| Unit {
+    let unit = |kind, (set, code), (start, length), (direction, depth)| Unit {
         kind,
         set,
         code,
         start,
         length,
+        direction,
+        depth,
     };
     let expected = vec![
-        unit(LEFT_TO_RIGHT, 0, 0, 0, 3),
-        unit(CHARACTER, 14, 0x3021, 7, 2),
-        unit(SPACE, 0, 0, 9, 1),
-        unit(RIGHT_TO_LEFT, 0, 0, 10, 3),
-        unit(NEWLINE, 0, 0, 13, 1),
-        unit(REVERT, 0, 0, 14, 2),
-        unit(SEGMENT, 0, 0x31, 22, 4),
+        unit(LEFT_TO_RIGHT, (0, 0), (0, 3), (1, 1)),
+        unit(CHARACTER, (14, 0x3021), (7, 2), (1, 1)),
+        unit(SPACE, (0, 0), (9, 1), (1, 1)),
+        unit(RIGHT_TO_LEFT, (0, 0), (10, 3), (2, 2)),
+        unit(NEWLINE, (0, 0), (13, 1), (2, 2)),
+        unit(REVERT, (0, 0), (14, 2), (1, 1)),
+        unit(SEGMENT, (0, 0x31), (22, 4), (1, 1)),
     ];
     assert_eq!(reader::read(&s), Ok(expected));
 }
@@ -597,6 +601,128 @@ fn order_within_a_segment_of_a_list() {
     refused(&full, &octets, 9, 17);
 }
 
+// Request No. 6: the direction in force after each unit, and the depth.
+
+/// Direction and depth after each unit before the end or the offending element.
+fn directed(s: &str, state: State) -> Vec<Directed> {
+    let (units, _) = reader::units_from(&hex(s), state);
+    units.iter().map(Unit::directed).collect()
+}
+
+#[test]
+fn directions_after_each_unit() {
+    let of = |s: &str| directed(s, State::fresh());
+    assert_eq!(of("41 09"), [(0, 0), (0, 0)]);
+    assert_eq!(of("09 9B 31 5D 41 20 E9")[0..2], [(0, 0), (1, 1)]);
+    assert_eq!(of("09 9B 31 5D 41 20 E9")[2..], [(1, 1); 3]);
+    assert_eq!(of("9B 32 5D 0A 1B 24 28 42 30 21 30 22"), [(2, 1); 4]);
+    // A revert has the direction beneath, and none where that was the last.
+    let nested = "9B 31 5D 9B 32 5D 41 9B 5D 41 9B 32 5D 9B 5D 9B 5D 09";
+    let expected = [(1, 1), (2, 2), (2, 2), (1, 1), (1, 1), (2, 2), (1, 1)];
+    assert_eq!(of(nested)[..7], expected);
+    assert_eq!(of(nested)[7..], [(0, 0), (0, 0)]);
+    // Also before an offending element, and after all were reverted.
+    assert_eq!(of("9B 32 5D 9B 5D 41"), [(2, 1), (0, 0)]);
+    assert_eq!(of("9B 32 5D 41 00 41"), [(2, 1), (2, 1)]);
+    let again = of("9B 32 5D 9B 5D 0A 9B 31 5D 41");
+    assert_eq!(again, [(2, 1), (0, 0), (0, 0), (1, 1), (1, 1)]);
+}
+
+#[test]
+fn directions_of_segments() {
+    for segment in WITH_TEXT.iter().chain(&WITHOUT_TEXT) {
+        let alone = directed(segment, State::fresh());
+        assert_eq!(alone, [(0, 0)], "{segment}");
+        let within = directed(&format!("9B 32 5D {segment}"), State::fresh());
+        assert_eq!(within, [(2, 1), (2, 1)], "{segment}");
+    }
+}
+
+/// All sixteen are kept, the outer ones for the reverts.
+#[test]
+fn directions_at_every_depth() {
+    let word = 0b1011_0010_1110_0101_u16;
+    let direction = |level: usize| 1 + (word >> (level - 1) & 1);
+    let mut s = Vec::new();
+    let mut expected = Vec::new();
+    for level in 1..=16 {
+        s.extend([0x9B, 0x30 + direction(level) as u8, 0x5D, 0x41]);
+        expected.extend([(direction(level), level as u16); 2]);
+    }
+    for level in (1..16).rev() {
+        s.extend([0x9B, 0x5D, 0xE9]);
+        expected.extend([(direction(level), level as u16); 2]);
+    }
+    s.extend([0x9B, 0x5D, 0x09]);
+    expected.extend([(0, 0); 2]);
+    let units = reader::read(&s).expect("accepted");
+    let found: Vec<Directed> = units.iter().map(Unit::directed).collect();
+    assert_eq!(found, expected);
+}
+
+/// A reader made by hand goes on from the directions that it holds.
+#[test]
+fn directions_from_a_state_made_by_hand() {
+    let from = |levels, depth| {
+        let position = Position {
+            levels,
+            depth,
+            marked: 1,
+            texted: 1,
+            ..Position::OPENED
+        };
+        position.state()
+    };
+    assert_eq!(directed("41 09", from(0, 1)), [(1, 1); 2]);
+    assert_eq!(directed("41 09", from(1, 1)), [(2, 1); 2]);
+    // Idle digits mean nothing.
+    assert_eq!(directed("09 0A", from(u64::MAX, 0)), [(0, 0); 2]);
+    assert_eq!(directed("41", from(0b1110, 1)), [(1, 1)]);
+    let reverts = directed("9B 5D 9B 5D 9B 5D 09", from(0b0110, 3));
+    assert_eq!(reverts, [(2, 2), (2, 1), (0, 0), (0, 0)]);
+    let deeper = directed("9B 31 5D 9B 5D 9B 32 5D", from(0xFFFF, 15));
+    assert_eq!(deeper, [(1, 16), (2, 15), (2, 16)]);
+    assert_eq!(directed("41", from(0xFFFF, 17)), []);
+}
+
+/// Each kind of unit keeps, adds or takes away; a promise of the whole list is
+/// broken by each fault.
+#[test]
+fn depths_follow_by_one() {
+    let s = "09 9B 32 5D 41 9B 31 5D 20 1B 25 2F 31 80 82 61 02 9B 5D 0A 9B 5D";
+    let units = reader::read(&hex(s)).expect("accepted");
+    assert!(depths_follow(0, &units));
+    assert!(depths_follow(0, &[]) && depths_follow(9, &[]));
+    assert!(!depths_follow(1, &units));
+    for place in 0..units.len() {
+        let (direction, depth) = units[place].directed();
+        let changed = |directed| {
+            let mut units = units.clone();
+            units[place] = units[place].with_directed(directed);
+            depths_follow(0, &units)
+        };
+        assert!(!changed((direction, depth + 2)), "{place}");
+        assert!(!changed((direction, depth.wrapping_sub(1))), "{place}");
+        let other = if direction == 0 { 1 } else { 0 };
+        assert!(!changed((other, depth)), "{place}");
+    }
+}
+
+/// The writer and the reading leave them out.
+#[test]
+fn directions_of_lists_mean_nothing() {
+    let s = "9B 31 5D 1B 24 28 42 30 21 9B 32 5D 09 9B 5D 1B 25 2F 31 80 83 61 02 FF";
+    let s = hex(s);
+    let units = reader::read(&s).expect("accepted");
+    assert_eq!(written(&units, &s), s);
+    for directed in [(0, 0), (1, 1), (2, 16), (3, 17), (u16::MAX, u16::MAX)] {
+        let others: Vec<Unit> = units.iter().map(|u| u.with_directed(directed)).collect();
+        assert_eq!(written(&others, &s), s);
+        let mut pairs = units.iter().zip(&others);
+        assert!(pairs.all(|(a, b)| meaning(a, &s) == meaning(b, &s)));
+    }
+}
+
 // Readers made by hand.
 
 fn by_hand(place: usize, sets: (u8, u8), depth: usize, marked: bool, texted: bool) -> State {
@@ -846,6 +972,8 @@ fn a32_to_a36_offending_units() {
         code: 7,
         start: u32::MAX,
         length: u32::MAX,
+        direction: 3,
+        depth: 17,
     };
     let far = Unit {
         start: 1 << 31,

@@ -61,6 +61,42 @@ pub struct Unit {
     pub code: u16,
     pub start: u32,
     pub length: u32,
+    /// The number of the direction in force after the unit.
+    pub direction: u16,
+    /// The directions that are then open.
+    pub depth: u16,
+}
+
+/// The number of the direction in force, and how many are open.
+pub type Directed = (u16, u16);
+
+impl Unit {
+    pub fn directed(&self) -> Directed {
+        (self.direction, self.depth)
+    }
+
+    pub fn with_directed(self, (direction, depth): Directed) -> Unit {
+        Unit {
+            direction,
+            depth,
+            ..self
+        }
+    }
+
+    pub fn is_mark(&self) -> bool {
+        matches!(self.kind, LEFT_TO_RIGHT | RIGHT_TO_LEFT | REVERT)
+    }
+}
+
+/// What request No. 6 promises of units after so many open directions: each depth
+/// differs from that before by at most 1, only a mark changes it, and a direction
+/// is in force where one is open, and there alone.
+pub fn depths_follow(mut before: u16, units: &[Unit]) -> bool {
+    units.iter().all(|unit| {
+        let far = unit.depth.abs_diff(before);
+        before = unit.depth;
+        far <= u16::from(unit.is_mark()) && (unit.direction == 0) == (unit.depth == 0)
+    })
 }
 
 #[derive(Clone, Copy, PartialEq, Eq, Debug)]
@@ -78,8 +114,8 @@ pub fn direction_number(direction: Option<Direction>) -> u8 {
     }
 }
 
-/// What a unit means to a reading: unused fields are left out, and an extended
-/// segment is its d and its octets.
+/// What a unit means to a reading: unused fields are left out, direction and depth
+/// too, and an extended segment is its d and its octets.
 #[derive(Clone, Copy, PartialEq, Eq, Debug)]
 pub enum Meaning<'a> {
     Character { set: u8, code: u16 },

@@ -80,7 +80,7 @@ impl WrongRule {
             piece => state.marks.admit(reader::part_of(&piece))?,
         }
         state.pass(&element);
-        Ok(reader::unit_of(&element))
+        Ok(reader::unit_of(&element, &state.marks))
     }
 
     /// All steps of a reader over a string, the last with the answer.
