@@ -19,14 +19,16 @@ use Rattle.designations.specs.declared.Designation.{Designation}
 use Rattle.designations.proofs.Designations.{designation-silent, told-set, form-told, on-four}
 use Rattle.state.specs.State.{state}
 use Rattle.octet_blocks.specs.Blocks.{Within}
-use Rattle.octet_blocks.proofs.Counted.{within-less}
-use Rattle.octet_table.specs.Table.{numberOf, classOf, ruleOf, rowOf}
-use Rattle.octet_table.proofs.Rule.{row-rule, row-96, class-number}
+use Rattle.octet_stretches.specs.Stretched.{Entry, Ones, Stretched, none, more, ones, ones-left, two, twos-left, twos-right}
+use Rattle.octet_stretches.specs.Stretched as by-entries
+use Rattle.octet_stretches.proofs.Laws.{fits}
+use Rattle.octet_table.specs.Table.{numberOf, classOf, ruleOf, rowOf, table}
+use Rattle.octet_table.proofs.Rule.{row-rule, row-96, class-number, table-at}
 use Rattle.stretch.specs.Characters.{settledOf}
 use Rattle.stretch.proofs.Law.{One}
 use Rattle.stretch.proofs.Starts.{Lone, blank, text, left-start, one-start, written-two, lone-one}
 use Rattle.stretch.proofs.Starts as text-of
-use Rattle.archive.specs.Passes.{Leads, Leaves, Passes, Places, Reaches, Classed, Ones, EscapeAt}
+use Rattle.archive.specs.Passes.{Leads, Leaves, Passes, Places, Reaches, Classed, EscapeAt}
 
 -- ---- one after another
 
@@ -69,10 +71,10 @@ module _ (st : State) (s : List ℕ) where
       (record { since = omega (arith, t .some); within = t .fits; same = λ count. sym (ap (answerOf count) e) })
 
 module _ (row : ℕ) (s : List ℕ) where
-  pub passes-none : (at : ℕ) → at ≤ length s → Passes row s at at 0
+  passes-none : (at : ℕ) → at ≤ length s → Passes row s at at 0
   passes-none at h = record { since = omega arith; within = h; leaves = λ st r k. leaves-none st s at h }
 
-  pub passes-more : (at i j n m : ℕ) → Passes row s at i n → Passes row s i j m → Passes row s at j (n + m)
+  passes-more : (at i j n m : ℕ) → Passes row s at i n → Passes row s i j m → Passes row s at j (n + m)
   passes-more at i j n m a b =
       record {
         since = omega (arith, a .since, b .since);
@@ -139,14 +141,6 @@ same-side GL b y h k o p = omega (arith, o .1, p .1)
 same-side GR b y h k o p = omega (arith, o, p)
 
 module _ (row : ℕ) (s : List ℕ) (at k : ℕ) (c : Classed row s at k) where
-  pub passes-one : k ≤ 4 → Passes row s at (at + 1) 1
-  passes-one h =
-      record {
-        since = omega arith;
-        within = omega (arith, c .inside);
-        leaves = λ st r settled. leaves-lone st settled s at (c .inside) (lone-is (st .sets) (getD s at 0) row k (c .octet) r (c .is) h);
-      }
-
   passes-pair : (d : Side) → numberOf (start.two d) ≡ k → Classed row s (at + 1) k → Passes row s at (at + 2) 1
   passes-pair d e y =
       record {
@@ -160,7 +154,7 @@ module _ (row : ℕ) (s : List ℕ) (at k : ℕ) (c : Classed row s at k) where
             leaves-two st settled s at d (y .inside) (x .1 .1) (x .0) (x .1 .0) (same-side d _ _ (c .octet) (y .octet) (x .0) (z .0)) (z .1 .0);
       }
 
-  pub passes-two : 5 ≤ k → k ≤ 6 → Classed row s (at + 1) k → Passes row s at (at + 2) 1
+  passes-two : 5 ≤ k → k ≤ 6 → Classed row s (at + 1) k → Passes row s at (at + 2) 1
   unfolding numberOf
   passes-two h l y =
       ⊎-elim (λ (e : 5 ≡ k). passes-pair GL e y) (λ (m : 5 < k). let e : 6 ≡ k = omega arith in passes-pair GR e y) (eq-or-lt-of-le h)
@@ -236,15 +230,15 @@ module _ (row : ℕ) (s : List ℕ) (at k r : ℕ) (c : Classed row s at k) wher
   unfolding classOf pick
   right-narrow st q e = one-is (st .sets) (getD s at 0) GR (rw e at (here st q))
 
-  pub ones-gl : k ≤ 1 → Within 0x20 0x7E s at r → Passes row s at r (r - at)
+  ones-gl : k ≤ 1 → Within 0x20 0x7E s at r → Passes row s at r (r - at)
   ones-gl h w = ones-pass 0x20 0x7E w (λ st q b l m. text (left-start (st .sets) b l (omega arith) (narrow st q h)))
 
-  pub ones-94 : k ≡ 4 → Within 0xA1 0xFE s at r → Passes row s at r (r - at)
+  ones-94 : k ≡ 4 → Within 0xA1 0xFE s at r → Passes row s at r (r - at)
   ones-94 e w =
       ones-pass 0xA1 0xFE w (λ st q b l m.
       text (one-start (st .sets) b GR (omega arith) (graphic-used _ b (graphic (b % 128) (omega arith) (omega arith))) (right-narrow st q e)))
 
-  pub ones-96 : k ≡ 4 → ruleOf (row + 0xA0) ≡ 4 → Within 0xA0 0xFF s at r → Passes row s at r (r - at)
+  ones-96 : k ≡ 4 → ruleOf (row + 0xA0) ≡ 4 → Within 0xA0 0xFF s at r → Passes row s at r (r - at)
   ones-96 e f w =
       ones-pass 0xA0 0xFF w (λ st q b l m.
       text (one-start (st .sets) b GR l (all-used _ b (row-96 (st .sets) (rw q f))) (right-narrow st q e)))
@@ -263,13 +257,13 @@ module _ (row : ℕ) (s : List ℕ) (at k m n : ℕ) (c : Classed row s at k) (e
             (twos-leave st settled s first last d small (wide st q) each n at (subst (λ (j : ℕ). Within first last s at (at + j)) e w));
       }
 
-  pub twos-gl : k ≡ 5 → Within 0x21 0x7E s at (at + m) → Passes row s at (at + m) n
+  twos-gl : k ≡ 5 → Within 0x21 0x7E s at (at + m) → Passes row s at (at + m) n
   unfolding classOf pick
   twos-gl f w =
       twos-pass GL 0x21 0x7E (omega arith) w (λ st q. two-is (st .sets) (getD s at 0) GL (rw f at (here row s at k m c st q)) .1 .1)
       (λ b l h. ((l, omega arith), graphic (b % 128) (omega arith) (omega arith)))
 
-  pub twos-gr : k ≡ 6 → Within 0xA1 0xFE s at (at + m) → Passes row s at (at + m) n
+  twos-gr : k ≡ 6 → Within 0xA1 0xFE s at (at + m) → Passes row s at (at + m) n
   unfolding classOf pick
   twos-gr f w =
       twos-pass GR 0xA1 0xFE (omega arith) w (λ st q. two-is (st .sets) (getD s at 0) GR (rw f at (here row s at k m c st q)) .1 .1)
@@ -277,100 +271,60 @@ module _ (row : ℕ) (s : List ℕ) (at k m n : ℕ) (c : Classed row s at k) (e
 
 -- ---- units of one octet, by their classes
 
-module _ (row : ℕ) (s : List ℕ) (at : ℕ) where
-  pub ones-none : at ≤ length s → Ones row s at at
-  ones-none h = record { since = omega arith; within = h; each = λ j l m. absurd (omega arith) }
-
-  pub ones-both : (i j : ℕ) → Ones row s at i → Ones row s i j → Ones row s at j
-  ones-both i j a b =
-      record {
-        since = omega (arith, a .since, b .since);
-        within = b .within;
-        each = λ k l m. test (ltb k i) (λ e. a .each k l (ltb-true k i e)) (λ e. b .each k (ltb-false k i e) m);
-      }
-
-  pub ones-one : (k : ℕ) → Classed row s at k → k ≤ 4 → Ones row s at (at + 1)
-  ones-one k c h =
-      record {
-        since = omega arith;
-        within = omega (arith, c .inside);
-        each = λ j l m. let e : j ≡ at = omega arith in rw e (c .octet, rw (← (c .is)) h);
-      }
-
-pub ones-four : (row : ℕ) (s : List ℕ) (at k l m n : ℕ) → Classed row s at k → k ≤ 4 → Classed row s (at + 1) l → l ≤ 4
-    → Classed row s (at + 1 + 1) m → m ≤ 4 → Classed row s (at + 1 + 1 + 1) n → n ≤ 4 → Ones row s at (at + 4)
-ones-four row s at k l m n a ha b hb c hc d hd =
-    let e : at + 1 + 1 + 1 + 1 ≡ at + 4 = omega arith in
-    let two = ones-both row s at (at + 1) (at + 1 + 1) (ones-one row s at k a ha) (ones-one row s (at + 1) l b hb) in
-    let three = ones-both row s at (at + 1 + 1) (at + 1 + 1 + 1) two (ones-one row s (at + 1 + 1) m c hc) in
-    subst (Ones row s at) e (ones-both row s at (at + 1 + 1 + 1) (at + 1 + 1 + 1 + 1) three (ones-one row s (at + 1 + 1 + 1) n d hd))
-
 -- a law on each octet goes over all of them, one by one
-module _ (row : ℕ) (st : State) (s : List ℕ)
-    (each : (at : ℕ) → at < length s → getD s at 0 < 256 → ruleOf (row + getD s at 0) ≤ 4 → Leaves st s at (at + 1) 1) where
-  ones-by : (n at : ℕ) → Ones row s at (at + n) → Leaves st s at (at + n) n
-  ones-by zero at o =
+module _ (t : List ℕ) (row : ℕ) (st : State) (s : List ℕ)
+    (each : (at : ℕ) → at < length s → getD s at 0 < 256 → getD t (row + getD s at 0) 0 ≤ 4 → Leaves st s at (at + 1) 1) where
+  ones-by : (n at : ℕ) → at + n ≤ length s → Ones t row s at (at + n) → Leaves st s at (at + n) n
+  ones-by zero at h o =
       let e : at + 0 ≡ at = omega arith in
-      rw e (leaves-none st s at (omega (arith, o .within)))
-  ones-by (suc n) at o =
+      rw e (leaves-none st s at (omega arith))
+  ones-by (suc n) at h o =
       let e : at + 1 + n ≡ at + suc n = omega arith in
       let f : 1 + n ≡ suc n = omega arith in
-      let h = o .each at (omega arith) (omega arith) in
-      let rest : Ones row s (at + 1) (at + 1 + n) =
-      record { since = omega arith; within = omega (arith, o .within); each = λ j l m. o .each j (omega arith) (omega arith) } in
+      let k = o .each at (omega arith) (omega arith) in
+      let rest : Ones t row s (at + 1) (at + 1 + n) =
+      record { since = omega arith; within = λ _. omega arith; each = λ j l m. o .each j (omega arith) (omega arith) } in
       subst (Leaves st s at (at + suc n)) f
-      (leaves-more st s at (at + 1) (at + suc n) 1 n (each at (omega (arith, o .within)) (h .0) (h .1))
-      (subst (λ (j : ℕ). Leaves st s (at + 1) j n) e (ones-by n (at + 1) rest)))
+      (leaves-more st s at (at + 1) (at + suc n) 1 n (each at (omega arith) (k .0) (k .1))
+      (subst (λ (j : ℕ). Leaves st s (at + 1) j n) e (ones-by n (at + 1) (omega arith) rest)))
 
-  pub ones-leads : (at i : ℕ) → Ones row s at i → Leaves st s at i (i - at)
-  ones-leads at i o =
+  pub ones-leads : (at i : ℕ) → at ≤ length s → Ones t row s at i → Leaves st s at i (i - at)
+  ones-leads at i h o =
       let e : at + (i - at) ≡ i = omega (arith, o .since) in
-      subst (λ (j : ℕ). Leaves st s at j (i - at)) e (ones-by (i - at) at (subst (Ones row s at) (sym e) o))
+      let k = o .within h in
+      subst (λ (j : ℕ). Leaves st s at j (i - at)) e (ones-by (i - at) at (omega (arith, e, k)) (subst (Ones t row s at) (sym e) o))
 
--- under a state of the row that text leaves as it is
-pub ones-passes : (row : ℕ) (s : List ℕ) (at i : ℕ) → Ones row s at i → Passes row s at i (i - at)
-ones-passes row s at i o =
-    record {
-      since = omega (arith, o .since);
-      within = o .within;
-      leaves = λ st r settled.
-          ones-leads row st s (λ j h b k. leaves-lone st settled s j h (lone-is (st .sets) (getD s j 0) row _ b r refl k)) at i o;
-    }
+-- ---- stretches, as the code has found them by the entries of the table
 
--- ---- as the code goes
+module _ (t : List ℕ) (row : ℕ) (s : List ℕ) (is : t ≡ table) (low : row ≤ 1280) where
+  -- the entry of an octet is its class
+  entry-rule : (b : ℕ) → b < 256 → getD t (row + b) 0 ≡ ruleOf (row + b)
+  entry-rule b h = table-at t is (row + b) (omega arith)
 
-module _ (row : ℕ) (s : List ℕ) (at : ℕ) where
-  -- the place by the octets that were passed
-  pub passes-at : (i n : ℕ) → Passes row s at i n → Passes row s at (at + (i - at)) n
-  passes-at i n a = let e : at + (i - at) ≡ i = omega (arith, a .since) in rw e a
+  classed : {at k : ℕ} → Entry t row s at k → Classed row s at k
+  classed {at = at} c = record { inside = c .inside; octet = c .octet; is = c .is ∙ entry-rule (getD s at 0) (c .octet) }
 
-  pub passes-first : at ≤ length s → Passes row s at (at + 0) 0
-  passes-first h = let e : at + 0 ≡ at = omega arith in rw e (passes-none row s at h)
+  -- under a state of the row that text leaves as it is
+  ones-passes : {at i : ℕ} → at ≤ length s → Ones t row s at i → Passes row s at i (i - at)
+  ones-passes {at = at} {i = i} h o =
+      record {
+        since = omega (arith, o .since);
+        within = o .within h;
+        leaves = λ st r settled.
+            ones-leads t row st s
+            (λ j l b k. leaves-lone st settled s j l (lone-is (st .sets) (getD s j 0) row _ b r (entry-rule (getD s j 0) b) k)) at i h o;
+      }
 
-  -- two stretches, by their octets
-  pub passes-both : (k n l m : ℕ) → Passes row s at (at + k) n → Passes row s (at + k) (at + k + l) m → Passes row s at (at + (k + l)) (n + m)
-  passes-both k n l m a b =
-      let e : at + k + l ≡ at + (k + l) = omega arith in
-      subst (λ (i : ℕ). Passes row s at i (n + m)) e (passes-more row s at (at + k) (at + k + l) n m a b)
-
-  pub ones-first : at ≤ length s → Passes row s at at (at - at)
-  ones-first h = let e : at - at ≡ 0 = omega arith in rw e (passes-none row s at h)
-
-  pub ones-more : (i j : ℕ) → Passes row s at i (i - at) → Ones row s i j → Passes row s at (at + (j - at)) (j - at)
-  ones-more i j a o =
-      let b = ones-passes row s i j o in
-      let f : i - at + (j - i) ≡ j - at = omega (arith, a .since, o .since) in
-      passes-at j (j - at) (subst (Passes row s at j) f (passes-more row s at i j (i - at) (j - i) a b))
-
--- characters of two octets in GL, where the octets up to a place are of their span, and what follows them
-module _ (row : ℕ) (s : List ℕ) (at i m n : ℕ) (c : Classed row s at 5) (w : Within 0x21 0x7E s at i) (e : m ≡ 2 * n) (f : n ≡ (i - at) / 2) where
-  pub doubles-pass : Passes row s at (at + m) n
-  doubles-pass = twos-gl row s at 5 m n c e refl (within-less 0x21 0x7E s at (at + m) i (omega arith) (omega (arith, e, f, w .since)) w)
-
-  pub doubles-on : (i - at) % 2 ≡ 0 → (l k : ℕ) → Passes row s i (i + l) k → Passes row s at (at + (m + l)) (n + k)
-  doubles-on even l k p =
-      let g : i ≡ at + m = omega (arith, e, f, w .since, even) in
-      passes-both row s at m n l k doubles-pass (rw g at p)
+  pub stretch-passes : {at i n : ℕ} → at ≤ length s → Stretched t row s at i n → Passes row s at i n
+  stretch-passes h none = passes-none row s _ h
+  stretch-passes h (more a b) = passes-more row s _ _ _ _ _ (stretch-passes h a) (stretch-passes (fits a .1 h) b)
+  stretch-passes h (ones o) = ones-passes h o
+  stretch-passes h (ones-left k c w) = ones-gl row s _ _ _ (classed c) k w
+  stretch-passes h (by-entries.ones-94 c w) = ones-94 row s _ _ _ (classed c) refl w
+  stretch-passes h (by-entries.ones-96 c f w) = ones-96 row s _ _ _ (classed c) refl (sym (entry-rule 0xA0 (omega arith)) ∙ f) w
+  stretch-passes h (two l m c d) = passes-two row s _ _ (classed c) l m (classed d)
+  stretch-passes h (twos-left {n = n} c w) = twos-gl row s _ _ (2 * n) n (classed c) refl refl w
+  stretch-passes h (twos-right {n = n} c w) = twos-gr row s _ _ (2 * n) n (classed c) refl refl w
 
 -- ---- under sets that designations change
 

@@ -1,7 +1,7 @@
 -- A turn of the loop of `check_by`: what it passes at once leads on (`turn-on`): tabs and newlines, whatever the state (`blanks-lead`), and text
 -- that is next, where neither text nor a mark was read, with text marked as read (`begun-leads`). The other turns are those of the first
 -- reader's check (check_string/proofs/Turn).
-use Rattle.element.proofs.Names.{ℕ, _+_, _-_, arith, _≡_, refl, ap, _∙_, true, false, false≢true, List, [], _∷_, leb, getD, le-leb}
+use Rattle.element.proofs.Names.{ℕ, _+_, _-_, _≤_, arith, _≡_, refl, ap, _∙_, true, false, false≢true, List, [], _∷_, leb, length, getD, le-leb}
 use Rattle.element.proofs.Names.{from, from-octet, pick, pick-by, directions, writtenOf, stepOf, next, get, State, Sets, Directions, Part, Shape}
 use Rattle.element.proofs.Names.{Refuses, Gives, Goes, form-94x94}
 use Rattle.base.proofs.Bools.{upTo, up-to-where, implies}
@@ -12,10 +12,12 @@ use Rattle.element.specs.Start.{Start, startOf, leftStart, characterStart, used
 use Rattle.element.specs.Start as start
 use Rattle.grammar.specs.Reading.{elements, onward, answerOf}
 use Rattle.check_string.proofs.Turn.{Head}
-use Rattle.octet_table.specs.Table.{numberOf, ruleOf, rowOf}
+use Rattle.octet_stretches.specs.Stretched.{Ones}
+use Rattle.octet_table.specs.Table.{numberOf, ruleOf, rowOf, table}
+use Rattle.octet_table.proofs.Rule.{table-at}
 use Rattle.stretch.specs.Characters.{glOctet, grOctet, singleOf, oneAt}
 use Rattle.stretch.proofs.Starts.{blank-octet}
-use Rattle.archive.specs.Passes.{Leads, Leaves, Classed, Ones, textClass}
+use Rattle.archive.specs.Passes.{Leads, Leaves, Classed, textClass}
 use Rattle.archive.proofs.Passes.{leaves-one, ones-leads, number-is}
 
 module _ (s : List ℕ) (at count : ℕ) (st : State) (h : Head s at count st) where
@@ -36,14 +38,15 @@ blank-rule : upTo 256 (λ b. implies (leb (ruleOf (1280 + b)) 4) (singleOf form-
 unfolding ruleOf numberOf startOf leftStart characterStart usedIn graphicOf singleOf glOctet grOctet pick
 blank-rule = refl
 
-pub blanks-lead : (st : State) (s : List ℕ) (at i : ℕ) → Ones 1280 s at i → Leaves st s at i (i - at)
+pub blanks-lead : (t : List ℕ) → t ≡ table → (st : State) (s : List ℕ) (at i : ℕ) → at ≤ length s → Ones t 1280 s at i → Leaves st s at i (i - at)
 unfolding oneAt
-blanks-lead st s at i o =
-    ones-leads 1280 st s
-    (λ j h b k.
-    let e = up-to-where 256 (λ x. leb (ruleOf (1280 + x)) 4) (λ x. singleOf form-94x94 0 x) blank-rule (getD s j 0) b (le-leb _ _ k) in
-    leaves-one st s j 1 (rw (from-octet s j h) (blank-octet st (getD s j 0) (from (j + 1) s) e)))
-    at i o
+blanks-lead t is st s at i h o =
+    ones-leads t 1280 st s
+    (λ j l b k.
+    let r = table-at t is (1280 + getD s j 0) (omega arith) in
+    let e = up-to-where 256 (λ x. leb (ruleOf (1280 + x)) 4) (λ x. singleOf form-94x94 0 x) blank-rule (getD s j 0) b (le-leb _ _ (rw r at k)) in
+    leaves-one st s j 1 (rw (from-octet s j l) (blank-octet st (getD s j 0) (from (j + 1) s) e)))
+    at i h o
 
 -- ---- text, where no mark was read
 

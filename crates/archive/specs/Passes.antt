@@ -57,12 +57,6 @@ pub record Classed (row : ℕ) (s : List ℕ) (at k : ℕ) : Type 0 where
 unfoldable pub textClass : ℕ → Bool
 textClass k = pick (leb k 1) true (pick (ltb k 4) false (leb k 6))
 
--- only octets of classes of one octet stand from a place to another
-pub record Ones (row : ℕ) (s : List ℕ) (at i : ℕ) : Type 0 where
-  pub since : at ≤ i
-  pub within : i ≤ length s
-  pub each : (j : ℕ) → at ≤ j → j < i → (getD s j 0 < 256) × (ruleOf (row + getD s j 0) ≤ 4)
-
 -- four octets are left at a place, the first of them 1B
 pub record EscapeAt (s : List ℕ) (at : ℕ) : Type 0 where
   pub four : 4 ≤ length s - at

@@ -13,7 +13,6 @@ use base::refusal;
 
 mod classes;
 mod quick;
-mod stretches;
 mod turns;
 mod whole;
 

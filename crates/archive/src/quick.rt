@@ -5,14 +5,14 @@ ghost use Prim.Native.Nat.{_≤_};
 ghost use lib.ListN.{length};
 ghost use Rattle.octet_table.specs.Table.{table};
 ghost use Rattle.state.specs.State.{sets};
-ghost use Rattle.archive.specs.Passes.{Ones, Reaches, EscapeAt, reachOf};
-use crate::stretches::fours;
-use crate::stretches::singles;
-use crate::stretches::stretch_by;
+ghost use Rattle.octet_stretches.specs.Stretched.{Ones};
+ghost use Rattle.archive.specs.Passes.{Reaches, EscapeAt, reachOf};
 use charset::NO_SET;
 use charset::Side;
 use designations::form_after;
 use designations::told;
+use octet_stretches::singles_by;
+use octet_stretches::stretch_by;
 use octet_table::left_of;
 use octet_table::right_of;
 
@@ -92,8 +92,7 @@ pub fn quick(t: &[u8], s: &[u8], at: usize, gl: u8, gr: u8) -> Reach
 
 // The place after the tabs and newlines at a place.
 pub fn blanks(t: &[u8], s: &[u8], at: usize) -> usize
-    requires { ⌜ (now t ≡ table) × (at ≤ length (now s)) ⌝ }
-    ensures { λ r. ⌜ Ones 1280 (now (s .entry)) at r ⌝ }
+    ensures { λ r. ⌜ Ones (now (t .entry)) 1280 (now (s .entry)) at r ⌝ }
 {
-    singles(t, s, fours(t, s, at, BLANK_ROW), s.len(), BLANK_ROW)
+    singles_by(t, s, at, BLANK_ROW)
 }

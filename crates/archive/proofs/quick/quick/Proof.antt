@@ -1,12 +1,13 @@
 -- `archive::quick::quick` meets its contract: in each turn a stretch (`after-stretch`) and a designation (`after-told`) lead on, under the sets that
 -- they leave, and the two parts of the row are those of the sets.
-use Rattle.element.proofs.Names.{_+_, _-_, _<_, _≤_, arith, _≡_, refl, ap, sym, _∙_, length, getD, from, now, formOf, no-set, Side, GL, GR, on, put}
+use Rattle.element.proofs.Names.{ℕ, _+_, _-_, _<_, _≤_, arith, _≡_, refl, ap, sym, _∙_, length, getD, from, now, formOf, no-set, Side, GL, GR, on, put}
 use Rattle.designations.specs.Designation.{formAfter, designationAt}
 use Rattle.state.specs.State.{sets}
-use Rattle.octet_table.specs.Table.{leftOf, rightOf}
+use Rattle.octet_stretches.proofs.Laws.{fits}
+use Rattle.octet_table.specs.Table.{leftOf, rightOf, rowOf}
 use Rattle.octet_table.proofs.Rule.{left-most, right-most}
 use Rattle.archive.specs.Passes.{Reaches}
-use Rattle.archive.proofs.Passes.{designation-some, told-at, reaches-none, reaches-units, reaches-told}
+use Rattle.archive.proofs.Passes.{designation-some, told-at, reaches-none, reaches-units, reaches-told, stretch-passes}
 use Rattle.archive.proofs.quick.quick.Statement.{statement}
 use Rattle.archive.proofs.quick.quick.Tie as tie
 
@@ -17,6 +18,13 @@ Inv-loop t s at gl gr i₀ n₀ left₀ right₀ high₀ low₀ i n left right h
 abbrev μ-loop : tie.MeasureT-loop
 μ-loop t s at gl gr i₀ n₀ left₀ right₀ high₀ low₀ i n left right high low = length s - i
 
+-- the two parts of the row, as one number
+row-parts : (left right high low : ℕ) → high ≡ leftOf (formOf left) → low ≡ rightOf (formOf right)
+    → (high + low ≡ rowOf (sets left right)) × (high + low ≤ 1280)
+row-parts left right high low e f =
+    let l = left-most (formOf left) in
+    let r = right-most (formOf right) in (rw (e, f) refl, omega (arith, e, f, l, r))
+
 -- after the stretch of a turn
 after-stretch : (c : tie.After-stretch-by Inv-loop μ-loop)
     → let start = c .before .before .before .before .before .before .before .before .before in let turn = c .before .before .loop in
@@ -24,7 +32,9 @@ after-stretch : (c : tie.After-stretch-by Inv-loop μ-loop)
     (sets (turn .left) (turn .right)) (turn .n + c .stretch-by .result .units)
 after-stretch c =
     let turn = c .before .before .loop in
-    reaches-units _ _ _ _ _ _ _ _ _ (turn .inv .0) (rw (turn .inv .1, turn .inv .2) refl) (c .stretch-by .ensures)
+    let is = c .before .before .before .before .before .before .before .before .before .pre .0 in
+    let row = row-parts _ _ _ _ (turn .inv .1) (turn .inv .2) in
+    reaches-units _ _ _ _ _ _ _ _ _ (turn .inv .0) (row .0) (stretch-passes _ _ _ is (row .1) (turn .inv .0 .within) (c .stretch-by .ensures))
 
 -- what is told after it is a designation, where it names a set, and its form is known
 after-told : (c : tie.After-told Inv-loop μ-loop) → c .told .result .set < no-set
@@ -63,16 +73,11 @@ quick-spec =
       c .before .before .left-of .ensures ∙ ap leftOf (c .before .before .before .form-of .ensures),
       c .right-of .ensures ∙ ap rightOf (c .before .form-of2 .ensures),
     ))
-    (λ c. let turn = c .before .loop in
-    let l = left-most (formOf (turn .left)) in
-    let r = right-most (formOf (turn .right)) in omega (arith, turn .inv .1, turn .inv .2, l, r))
-    (λ c κs. let turn = c .before .loop in
-    let l = left-most (formOf (turn .left)) in
-    let r = right-most (formOf (turn .right)) in
-    (c .before .before .before .before .before .before .before .before .pre .0, omega (arith, turn .inv .1, turn .inv .2, l, r), c .loop-test .taken))
-    (λ c. omega (arith, c .before .stretch-by .ensures .within))
+    (λ c. let turn = c .before .loop in omega (arith, row-parts _ _ _ _ (turn .inv .1) (turn .inv .2) .1))
+    (λ c κs. tt)
+    (λ c. omega (arith, after-stretch (c .before) .within))
     (λ c. let p = after-stretch (c .before .before) in omega (arith, p .since, p .within))
-    (λ c κs. c .before .before .stretch-by .ensures .within)
+    (λ c κs. after-stretch (c .before .before) .within)
     (λ c. let e = c .before .escape-at .ensures (c .if1 .taken) in omega (arith, e .four))
     (λ c. let e = c .before .before .escape-at .ensures (c .before .if1 .taken) in omega (arith, e .four))
     (λ c. let e = c .before .before .escape-at .ensures (c .before .if1 .taken) in omega (arith, e .four))
@@ -114,7 +119,7 @@ quick-spec =
     ))
     (λ c κs. tt)
     (λ c. rw (c .reached2 .ensures) (after-stretch (c .before .before .before .before .before .before .before)))
-    (λ c. omega (arith, c .if3 .left, c .before .before .before .before .before .before .stretch-by .ensures .within))
+    (λ c. omega (arith, c .if3 .left, fits (c .before .before .before .before .before .before .stretch-by .ensures) .0))
     (λ c. let turn = c .before .before .before .before .before .before .before .before .loop in
     (after-stretch (c .before .before .before .before .before .before), turn .inv .1, turn .inv .2))
     (λ c κs. tt)

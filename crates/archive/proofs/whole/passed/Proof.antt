@@ -13,8 +13,11 @@ passed-spec =
     (λ c κs. c .before .before .before .before .before .before .pre)
     (λ c. c .quick .ensures .leads _ (sym (c .before .before .settled .ensures) ∙ c .before .if1 .taken))
     (λ c κs. c .before .before .before .before .before .before .pre .1)
-    (λ c κs. (c .before .before .before .before .before .before .before .pre .0, c .placed .ensures .within))
+    (λ c κs. tt)
     (λ c. c .before .blanks .ensures .since)
     (λ c κs. tt)
-    (λ c. let placed = c .before .before .before .placed .ensures in
-    rw (c .reached .ensures) (leads-on _ _ _ _ _ _ _ _ (placed .leads _) (blanks-lead _ _ _ _ (c .before .before .blanks .ensures)))))
+    (λ c. let at-placed = c .before .before .before in
+    let placed = at-placed .placed .ensures in
+    let is = at-placed .before .before .before .before .before .before .before .pre .0 in
+    rw (c .reached .ensures)
+    (leads-on _ _ _ _ _ _ _ _ (placed .leads _) (blanks-lead _ is _ _ _ _ (placed .within) (c .before .before .blanks .ensures)))))
