@@ -1,11 +1,10 @@
-// Stretches of units of one octet and of two, that leave the state as it is, by the entries of a table that is lent. Where the table has no such
-// row, or the place is not in the string, nothing is passed.
+// Stretches of units of one octet and of two, that leave the state as it is, by the row of the table that is lent: its entry for an octet is the class of
+// what that octet starts. Where it has no 256 entries, or the place is not in the string, nothing is passed.
 ghost use mathlib.Core.Path.{_≡_};
 ghost use Prim.Native.Nat.{_+_, _≤_, _<_};
 ghost use lib.ListN.{length};
 ghost use Rattle.octet_stretches.specs.Stretched.{Entry, Ones, Stretched};
 use crate::entries::entry_at;
-use crate::entries::has_row;
 use crate::one_octet::fours;
 use crate::one_octet::ones;
 use crate::one_octet::singles;
@@ -15,6 +14,7 @@ use crate::two_octets::twos;
 use octet_table::ONE_GR;
 use octet_table::TWO_GL;
 use octet_table::TWO_GR;
+use octet_table::UNUSED;
 
 mod entries;
 mod one_octet;
@@ -29,35 +29,34 @@ pub struct Stretch {
     pub units: usize,
 }
 
-// The end of what is near to a place.
-fn near_end(s: &[u8], at: usize) -> usize
-    requires { ⌜ at < length (now s) ⌝ }
-    ensures { λ r. ⌜ (at < r) × (r ≤ length (now (s .entry))) ⌝ }
+// How many octets are near, where so many are left.
+fn near_octets(left: usize) -> usize
+    ensures { λ r. ⌜ (r ≤ left) × (0 < left → 0 < r) ⌝ }
 {
-    if s.len() - at < NEAR {
-        return s.len();
+    if left < NEAR {
+        return left;
     }
-    at + NEAR
+    NEAR
 }
 
 // The stretch at a place, up to an end that is near.
-fn near(t: &[u8], s: &[u8], at: usize, end: usize, row: usize) -> Stretch
-    requires { ⌜ (row + 256 ≤ length (now t)) × (at < end) × (end ≤ length (now s)) ⌝ }
-    ensures { λ r. ⌜ Stretched (now (t .entry)) row (now (s .entry)) at (at + r .octets) (r .units) ⌝ }
+fn near(row: &[u8], s: &[u8], at: usize, end: usize) -> Stretch
+    requires { ⌜ (256 ≤ length (now row)) × (at < end) × (end ≤ length (now s)) ⌝ }
+    ensures { λ r. ⌜ Stretched (now (row .entry)) (now (s .entry)) at (at + r .octets) (r .units) ⌝ }
 {
-    let k = entry_at(t, s, at, row);
+    let k = entry_at(row, s, at);
     if k <= ONE_GR {
-        let n = singles(t, s, at, end, row) - at;
+        let n = singles(row, s, at, end) - at;
         return Stretch {
             octets: n,
             units: n,
         };
     }
     if k == TWO_GL {
-        return doubles(t, s, at, end, row);
+        return doubles(row, s, at, end);
     }
     if k == TWO_GR {
-        return pairs(t, s, at, end, row, TWO_GR);
+        return pairs(row, s, at, end, TWO_GR);
     }
     Stretch {
         octets: 0,
@@ -66,9 +65,9 @@ fn near(t: &[u8], s: &[u8], at: usize, end: usize, row: usize) -> Stretch
 }
 
 // What follows a stretch of this entry, by blocks, and then four by four where its units have one octet.
-fn far(t: &[u8], s: &[u8], at: usize, row: usize, k: u8) -> Stretch
-    requires { ⌜ (row + 256 ≤ length (now t)) × Entry (now t) row (now s) at k ⌝ }
-    ensures { λ r. ⌜ Stretched (now (t .entry)) row (now (s .entry)) at (at + r .octets) (r .units) ⌝ }
+fn far(row: &[u8], s: &[u8], at: usize, k: u8) -> Stretch
+    requires { ⌜ (256 ≤ length (now row)) × Entry (now row) (now s) at k ⌝ }
+    ensures { λ r. ⌜ Stretched (now (row .entry)) (now (s .entry)) at (at + r .octets) (r .units) ⌝ }
 {
     if k == TWO_GL {
         return twos(s, at, 0x21, 0x7E);
@@ -76,19 +75,19 @@ fn far(t: &[u8], s: &[u8], at: usize, row: usize, k: u8) -> Stretch
     if k == TWO_GR {
         return twos(s, at, 0xA1, 0xFE);
     }
-    let n = fours(t, s, ones(t, s, at, row, k), row) - at;
+    let n = fours(row, s, ones(row, s, at, k)) - at;
     Stretch {
         octets: n,
         units: n,
     }
 }
 
-// The stretch at a place of the string, in a row of the table: octet by octet, and where nothing ends it near, by blocks.
-fn found(t: &[u8], s: &[u8], at: usize, row: usize) -> Stretch
-    requires { ⌜ (row + 256 ≤ length (now t)) × (at < length (now s)) ⌝ }
-    ensures { λ r. ⌜ Stretched (now (t .entry)) row (now (s .entry)) at (at + r .octets) (r .units) ⌝ }
+// The stretch at a place of the string: octet by octet, and where nothing ends it near, by blocks.
+fn found(row: &[u8], s: &[u8], at: usize) -> Stretch
+    requires { ⌜ (256 ≤ length (now row)) × (at < length (now s)) ⌝ }
+    ensures { λ r. ⌜ Stretched (now (row .entry)) (now (s .entry)) at (at + r .octets) (r .units) ⌝ }
 {
-    let a = near(t, s, at, near_end(s, at), row);
+    let a = near(row, s, at, at + near_octets(s.len() - at));
     if a.octets < NEAR {
         return a;
     }
@@ -96,7 +95,7 @@ fn found(t: &[u8], s: &[u8], at: usize, row: usize) -> Stretch
     if s.len() <= next {
         return a;
     }
-    let b = far(t, s, next, row, entry_at(t, s, next, row));
+    let b = far(row, s, next, entry_at(row, s, next));
     Stretch {
         octets: a.octets + b.octets,
         units: a.units + b.units,
@@ -104,12 +103,12 @@ fn found(t: &[u8], s: &[u8], at: usize, row: usize) -> Stretch
 }
 
 // The stretch at a place.
-pub fn stretch_by(t: &[u8], s: &[u8], at: usize, row: usize) -> Stretch
-    ensures { λ r. ⌜ Stretched (now (t .entry)) row (now (s .entry)) at (at + r .octets) (r .units) ⌝ }
+pub fn stretch_by(row: &[u8], s: &[u8], at: usize) -> Stretch
+    ensures { λ r. ⌜ Stretched (now (row .entry)) (now (s .entry)) at (at + r .octets) (r .units) ⌝ }
 {
     if at < s.len() {
-        if has_row(t, row) {
-            return found(t, s, at, row);
+        if 256 <= row.len() {
+            return found(row, s, at);
         }
     }
     Stretch {
@@ -119,13 +118,25 @@ pub fn stretch_by(t: &[u8], s: &[u8], at: usize, row: usize) -> Stretch
 }
 
 // The place after the units of one octet at a place.
-pub fn singles_by(t: &[u8], s: &[u8], at: usize, row: usize) -> usize
-    ensures { λ r. ⌜ Ones (now (t .entry)) row (now (s .entry)) at r ⌝ }
+pub fn singles_by(row: &[u8], s: &[u8], at: usize) -> usize
+    ensures { λ r. ⌜ Ones (now (row .entry)) (now (s .entry)) at r ⌝ }
 {
     if at < s.len() {
-        if has_row(t, row) {
-            return singles(t, s, fours(t, s, at, row), s.len(), row);
+        if 256 <= row.len() {
+            return singles(row, s, fours(row, s, at), s.len());
         }
     }
     at
+}
+
+// The class of the octet at a place; that of an unused octet where there is none.
+pub fn class_at(row: &[u8], s: &[u8], at: usize) -> u8
+    ensures { λ r. ⌜ (256 ≤ length (now (row .entry)) → at < length (now (s .entry)) → Entry (now (row .entry)) (now (s .entry)) at r) ⌝ }
+{
+    if at < s.len() {
+        if 256 <= row.len() {
+            return entry_at(row, s, at);
+        }
+    }
+    UNUSED
 }

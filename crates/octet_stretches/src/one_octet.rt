@@ -11,13 +11,13 @@ use octet_table::ONE_GR;
 use octet_table::SPACE;
 
 // The place after the units of one octet that start at a place, up to an end.
-pub fn singles(t: &[u8], s: &[u8], at: usize, end: usize, row: usize) -> usize
-    requires { ⌜ (row + 256 ≤ length (now t)) × (at ≤ end) × (end ≤ length (now s)) ⌝ }
-    ensures { λ r. ⌜ Ones (now (t .entry)) row (now (s .entry)) at r ⌝ }
+pub fn singles(row: &[u8], s: &[u8], at: usize, end: usize) -> usize
+    requires { ⌜ (256 ≤ length (now row)) × (at ≤ end) × (end ≤ length (now s)) ⌝ }
+    ensures { λ r. ⌜ Ones (now (row .entry)) (now (s .entry)) at r ⌝ }
 {
     let mut i = at;
     while i < end {
-        if entry_at(t, s, i, row) <= ONE_GR {
+        if entry_at(row, s, i) <= ONE_GR {
             i += 1;
         } else {
             return i;
@@ -27,14 +27,14 @@ pub fn singles(t: &[u8], s: &[u8], at: usize, end: usize, row: usize) -> usize
 }
 
 // Whether the four octets at a place are units by themselves.
-fn four(t: &[u8], s: &[u8], at: usize, row: usize) -> bool
-    requires { ⌜ (row + 256 ≤ length (now t)) × (at + 4 ≤ length (now s)) ⌝ }
-    ensures { λ r. ⌜ (r ≡ true → Ones (now (t .entry)) row (now (s .entry)) at (at + 4)) ⌝ }
+fn four(row: &[u8], s: &[u8], at: usize) -> bool
+    requires { ⌜ (256 ≤ length (now row)) × (at + 4 ≤ length (now s)) ⌝ }
+    ensures { λ r. ⌜ (r ≡ true → Ones (now (row .entry)) (now (s .entry)) at (at + 4)) ⌝ }
 {
-    if entry_at(t, s, at, row) <= ONE_GR {
-        if entry_at(t, s, at + 1, row) <= ONE_GR {
-            if entry_at(t, s, at + 1 + 1, row) <= ONE_GR {
-                return entry_at(t, s, at + 1 + 1 + 1, row) <= ONE_GR;
+    if entry_at(row, s, at) <= ONE_GR {
+        if entry_at(row, s, at + 1) <= ONE_GR {
+            if entry_at(row, s, at + 1 + 1) <= ONE_GR {
+                return entry_at(row, s, at + 1 + 1 + 1) <= ONE_GR;
             }
             return false;
         }
@@ -44,13 +44,13 @@ fn four(t: &[u8], s: &[u8], at: usize, row: usize) -> bool
 }
 
 // The place after the units of one octet that start at a place, four by four.
-pub fn fours(t: &[u8], s: &[u8], at: usize, row: usize) -> usize
-    requires { ⌜ (row + 256 ≤ length (now t)) × (at ≤ length (now s)) ⌝ }
-    ensures { λ r. ⌜ Ones (now (t .entry)) row (now (s .entry)) at r ⌝ }
+pub fn fours(row: &[u8], s: &[u8], at: usize) -> usize
+    requires { ⌜ (256 ≤ length (now row)) × (at ≤ length (now s)) ⌝ }
+    ensures { λ r. ⌜ Ones (now (row .entry)) (now (s .entry)) at r ⌝ }
 {
     let mut i = at;
     while 4 <= s.len() - i {
-        if four(t, s, i, row) {
+        if four(row, s, i) {
             i += 4;
         } else {
             return i;
@@ -60,15 +60,15 @@ pub fn fours(t: &[u8], s: &[u8], at: usize, row: usize) -> usize
 }
 
 // The place after the blocks of units of one octet that start at a place, where the octet there has this entry.
-pub fn ones(t: &[u8], s: &[u8], at: usize, row: usize, k: u8) -> usize
-    requires { ⌜ (row + 256 ≤ length (now t)) × Entry (now t) row (now s) at k ⌝ }
-    ensures { λ r. ⌜ Stretched (now (t .entry)) row (now (s .entry)) at r (r - at) ⌝ }
+pub fn ones(row: &[u8], s: &[u8], at: usize, k: u8) -> usize
+    requires { ⌜ (256 ≤ length (now row)) × Entry (now row) (now s) at k ⌝ }
+    ensures { λ r. ⌜ Stretched (now (row .entry)) (now (s .entry)) at r (r - at) ⌝ }
 {
     if k <= SPACE {
         return blocks_end(s, at, 0x20, 0x7E);
     }
     if k == ONE_GR {
-        if full_right(t, row) {
+        if full_right(row) {
             return blocks_end(s, at, 0xA0, 0xFF);
         }
         return blocks_end(s, at, 0xA1, 0xFE);

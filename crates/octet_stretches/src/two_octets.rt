@@ -12,25 +12,25 @@ use octet_blocks::words::leading;
 use octet_table::TWO_GL;
 
 // Whether a character of two octets stands at a place, both of which have this entry.
-fn pair(t: &[u8], s: &[u8], at: usize, row: usize, k: u8) -> bool
-    requires { ⌜ (row + 256 ≤ length (now t)) × (at + 2 ≤ length (now s)) × (5 ≤ k) × (k ≤ 6) ⌝ }
-    ensures { λ r. ⌜ (r ≡ true → Stretched (now (t .entry)) row (now (s .entry)) at (at + 2) 1) ⌝ }
+fn pair(row: &[u8], s: &[u8], at: usize, k: u8) -> bool
+    requires { ⌜ (256 ≤ length (now row)) × (at + 2 ≤ length (now s)) × (5 ≤ k) × (k ≤ 6) ⌝ }
+    ensures { λ r. ⌜ (r ≡ true → Stretched (now (row .entry)) (now (s .entry)) at (at + 2) 1) ⌝ }
 {
-    if entry_at(t, s, at, row) == k {
-        return entry_at(t, s, at + 1, row) == k;
+    if entry_at(row, s, at) == k {
+        return entry_at(row, s, at + 1) == k;
     }
     false
 }
 
 // The characters of two octets that start at a place, of this entry, up to an end.
-pub fn pairs(t: &[u8], s: &[u8], at: usize, end: usize, row: usize, k: u8) -> Stretch
-    requires { ⌜ (row + 256 ≤ length (now t)) × (at ≤ end) × (end ≤ length (now s)) × (5 ≤ k) × (k ≤ 6) ⌝ }
-    ensures { λ r. ⌜ Stretched (now (t .entry)) row (now (s .entry)) at (at + r .octets) (r .units) ⌝ }
+pub fn pairs(row: &[u8], s: &[u8], at: usize, end: usize, k: u8) -> Stretch
+    requires { ⌜ (256 ≤ length (now row)) × (at ≤ end) × (end ≤ length (now s)) × (5 ≤ k) × (k ≤ 6) ⌝ }
+    ensures { λ r. ⌜ Stretched (now (row .entry)) (now (s .entry)) at (at + r .octets) (r .units) ⌝ }
 {
     let mut i = at;
     let mut n: usize = 0;
     while 2 <= end - i {
-        if pair(t, s, i, row, k) {
+        if pair(row, s, i, k) {
             i += 2;
             n += 1;
         } else {
@@ -68,9 +68,9 @@ pub fn twos(s: &[u8], at: usize, first: u8, last: u8) -> Stretch
 
 // The characters of two octets in GL that start at a place: a word of eight octets at a time up to an end that is near, and octet by octet where
 // no word is left.
-pub fn doubles(t: &[u8], s: &[u8], at: usize, end: usize, row: usize) -> Stretch
-    requires { ⌜ (row + 256 ≤ length (now t)) × (at < end) × (end ≤ length (now s)) × Entry (now t) row (now s) at 5 ⌝ }
-    ensures { λ r. ⌜ Stretched (now (t .entry)) row (now (s .entry)) at (at + r .octets) (r .units) ⌝ }
+pub fn doubles(row: &[u8], s: &[u8], at: usize, end: usize) -> Stretch
+    requires { ⌜ (256 ≤ length (now row)) × (at < end) × (end ≤ length (now s)) × Entry (now row) (now s) at 5 ⌝ }
+    ensures { λ r. ⌜ Stretched (now (row .entry)) (now (s .entry)) at (at + r .octets) (r .units) ⌝ }
 {
     let mut i = at;
     while 8 <= s.len() - i {
@@ -84,7 +84,7 @@ pub fn doubles(t: &[u8], s: &[u8], at: usize, end: usize, row: usize) -> Stretch
         }
     }
     let a = pairs_to(at, i);
-    let b = pairs(t, s, i, end, row, TWO_GL);
+    let b = pairs(row, s, i, end, TWO_GL);
     Stretch {
         octets: a.octets + b.octets,
         units: a.units + b.units,

@@ -8,7 +8,7 @@ use Rattle.octet_stretches.proofs.found.Tie as tie
 -- both, one after the other
 after-far : (c : tie.After-far)
     → let near = c .before .before .before .before .before .before in let start = near .before .before .before .before in
-    Stretched (now (start .args .t)) (start .args .row) (now (start .args .s)) (start .args .at)
+    Stretched (now (start .args .row)) (now (start .args .s)) (start .args .at)
     (start .args .at + (near .near .result .octets + c .far .result .octets)) (near .near .result .units + c .far .result .units)
 after-far c =
     by-numbers (omega arith) refl (more (c .before .before .before .before .before .before .near .ensures) (c .far .ensures))
@@ -17,8 +17,11 @@ pub found-spec : {M : Type 1} → statement M
 found-spec =
     tie.close
     (tie.spec
-    (λ c κs. c .before .before .pre .1)
-    (λ c κs. let h = c .near-end .ensures in (c .before .before .before .pre .0, h .0, h .1))
+    (search arith)
+    (λ c κs. tt)
+    (λ c. let pre = c .before .before .before .pre in omega (arith, c .near-octets .ensures .0, pre .1))
+    (λ c κs. let pre = c .before .before .before .pre in
+    let h = c .near-octets .ensures in (pre .0, omega (arith, h .1 (omega (arith, pre .1))), omega (arith, h .0, pre .1)))
     (λ c. c .before .before .near .ensures)
     (λ c. let start = c .before .before .before .before .before .before .before in
     omega (arith, fits (c .before .before .before .near .ensures) .1 (omega (arith, start .pre .1))))

@@ -8,11 +8,8 @@ pub singles-by-spec : {M : Type 1} → statement M
 singles-by-spec =
     tie.close
     (tie.spec
-    (λ c κs. tt)
-    (λ c κs. (c .before .has-row .ensures (c .if2 .taken), omega (arith, c .before .before .if1 .taken)))
-    (λ c κs. let at-row = c .before .before in
-    let few = c .fours .ensures .within (omega (arith, at-row .before .if1 .taken)) in
-    (at-row .has-row .ensures (c .before .if2 .taken), few, omega arith))
+    (λ c κs. (c .if2 .taken, omega (arith, c .before .if1 .taken)))
+    (λ c κs. (c .before .if2 .taken, c .fours .ensures .within (omega (arith, c .before .before .if1 .taken)), omega arith))
     (λ c. ones-both (c .before .fours .ensures) (c .singles .ensures))
     (λ c. ones-none _)
     (λ c. ones-none _))

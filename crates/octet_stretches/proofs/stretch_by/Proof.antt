@@ -9,8 +9,7 @@ pub stretch-by-spec : {M : Type 1} → statement M
 stretch-by-spec =
     tie.close
     (tie.spec
-    (λ c κs. tt)
-    (λ c κs. (c .before .has-row .ensures (c .if2 .taken), c .before .before .if1 .taken))
+    (λ c κs. (c .if2 .taken, c .before .if1 .taken))
     (λ c. c .found .ensures)
     (λ c. by-numbers (omega arith) refl none)
     (λ c. by-numbers (omega arith) refl none))

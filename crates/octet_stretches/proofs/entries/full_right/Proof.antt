@@ -4,4 +4,4 @@ use Rattle.octet_stretches.proofs.entries.full_right.Statement.{stateme
 use Rattle.octet_stretches.proofs.entries.full_right.Tie as tie
 
 pub full-right-spec : {M : Type 1} → statement M
-full-right-spec = tie.close (tie.spec (search arith) (search arith) (λ c e. eqb-true _ _ e))
+full-right-spec = tie.close (tie.spec (search arith) (λ c e. eqb-true _ _ e))

@@ -6,10 +6,10 @@ use Rattle.octet_stretches.proofs.one_octet.fours.Statement.{statement}
 use Rattle.octet_stretches.proofs.one_octet.fours.Tie as tie
 
 abbrev Inv-loop : tie.InvT-loop
-Inv-loop t s at row i₀ i = Ones t row s at i × (i ≤ length s)
+Inv-loop row s at i₀ i = Ones row s at i × (i ≤ length s)
 
 abbrev μ-loop : tie.MeasureT-loop
-μ-loop t s at row i₀ i = length s - i
+μ-loop row s at i₀ i = length s - i
 
 pub fours-spec : {M : Type 1} → statement M
 fours-spec =

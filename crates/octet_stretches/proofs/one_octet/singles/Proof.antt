@@ -6,10 +6,10 @@ use Rattle.octet_stretches.proofs.one_octet.singles.Statement.{statemen
 use Rattle.octet_stretches.proofs.one_octet.singles.Tie as tie
 
 abbrev Inv-loop : tie.InvT-loop
-Inv-loop t s at end row i₀ i = Ones t row s at i
+Inv-loop row s at end i₀ i = Ones row s at i
 
 abbrev μ-loop : tie.MeasureT-loop
-μ-loop t s at end row i₀ i = end - i
+μ-loop row s at end i₀ i = end - i
 
 pub singles-spec : {M : Type 1} → statement M
 singles-spec =

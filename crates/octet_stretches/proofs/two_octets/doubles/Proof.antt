@@ -10,10 +10,10 @@ use Rattle.octet_stretches.proofs.two_octets.doubles.Statement.{stateme
 use Rattle.octet_stretches.proofs.two_octets.doubles.Tie as tie
 
 abbrev Inv-loop : tie.InvT-loop
-Inv-loop t s at end row i₀ i = Within 0x21 0x7E s at i × (i < end) × ((i - at) % 2 ≡ 0)
+Inv-loop row s at end i₀ i = Within 0x21 0x7E s at i × (i < end) × ((i - at) % 2 ≡ 0)
 
 abbrev μ-loop : tie.MeasureT-loop
-μ-loop t s at end row i₀ i = length s - i
+μ-loop row s at end i₀ i = length s - i
 
 -- what is found of a word
 after-leading : (c : tie.After-leading Inv-loop μ-loop)
@@ -34,7 +34,7 @@ eight s at i n a b h =
 -- the words, and what follows them
 after-pairs : (c : tie.After-pairs Inv-loop μ-loop)
     → let start = c .before .before .before .before .before .before in let words = c .before .pairs-to3 .result in
-    Stretched (now (start .args .t)) (start .args .row) (now (start .args .s)) (start .args .at)
+    Stretched (now (start .args .row)) (now (start .args .s)) (start .args .at)
     (start .args .at + (words .octets + c .pairs .result .octets)) (words .units + c .pairs .result .units)
 after-pairs c =
     let words = c .before .pairs-to3 .ensures in

@@ -6,10 +6,10 @@ use Rattle.octet_stretches.proofs.two_octets.pairs.Statement.{statement
 use Rattle.octet_stretches.proofs.two_octets.pairs.Tie as tie
 
 abbrev Inv-loop : tie.InvT-loop
-Inv-loop t s at end row k i₀ n₀ i n = Stretched t row s at i n × (i ≤ end)
+Inv-loop row s at end k i₀ n₀ i n = Stretched row s at i n × (i ≤ end)
 
 abbrev μ-loop : tie.MeasureT-loop
-μ-loop t s at end row k i₀ n₀ i n = end - i
+μ-loop row s at end k i₀ n₀ i n = end - i
 
 pub pairs-spec : {M : Type 1} → statement M
 pairs-spec =

@@ -1,10 +1,10 @@
--- `archive::whole::placed` meets its contract: each designation leads on, under the sets that it leaves.
+-- `archive_check::placed` meets its contract: each designation leads on, under the sets that it leaves.
 use Rattle.element.proofs.Names.{_-_, arith, length, GL, GR, put}
 use Rattle.state.specs.State.{sets}
-use Rattle.archive.specs.Passes.{Places}
-use Rattle.archive.proofs.Passes.{places-none, places-more, designation-some}
-use Rattle.archive.proofs.whole.placed.Statement.{statement}
-use Rattle.archive.proofs.whole.placed.Tie as tie
+use Rattle.archive_check.specs.Passes.{Places}
+use Rattle.archive_check.proofs.Passes.{places-none, places-more, designation-some}
+use Rattle.archive_check.proofs.placed.Statement.{statement}
+use Rattle.archive_check.proofs.placed.Tie as tie
 
 abbrev Inv-loop : tie.InvT-loop
 Inv-loop s at gl gr i₀ left₀ right₀ i left right = Places s at (sets gl gr) i (sets left right)

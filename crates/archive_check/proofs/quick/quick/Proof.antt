@@ -1,4 +1,4 @@
--- `archive::quick::quick` meets its contract: in each turn a stretch (`after-stretch`) and a designation (`after-told`) lead on, under the sets that
+-- `archive_check::quick::quick` meets its contract: in each turn a stretch (`after-stretch`) and a designation (`after-told`) lead on, under the sets that
 -- they leave, and the two parts of the row are those of the sets.
 use Rattle.element.proofs.Names.{ℕ, _+_, _-_, _<_, _≤_, arith, _≡_, refl, ap, sym, _∙_, length, getD, from, now, formOf, no-set, Side, GL, GR, on, put}
 use Rattle.designations.specs.Designation.{formAfter, designationAt}
@@ -6,14 +6,14 @@ use Rattle.state.specs.State.{sets}
 use Rattle.octet_stretches.proofs.Laws.{fits}
 use Rattle.octet_table.specs.Table.{leftOf, rightOf, rowOf}
 use Rattle.octet_table.proofs.Rule.{left-most, right-most}
-use Rattle.archive.specs.Passes.{Reaches}
-use Rattle.archive.proofs.Passes.{designation-some, told-at, reaches-none, reaches-units, reaches-told, stretch-passes}
-use Rattle.archive.proofs.quick.quick.Statement.{statement}
-use Rattle.archive.proofs.quick.quick.Tie as tie
+use Rattle.archive_check.specs.Passes.{Reaches}
+use Rattle.archive_check.proofs.Passes.{designation-some, told-at, reaches-none, reaches-units, reaches-told}
+use Rattle.archive_check.proofs.quick.quick.Statement.{statement}
+use Rattle.archive_check.proofs.quick.quick.Tie as tie
 
 abbrev Inv-loop : tie.InvT-loop
 Inv-loop t s at gl gr i₀ n₀ left₀ right₀ high₀ low₀ i n left right high low =
-    Reaches s at (sets gl gr) i (sets left right) n × (high ≡ leftOf (formOf left)) × (low ≡ rightOf (formOf right))
+    Reaches t s at (sets gl gr) i (sets left right) n × (high ≡ leftOf (formOf left)) × (low ≡ rightOf (formOf right))
 
 abbrev μ-loop : tie.MeasureT-loop
 μ-loop t s at gl gr i₀ n₀ left₀ right₀ high₀ low₀ i n left right high low = length s - i
@@ -26,21 +26,20 @@ row-parts left right high low e f =
     let r = right-most (formOf right) in (rw (e, f) refl, omega (arith, e, f, l, r))
 
 -- after the stretch of a turn
-after-stretch : (c : tie.After-stretch-by Inv-loop μ-loop)
+after-stretch : (c : tie.After-stretch-in Inv-loop μ-loop)
     → let start = c .before .before .before .before .before .before .before .before .before in let turn = c .before .before .loop in
-    Reaches (now (start .args .s)) (start .args .at) (sets (start .args .gl) (start .args .gr)) (turn .i + c .stretch-by .result .octets)
-    (sets (turn .left) (turn .right)) (turn .n + c .stretch-by .result .units)
+    Reaches (now (start .args .t)) (now (start .args .s)) (start .args .at) (sets (start .args .gl) (start .args .gr)) (turn .i + c .stretch-in .result .octets)
+    (sets (turn .left) (turn .right)) (turn .n + c .stretch-in .result .units)
 after-stretch c =
     let turn = c .before .before .loop in
-    let is = c .before .before .before .before .before .before .before .before .before .pre .0 in
     let row = row-parts _ _ _ _ (turn .inv .1) (turn .inv .2) in
-    reaches-units _ _ _ _ _ _ _ _ _ (turn .inv .0) (row .0) (stretch-passes _ _ _ is (row .1) (turn .inv .0 .within) (c .stretch-by .ensures))
+    reaches-units _ _ _ _ _ _ _ _ _ _ (turn .inv .0) (row .0) (row .1) (c .stretch-in .ensures)
 
 -- what is told after it is a designation, where it names a set, and its form is known
 after-told : (c : tie.After-told Inv-loop μ-loop) → c .told .result .set < no-set
     → let turn = c .before .before .before .before .before .before .before .before in
     let s = now (turn .before .before .before .before .before .before .before .before .before .args .s) in
-    let i = turn .before .before .loop .i + turn .stretch-by .result .octets in
+    let i = turn .before .before .loop .i + turn .stretch-in .result .octets in
     (c .told .result ≡ designationAt (from i s)) × (formOf (c .told .result .set) ≡ formAfter (getD s (i + 1) 0))
 after-told c h =
     let escape = c .before .before .before .before .before .escape-at .ensures (c .before .before .before .before .if1 .taken) in
@@ -51,11 +50,11 @@ after-designation : (c : tie.After-told Inv-loop μ-loop) → c .told .result .s
     → let at-stretch = c .before .before .before .before .before .before .before .before in
     let start = at-stretch .before .before .before .before .before .before .before .before .before in
     let turn = at-stretch .before .before .loop in
-    Reaches (now (start .args .s)) (start .args .at) (sets (start .args .gl) (start .args .gr))
-    (turn .i + at-stretch .stretch-by .result .octets + c .told .result .octets) (put (on d (c .told .result .set)) (sets (turn .left) (turn .right)))
-    (turn .n + at-stretch .stretch-by .result .units)
+    Reaches (now (start .args .t)) (now (start .args .s)) (start .args .at) (sets (start .args .gl) (start .args .gr))
+    (turn .i + at-stretch .stretch-in .result .octets + c .told .result .octets) (put (on d (c .told .result .set)) (sets (turn .left) (turn .right)))
+    (turn .n + at-stretch .stretch-in .result .units)
 after-designation c h d e =
-    reaches-told _ _ _ _ _ _ (after-stretch (c .before .before .before .before .before .before .before .before)) _ (after-told c h .0) h d e
+    reaches-told _ _ _ _ _ _ _ (after-stretch (c .before .before .before .before .before .before .before .before)) _ (after-told c h .0) h d e
 
 pub quick-spec : {M : Type 1} → statement M
 unfolding put
@@ -69,12 +68,13 @@ quick-spec =
     (λ c κs. tt)
     (λ c κs. tt)
     (λ c. (
-      reaches-none _ _ _ (c .before .before .before .before .before .before .pre .1),
+      reaches-none _ _ _ _ (c .before .before .before .before .before .before .pre .1),
       c .before .before .left-of .ensures ∙ ap leftOf (c .before .before .before .form-of .ensures),
       c .right-of .ensures ∙ ap rightOf (c .before .form-of2 .ensures),
     ))
     (λ c. let turn = c .before .loop in omega (arith, row-parts _ _ _ _ (turn .inv .1) (turn .inv .2) .1))
-    (λ c κs. tt)
+    (λ c κs. let turn = c .before .loop in
+    omega (arith, row-parts _ _ _ _ (turn .inv .1) (turn .inv .2) .1, c .before .before .before .before .before .before .before .before .pre .0))
     (λ c. omega (arith, after-stretch (c .before) .within))
     (λ c. let p = after-stretch (c .before .before) in omega (arith, p .since, p .within))
     (λ c κs. after-stretch (c .before .before) .within)
@@ -119,7 +119,7 @@ quick-spec =
     ))
     (λ c κs. tt)
     (λ c. rw (c .reached2 .ensures) (after-stretch (c .before .before .before .before .before .before .before)))
-    (λ c. omega (arith, c .if3 .left, fits (c .before .before .before .before .before .before .stretch-by .ensures) .0))
+    (λ c. omega (arith, c .if3 .left, fits (c .before .before .before .before .before .before .stretch-in .ensures) .0))
     (λ c. let turn = c .before .before .before .before .before .before .before .before .loop in
     (after-stretch (c .before .before .before .before .before .before), turn .inv .1, turn .inv .2))
     (λ c κs. tt)

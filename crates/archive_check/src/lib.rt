@@ -1,12 +1,13 @@
-// The check of a whole string, by the table that is lent.
+// The check of a whole string, by the table that is lent. Of what is lent these functions ask that it has the table's length; what they ensure of the
+// string is under the condition that it is the table.
 ghost use mathlib.Core.Path.{_≡_};
-ghost use Prim.Native.Nat.{_≤_};
+ghost use mathlib.Core.Bool.{true};
+ghost use Prim.Native.Nat.{_≤_, _<_};
 ghost use lib.ListN.{length};
 ghost use Rattle.grammar.specs.Reading.{checkOf};
 ghost use Rattle.octet_table.specs.Table.{table};
 ghost use Rattle.state.specs.State.{sets, state};
-ghost use Rattle.archive.specs.Passes.{textClass, Leads, Places};
-use crate::classes::class_at;
+ghost use Rattle.archive_check.specs.Passes.{textClass, TextAt, Leads, LeadsBy, Places};
 use crate::quick::Reach;
 use crate::quick::blanks;
 use crate::quick::quick;
@@ -17,6 +18,7 @@ use base::refusal;
 use charset::NO_SET;
 use charset::Side;
 use designations::designation_at;
+use octet_stretches::class_at;
 use octet_table::ONE_GR;
 use octet_table::SPACE;
 use octet_table::TWO_GR;
@@ -26,6 +28,8 @@ use state::State;
 use state::directions::Step;
 use state::elements::Shape;
 use stretch::characters::settled;
+
+mod quick;
 
 // A class of text: a space, or what a character starts with.
 fn text_class(k: u8) -> bool
@@ -40,10 +44,19 @@ fn text_class(k: u8) -> bool
     k <= TWO_GR
 }
 
+// Whether text is next at a place.
+fn text_at(t: &[u8], s: &[u8], at: usize, gl: u8, gr: u8) -> bool
+    requires { ⌜ (1536 ≤ length (now t)) × (at < length (now s)) ⌝ }
+    ensures { λ r. ⌜ (now (t .entry) ≡ table → r ≡ true → TextAt (sets gl gr) (now (s .entry)) at) ⌝ }
+{
+    let row = row_of(gl, gr);
+    text_class(class_at(&t[row..row + 256], s, at))
+}
+
 // The state at a place where text is next and neither text nor a mark was read: text was read, which that element says too if it is not refused.
 fn begun(t: &[u8], s: &[u8], at: usize, st: State) -> State
-    requires { ⌜ (now t ≡ table) × (at ≤ length (now s)) ⌝ }
-    ensures { λ r. ⌜ Leads (now (s .entry)) at st at r 0 ⌝ }
+    requires { ⌜ (1536 ≤ length (now t)) × (at < length (now s)) ⌝ }
+    ensures { λ r. ⌜ (now (t .entry) ≡ table → Leads (now (s .entry)) at st at r 0) ⌝ }
 {
     let mut directions = st.directions;
     let sets = st.sets;
@@ -53,10 +66,7 @@ fn begun(t: &[u8], s: &[u8], at: usize, st: State) -> State
     if directions.texted {
         return st;
     }
-    if s.len() <= at {
-        return st;
-    }
-    if text_class(class_at(t, s, at, row_of(sets.gl, sets.gr))) {
+    if text_at(t, s, at, sets.gl, sets.gr) {
         directions.texted = true;
         return st.directed(directions);
     }
@@ -97,8 +107,8 @@ fn placed(s: &[u8], at: usize, gl: u8, gr: u8) -> Reach
 // What is passed at a place at once: units and designations where text leaves the
 // directions as they are, else designations, and then tabs and newlines.
 fn passed(t: &[u8], s: &[u8], at: usize, st: State) -> Reach
-    requires { ⌜ (now t ≡ table) × (at ≤ length (now s)) ⌝ }
-    ensures { λ r. ⌜ Leads (now (s .entry)) at st (r .place) (state (sets (r .gl) (r .gr)) (st .directions)) (r .units) ⌝ }
+    requires { ⌜ (1536 ≤ length (now t)) × (at ≤ length (now s)) ⌝ }
+    ensures { λ r. ⌜ LeadsBy (now (t .entry)) (now (s .entry)) at st (r .place) (state (sets (r .gl) (r .gr)) (st .directions)) (r .units) ⌝ }
 {
     let directions = st.directions;
     let sets = st.sets;
@@ -112,9 +122,9 @@ fn passed(t: &[u8], s: &[u8], at: usize, st: State) -> Reach
 
 // Whether a string is accepted, and what of it is refused. Units and designations are passed at once, and any other element by itself; a mark, which
 // is none of these, is not looked at twice.
-pub fn check_by(t: &[u8], s: &[u8]) -> Answer
-    requires { ⌜ now t ≡ table ⌝ }
-    ensures { λ r. ⌜ r ≡ checkOf (now (s .entry)) ⌝ }
+fn whole(t: &[u8], s: &[u8]) -> Answer
+    requires { ⌜ 1536 ≤ length (now t) ⌝ }
+    ensures { λ r. ⌜ (now (t .entry) ≡ table → r ≡ checkOf (now (s .entry))) ⌝ }
 {
     if limit::OCTETS < s.len() {
         return Answer::refused(refusal::TOO_LONG, 0);
@@ -175,4 +185,14 @@ pub fn check_by(t: &[u8], s: &[u8]) -> Answer
         }
     }
     Answer::accepted(at, count)
+}
+
+// The same where what is lent may be anything: of what is shorter than the table nothing is said.
+pub fn check_by(t: &[u8], s: &[u8]) -> Answer
+    ensures { λ r. ⌜ (now (t .entry) ≡ table → r ≡ checkOf (now (s .entry))) ⌝ }
+{
+    if t.len() < 1536 {
+        return Answer::refused(refusal::TOO_LONG, 0);
+    }
+    whole(t, s)
 }

@@ -1,7 +1,7 @@
--- `archive::quick::escape_at` meets its contract.
+-- `archive_check::quick::escape_at` meets its contract.
 use Rattle.element.proofs.Names.{arith, clash, eqb-true}
-use Rattle.archive.proofs.quick.escape_at.Statement.{statement}
-use Rattle.archive.proofs.quick.escape_at.Tie as tie
+use Rattle.archive_check.proofs.quick.escape_at.Statement.{statement}
+use Rattle.archive_check.proofs.quick.escape_at.Tie as tie
 
 pub escape-at-spec : {M : Type 1} → statement M
 escape-at-spec =

@@ -1,16 +1,16 @@
 // Units and designations, one after another, where text leaves the directions as they are; and tabs and newlines, which always do.
 ghost use mathlib.Core.Path.{_≡_};
 ghost use mathlib.Core.Bool.{true};
-ghost use Prim.Native.Nat.{_≤_};
+ghost use Prim.Native.Nat.{_+_, _≤_};
 ghost use lib.ListN.{length};
-ghost use Rattle.octet_table.specs.Table.{table};
 ghost use Rattle.state.specs.State.{sets};
-ghost use Rattle.octet_stretches.specs.Stretched.{Ones};
-ghost use Rattle.archive.specs.Passes.{Reaches, EscapeAt, reachOf};
+ghost use Rattle.octet_stretches.specs.Stretched.{Ones, Stretched};
+ghost use Rattle.archive_check.specs.Passes.{Reaches, EscapeAt, reachOf, rowAt};
 use charset::NO_SET;
 use charset::Side;
 use designations::form_after;
 use designations::told;
+use octet_stretches::Stretch;
 use octet_stretches::singles_by;
 use octet_stretches::stretch_by;
 use octet_table::left_of;
@@ -49,10 +49,18 @@ fn escape_at(s: &[u8], at: usize) -> bool
     s[at] == 0x1B
 }
 
+// The stretch at a place, by a row of what is lent. A row has 256 entries by its two ends, so that it is not asked for its length.
+fn stretch_in(t: &[u8], s: &[u8], at: usize, row: usize) -> Stretch
+    requires { ⌜ row + 256 ≤ length (now t) ⌝ }
+    ensures { λ r. ⌜ Stretched (rowAt row (now (t .entry))) (now (s .entry)) at (at + r .octets) (r .units) ⌝ }
+{
+    stretch_by(&t[row..row + 256], s, at)
+}
+
 // The units and designations at a place. The row is kept by its two parts, which wait for the form of a designation and not for its set.
 pub fn quick(t: &[u8], s: &[u8], at: usize, gl: u8, gr: u8) -> Reach
-    requires { ⌜ (now t ≡ table) × (at ≤ length (now s)) ⌝ }
-    ensures { λ r. ⌜ Reaches (now (s .entry)) at (sets gl gr) (r .place) (sets (r .gl) (r .gr)) (r .units) ⌝ }
+    requires { ⌜ (1536 ≤ length (now t)) × (at ≤ length (now s)) ⌝ }
+    ensures { λ r. ⌜ Reaches (now (t .entry)) (now (s .entry)) at (sets gl gr) (r .place) (sets (r .gl) (r .gr)) (r .units) ⌝ }
 {
     let mut i = at;
     let mut n: usize = 0;
@@ -61,7 +69,7 @@ pub fn quick(t: &[u8], s: &[u8], at: usize, gl: u8, gr: u8) -> Reach
     let mut high = left_of(charset::form_of(gl));
     let mut low = right_of(charset::form_of(gr));
     while i < s.len() {
-        let u = stretch_by(t, s, i, high + low);
+        let u = stretch_in(t, s, i, high + low);
         i += u.octets;
         n += u.units;
         if escape_at(s, i) {
@@ -92,7 +100,8 @@ pub fn quick(t: &[u8], s: &[u8], at: usize, gl: u8, gr: u8) -> Reach
 
 // The place after the tabs and newlines at a place.
 pub fn blanks(t: &[u8], s: &[u8], at: usize) -> usize
-    ensures { λ r. ⌜ Ones (now (t .entry)) 1280 (now (s .entry)) at r ⌝ }
+    requires { ⌜ 1536 ≤ length (now t) ⌝ }
+    ensures { λ r. ⌜ Ones (rowAt 1280 (now (t .entry))) (now (s .entry)) at r ⌝ }
 {
-    singles_by(t, s, at, BLANK_ROW)
+    singles_by(&t[BLANK_ROW..BLANK_ROW + 256], s, at)
 }
