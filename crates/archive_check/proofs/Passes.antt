@@ -1,9 +1,10 @@
--- What is passed by the classes of its octets is elements that leave the state (`Leaves`): one octet (`passes-one`), a character of two
--- (`passes-two`), octets of a span (`ones-span`, `twos-span`). By the table's rule an octet of a class starts what the class starts, and of that
--- `stretch` has shown which element it is.
+-- What is passed by the classes of its octets is elements that leave the state (`Leaves`): units of one octet (`ones-leads`), a character of two
+-- (`two-leaves`), octets of a span (`span-leaves`, `left-twos`, `right-twos`). By the table's rule an octet of a class starts what the class starts,
+-- and of that `stretch` has shown which element it is. So a stretch that the code has found by the entries of a row of the table is such elements
+-- (`stretch-leaves`), and with designations between them they lead on (`Reaches`).
 use Rattle.element.proofs.Names.{ℕ, zero, suc, _+_, _*_, _-_, _/_, _%_, _<_, _≤_, arith, _≡_, refl, ap, sym, _∙_, subst, true, false, List}
 use Rattle.element.proofs.Names.{length, length-take, length-drop, getD, pick, from, from-octet, Side, GL, GR, State, Sets}
-use Rattle.element.proofs.Names.{⊎-elim, on-eq, test, ltb, ltb-true, ltb-false, fresh, formOf, no-set, on, put}
+use Rattle.element.proofs.Names.{⊎-elim, on-eq, fresh, formOf, no-set, on, put}
 use native.Mathlib.Nat.{eq-or-lt-of-le}
 use lib.Seq.{getD-drop, getD-take}
 use Rattle.text.specs.Text.{graphicOf}
@@ -20,8 +21,8 @@ use Rattle.designations.specs.declared.Designation.{Designation}
 use Rattle.designations.proofs.Designations.{designation-silent, told-set, form-told, on-four}
 use Rattle.state.specs.State.{state}
 use Rattle.octet_blocks.specs.Blocks.{Within}
-use Rattle.octet_stretches.specs.Stretched.{Entry, Ones, Stretched, none, more, ones, ones-left, two, twos-left, twos-right}
-use Rattle.octet_stretches.specs.Stretched as by-entries
+use Rattle.octet_stretches.specs.Stretched.{Entry, Ones, Stretched}
+use Rattle.octet_stretches.specs.Stretched as by
 use Rattle.octet_stretches.proofs.Laws.{fits}
 use Rattle.octet_table.specs.Table.{numberOf, classOf, ruleOf, rowOf, table}
 use Rattle.octet_table.proofs.Rule.{row-rule, row-96, class-number, table-at}
@@ -29,7 +30,7 @@ use Rattle.stretch.specs.Characters.{settledOf}
 use Rattle.stretch.proofs.Law.{One}
 use Rattle.stretch.proofs.Starts.{Lone, blank, text, left-start, one-start, written-two, lone-one}
 use Rattle.stretch.proofs.Starts as text-of
-use Rattle.archive_check.specs.Passes.{Leads, Leaves, Passes, Places, Reaches, Classed, EscapeAt, rowAt}
+use Rattle.archive_check.specs.Passes.{Leads, Leaves, Places, Reaches, Classed, EscapeAt, rowAt}
 
 -- ---- one after another
 
@@ -42,7 +43,7 @@ module _ (s : List ℕ) where
         same = λ count. let e : count + 0 ≡ count = omega arith in rw e refl;
       }
 
-  pub leads-more : (at i j n m : ℕ) (st to too : State) → Leads s at st i to n → Leads s i to j too m → Leads s at st j too (n + m)
+  leads-more : (at i j n m : ℕ) (st to too : State) → Leads s at st i to n → Leads s i to j too m → Leads s at st j too (n + m)
   leads-more at i j n m st to too a b =
       record {
         since = omega (arith, a .since, b .since);
@@ -71,18 +72,6 @@ module _ (st : State) (s : List ℕ) where
       subst (λ (k : ℕ). Leaves st s at (at + k) 1) (u .sized)
       (record { since = omega (arith, t .some); within = t .fits; same = λ count. sym (ap (answerOf count) e) })
 
-module _ (row : ℕ) (s : List ℕ) where
-  passes-none : (at : ℕ) → at ≤ length s → Passes row s at at 0
-  passes-none at h = record { since = omega arith; within = h; leaves = λ st r k. leaves-none st s at h }
-
-  passes-more : (at i j n m : ℕ) → Passes row s at i n → Passes row s i j m → Passes row s at j (n + m)
-  passes-more at i j n m a b =
-      record {
-        since = omega (arith, a .since, b .since);
-        within = b .within;
-        leaves = λ st r k. leaves-more st s at i j n m (a .leaves st r k) (b .leaves st r k);
-      }
-
 -- ---- what a class says
 
 -- a class of one octet
@@ -103,13 +92,13 @@ module _ (s : Sets) (b row k : ℕ) (small : b < 256) (r : rowOf s ≡ row) (e :
   pub number-is : numberOf (startIn s b) ≡ k
   number-is = sym (row-rule s b small) ∙ ap (λ (n : ℕ). ruleOf (n + b)) r ∙ sym e
 
-  pub class-is : startIn s b ≡ classOf k
+  class-is : startIn s b ≡ classOf k
   class-is = sym (class-number (startIn s b)) ∙ ap classOf number-is
 
-  pub starts-as : Starts s b (classOf k)
+  starts-as : Starts s b (classOf k)
   starts-as = subst (Starts s b) class-is (starts s b)
 
-  pub lone-is : k ≤ 4 → Lone (startIn s b)
+  lone-is : k ≤ 4 → Lone (startIn s b)
   lone-is h = lone (startIn s b) (rw (number-is) h)
 
 -- what a class of two octets says of its octet, and one of one octet of the form on its side
@@ -140,25 +129,6 @@ module _ (st : State) (settled : settledOf (st .directions) ≡ true) (s : List 
 same-side : (d : Side) (b y : ℕ) → b < 256 → y < 256 → On d b → On d y → y / 128 ≡ b / 128
 same-side GL b y h k o p = omega (arith, o .1, p .1)
 same-side GR b y h k o p = omega (arith, o, p)
-
-module _ (row : ℕ) (s : List ℕ) (at k : ℕ) (c : Classed row s at k) where
-  passes-pair : (d : Side) → numberOf (start.two d) ≡ k → Classed row s (at + 1) k → Passes row s at (at + 2) 1
-  passes-pair d e y =
-      record {
-        since = omega arith;
-        within = omega (arith, y .inside);
-        leaves = λ st r settled.
-            let x = two-is (st .sets) (getD s at 0) d (subst (Starts (st .sets) (getD s at 0)) (ap classOf (sym e) ∙ class-number (start.two d))
-            (starts-as (st .sets) (getD s at 0) row k (c .octet) r (c .is))) in
-            let z = two-is (st .sets) (getD s (at + 1) 0) d (subst (Starts (st .sets) (getD s (at + 1) 0)) (ap classOf (sym e) ∙ class-number (start.two d))
-            (starts-as (st .sets) (getD s (at + 1) 0) row k (y .octet) r (y .is))) in
-            leaves-two st settled s at d (y .inside) (x .1 .1) (x .0) (x .1 .0) (same-side d _ _ (c .octet) (y .octet) (x .0) (z .0)) (z .1 .0);
-      }
-
-  passes-two : 5 ≤ k → k ≤ 6 → Classed row s (at + 1) k → Passes row s at (at + 2) 1
-  unfolding numberOf
-  passes-two h l y =
-      ⊎-elim (λ (e : 5 ≡ k). passes-pair GL e y) (λ (m : 5 < k). let e : 6 ≡ k = omega arith in passes-pair GR e y) (eq-or-lt-of-le h)
 
 -- ---- octets of a span
 
@@ -202,73 +172,66 @@ module _ (st : State) (settled : settledOf (st .directions) ≡ true) (s : List 
       subst (Leaves st s at (at + 2 * suc n)) f
       (leaves-more st s at (at + 2) (at + 2 * suc n) 1 n pair (subst (λ (j : ℕ). Leaves st s (at + 2) j n) e rest))
 
--- the octets of a span are of one class, whatever the row, where one octet is
-module _ (row : ℕ) (s : List ℕ) (at k r : ℕ) (c : Classed row s at k) where
-  ones-pass : (first last : ℕ) → Within first last s at r
-      → ((st : State) → rowOf (st .sets) ≡ row → (b : ℕ) → first ≤ b → b ≤ last → Lone (startIn (st .sets) b))
-      → Passes row s at r (r - at)
-  ones-pass first last w each =
-      let e : at + (r - at) ≡ r = omega (arith, w .since) in
-      record {
-        since = omega (arith, w .since);
-        within = w .within;
-        leaves = λ st q settled.
-            subst (λ (i : ℕ). Leaves st s at i (r - at)) e
-            (ones-leave st settled s first last (each st q) (r - at) at (subst (Within first last s at) (sym e) w));
-      }
+-- ---- by the classes of octets, under a state of the row that text leaves as it is
 
-  -- the class of the octet at the place, under a state of the row
-  here : (st : State) → rowOf (st .sets) ≡ row → Starts (st .sets) (getD s at 0) (classOf k)
-  here st q = starts-as (st .sets) (getD s at 0) row k (c .octet) q (c .is)
+module _ (st : State) (settled : settledOf (st .directions) ≡ true) (row : ℕ) (q : rowOf (st .sets) ≡ row) (s : List ℕ) where
+  -- what an octet of a class starts
+  here : {at k : ℕ} → Classed row s at k → Starts (st .sets) (getD s at 0) (classOf k)
+  here {at = at} {k = k} c = starts-as (st .sets) (getD s at 0) row k (c .octet) q (c .is)
 
-  narrow : (st : State) → rowOf (st .sets) ≡ row → k ≤ 1 → wideIn GL (st .sets) ≡ false
+  pair-leaves : {at k : ℕ} (d : Side) → numberOf (start.two d) ≡ k → Classed row s at k → Classed row s (at + 1) k → Leaves st s at (at + 2) 1
+  pair-leaves {at = at} d e c y =
+      let f = ap classOf (sym e) ∙ class-number (start.two d) in
+      let x = two-is (st .sets) (getD s at 0) d (subst (Starts (st .sets) (getD s at 0)) f (here c)) in
+      let z = two-is (st .sets) (getD s (at + 1) 0) d (subst (Starts (st .sets) (getD s (at + 1) 0)) f (here y)) in
+      leaves-two st settled s at d (y .inside) (x .1 .1) (x .0) (x .1 .0) (same-side d _ _ (c .octet) (y .octet) (x .0) (z .0)) (z .1 .0)
+
+  two-leaves : {at k : ℕ} → 5 ≤ k → k ≤ 6 → Classed row s at k → Classed row s (at + 1) k → Leaves st s at (at + 2) 1
+  unfolding numberOf
+  two-leaves {k = k} h l c y =
+      ⊎-elim (λ (e : 5 ≡ k). pair-leaves GL e c y) (λ (m : 5 < k). let e : 6 ≡ k = omega arith in pair-leaves GR e c y) (eq-or-lt-of-le h)
+
+  -- the octets of a span, each a unit
+  span-leaves : {at i : ℕ} (first last : ℕ) → Within first last s at i → ((b : ℕ) → first ≤ b → b ≤ last → Lone (startIn (st .sets) b))
+      → Leaves st s at i (i - at)
+  span-leaves {at = at} {i = i} first last w each =
+      let e : at + (i - at) ≡ i = omega (arith, w .since) in
+      subst (λ (j : ℕ). Leaves st s at j (i - at)) e
+      (ones-leave st settled s first last each (i - at) at (subst (Within first last s at) (sym e) w))
+
+  narrow : {at k : ℕ} → Classed row s at k → k ≤ 1 → wideIn GL (st .sets) ≡ false
   unfolding classOf pick
-  narrow st q h =
-      ⊎-elim (λ (e : k ≡ 1). space-is (st .sets) (getD s at 0) (rw e at (here st q)))
-      (λ (l : k < 1). let e : k ≡ 0 = omega arith in one-is (st .sets) (getD s at 0) GL (rw e at (here st q))) (eq-or-lt-of-le h)
+  narrow {at = at} {k = k} c h =
+      ⊎-elim (λ (e : k ≡ 1). space-is (st .sets) (getD s at 0) (rw e at (here c)))
+      (λ (l : k < 1). let e : k ≡ 0 = omega arith in one-is (st .sets) (getD s at 0) GL (rw e at (here c))) (eq-or-lt-of-le h)
 
-  right-narrow : (st : State) → rowOf (st .sets) ≡ row → k ≡ 4 → wideIn GR (st .sets) ≡ false
+  right-narrow : {at : ℕ} → Classed row s at 4 → wideIn GR (st .sets) ≡ false
   unfolding classOf pick
-  right-narrow st q e = one-is (st .sets) (getD s at 0) GR (rw e at (here st q))
+  right-narrow {at = at} c = one-is (st .sets) (getD s at 0) GR (here c)
 
-  ones-gl : k ≤ 1 → Within 0x20 0x7E s at r → Passes row s at r (r - at)
-  ones-gl h w = ones-pass 0x20 0x7E w (λ st q b l m. text (left-start (st .sets) b l (omega arith) (narrow st q h)))
+  left-leaves : {at i k : ℕ} → k ≤ 1 → Classed row s at k → Within 0x20 0x7E s at i → Leaves st s at i (i - at)
+  left-leaves h c w = span-leaves 0x20 0x7E w (λ b l m. text (left-start (st .sets) b l (omega arith) (narrow c h)))
 
-  ones-94 : k ≡ 4 → Within 0xA1 0xFE s at r → Passes row s at r (r - at)
-  ones-94 e w =
-      ones-pass 0xA1 0xFE w (λ st q b l m.
-      text (one-start (st .sets) b GR (omega arith) (graphic-used _ b (graphic (b % 128) (omega arith) (omega arith))) (right-narrow st q e)))
+  right-94 : {at i : ℕ} → Classed row s at 4 → Within 0xA1 0xFE s at i → Leaves st s at i (i - at)
+  right-94 c w =
+      span-leaves 0xA1 0xFE w (λ b l m.
+      text (one-start (st .sets) b GR (omega arith) (graphic-used _ b (graphic (b % 128) (omega arith) (omega arith))) (right-narrow c)))
 
-  ones-96 : k ≡ 4 → ruleOf (row + 0xA0) ≡ 4 → Within 0xA0 0xFF s at r → Passes row s at r (r - at)
-  ones-96 e f w =
-      ones-pass 0xA0 0xFF w (λ st q b l m.
-      text (one-start (st .sets) b GR l (all-used _ b (row-96 (st .sets) (rw q f))) (right-narrow st q e)))
+  right-96 : {at i : ℕ} → Classed row s at 4 → ruleOf (row + 0xA0) ≡ 4 → Within 0xA0 0xFF s at i → Leaves st s at i (i - at)
+  right-96 c f w =
+      span-leaves 0xA0 0xFF w (λ b l m. text (one-start (st .sets) b GR l (all-used _ b (row-96 (st .sets) (rw q f))) (right-narrow c)))
 
--- and the same of characters of two octets, n of them
-module _ (row : ℕ) (s : List ℕ) (at k m n : ℕ) (c : Classed row s at k) (e : m ≡ 2 * n) where
-  twos-pass : (d : Side) (first last : ℕ) → last < 256 → Within first last s at (at + m)
-      → ((st : State) → rowOf (st .sets) ≡ row → wideIn d (st .sets) ≡ true)
-      → ((b : ℕ) → first ≤ b → b ≤ last → On d b × (graphicOf (b % 128) ≡ true)) → Passes row s at (at + m) n
-  twos-pass d first last small w wide each =
-      record {
-        since = omega (arith, e);
-        within = w .within;
-        leaves = λ st q settled.
-            subst (λ (j : ℕ). Leaves st s at (at + j) n) (sym e)
-            (twos-leave st settled s first last d small (wide st q) each n at (subst (λ (j : ℕ). Within first last s at (at + j)) e w));
-      }
-
-  twos-gl : k ≡ 5 → Within 0x21 0x7E s at (at + m) → Passes row s at (at + m) n
+  left-twos : (at n : ℕ) → Classed row s at 5 → Within 0x21 0x7E s at (at + 2 * n) → Leaves st s at (at + 2 * n) n
   unfolding classOf pick
-  twos-gl f w =
-      twos-pass GL 0x21 0x7E (omega arith) w (λ st q. two-is (st .sets) (getD s at 0) GL (rw f at (here row s at k m c st q)) .1 .1)
-      (λ b l h. ((l, omega arith), graphic (b % 128) (omega arith) (omega arith)))
+  left-twos at n c w =
+      twos-leave st settled s 0x21 0x7E GL (omega arith) (two-is (st .sets) (getD s at 0) GL (here c) .1 .1)
+      (λ b l h. ((l, omega arith), graphic (b % 128) (omega arith) (omega arith))) n at w
 
-  twos-gr : k ≡ 6 → Within 0xA1 0xFE s at (at + m) → Passes row s at (at + m) n
+  right-twos : (at n : ℕ) → Classed row s at 6 → Within 0xA1 0xFE s at (at + 2 * n) → Leaves st s at (at + 2 * n) n
   unfolding classOf pick
-  twos-gr f w =
-      twos-pass GR 0xA1 0xFE (omega arith) w (λ st q. two-is (st .sets) (getD s at 0) GR (rw f at (here row s at k m c st q)) .1 .1)
-      (λ b l h. (omega arith, graphic (b % 128) (omega arith) (omega arith)))
+  right-twos at n c w =
+      twos-leave st settled s 0xA1 0xFE GR (omega arith) (two-is (st .sets) (getD s at 0) GR (here c) .1 .1)
+      (λ b l h. (omega arith, graphic (b % 128) (omega arith) (omega arith))) n at w
 
 -- ---- units of one octet, by their classes
 
@@ -308,27 +271,19 @@ module _ (t : List ℕ) (row : ℕ) (s : List ℕ) (is : t ≡ table) (low : row
   pub classed : {at k : ℕ} → Entry (rowAt row t) s at k → Classed row s at k
   classed {at = at} c = record { inside = c .inside; octet = c .octet; is = c .is ∙ entry-rule (getD s at 0) (c .octet) }
 
-  -- under a state of the row that text leaves as it is
-  ones-passes : {at i : ℕ} → at ≤ length s → Ones (rowAt row t) s at i → Passes row s at i (i - at)
-  ones-passes {at = at} {i = i} h o =
-      record {
-        since = omega (arith, o .since);
-        within = o .within h;
-        leaves = λ st r settled.
-            ones-leads (rowAt row t) st s
-            (λ j l b k. leaves-lone st settled s j l (lone-is (st .sets) (getD s j 0) row _ b r (entry-rule (getD s j 0) b) k)) at i h o;
-      }
-
-  stretch-passes : {at i n : ℕ} → at ≤ length s → Stretched (rowAt row t) s at i n → Passes row s at i n
-  stretch-passes h none = passes-none row s _ h
-  stretch-passes h (more a b) = passes-more row s _ _ _ _ _ (stretch-passes h a) (stretch-passes (fits a .1 h) b)
-  stretch-passes h (ones o) = ones-passes h o
-  stretch-passes h (ones-left k c w) = ones-gl row s _ _ _ (classed c) k w
-  stretch-passes h (by-entries.ones-94 c w) = ones-94 row s _ _ _ (classed c) refl w
-  stretch-passes h (by-entries.ones-96 c f w) = ones-96 row s _ _ _ (classed c) refl (sym (entry-rule 0xA0 (omega arith)) ∙ f) w
-  stretch-passes h (two l m c d) = passes-two row s _ _ (classed c) l m (classed d)
-  stretch-passes h (twos-left {n = n} c w) = twos-gl row s _ _ (2 * n) n (classed c) refl refl w
-  stretch-passes h (twos-right {n = n} c w) = twos-gr row s _ _ (2 * n) n (classed c) refl refl w
+  module _ (st : State) (settled : settledOf (st .directions) ≡ true) (q : rowOf (st .sets) ≡ row) where
+    stretch-leaves : {at i n : ℕ} → at ≤ length s → Stretched (rowAt row t) s at i n → Leaves st s at i n
+    stretch-leaves h by.none = leaves-none st s _ h
+    stretch-leaves h (by.more a b) = leaves-more st s _ _ _ _ _ (stretch-leaves h a) (stretch-leaves (fits a .1 h) b)
+    stretch-leaves h (by.ones o) =
+        ones-leads (rowAt row t) st s
+        (λ j l b k. leaves-lone st settled s j l (lone-is (st .sets) (getD s j 0) row _ b q (entry-rule (getD s j 0) b) k)) _ _ h o
+    stretch-leaves h (by.ones-left k c w) = left-leaves st settled row q s k (classed c) w
+    stretch-leaves h (by.ones-94 c w) = right-94 st settled row q s (classed c) w
+    stretch-leaves h (by.ones-96 c f w) = right-96 st settled row q s (classed c) (sym (entry-rule 0xA0 (omega arith)) ∙ f) w
+    stretch-leaves h (by.two l m c d) = two-leaves st settled row q s l m (classed c) (classed d)
+    stretch-leaves h (by.twos-left c w) = left-twos st settled row q s _ _ (classed c) w
+    stretch-leaves h (by.twos-right c w) = right-twos st settled row q s _ _ (classed c) w
 
 -- ---- under sets that designations change
 
@@ -401,7 +356,7 @@ module _ (t s : List ℕ) (at : ℕ) (a : Sets) where
       (record {
         since = fits p .0;
         within = fits p .1 (x .within);
-        leads = λ is d k. stretch-passes t row s is low (x .within) p .leaves (state b d) (sym e) k;
+        leads = λ is d k. stretch-leaves t row s is low (state b d) k (sym e) (x .within) p;
       })
 
   -- designations

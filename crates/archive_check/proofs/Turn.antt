@@ -30,13 +30,14 @@ pub record HeadBy (t s : List ℕ) (at count : ℕ) (st : State) : Type 0 where
 pub first-by : (t s : List ℕ) → HeadBy t s 0 0 fresh
 first-by t s = record { within = omega arith; few = omega arith; head = λ _. head-first s }
 
-leads-head : (s : List ℕ) (at count : ℕ) (st : State) → Head s at count st → (i n : ℕ) (to : State) → Leads s at st i to n → Head s i (count + n) to
+leads-head : (s : List ℕ) (at count : ℕ) (st : State) → Head s at count st → (i n : ℕ) (to : State) → Leads s at st i to n
+    → Head s i (count + n) to
 leads-head s at count st h i n to l =
     record { within = l .within; few = omega (arith, h .few, l .since); same = l .same count ∙ h .same }
 
 -- the two that a turn passes at once, one after the other
-pub turn-on : (t s : List ℕ) (at count : ℕ) (st : State) → HeadBy t s at count st → (to : State) → (t ≡ table → Leads s at st at to 0) → (i n : ℕ)
-    (too : State) → LeadsBy t s at to i too n → HeadBy t s i (count + n) too
+pub turn-on : (t s : List ℕ) (at count : ℕ) (st : State) → HeadBy t s at count st → (to : State) → (t ≡ table → Leads s at st at to 0)
+    → (i n : ℕ) (too : State) → LeadsBy t s at to i too n → HeadBy t s i (count + n) too
 turn-on t s at count st h to a i n too b =
     let e : count + 0 ≡ count = omega arith in
     record {

@@ -1,5 +1,5 @@
--- Stretches that the archive reader passes at once, as its code finds them. How far one goes is left to the program; that what it passes are as
--- many elements of the reader, which leave the state, is what each function ensures (`Passes`), so that nothing here has to be believed.
+-- What the archive reader passes at once, as its code finds it. How far it goes is left to the program. That what is passed are as many elements of the
+-- reader is what each function ensures, where what it was lent is the table (`Reaches`, `LeadsBy`), so that nothing here has to be believed.
 use Prim.Native.Nat.{ℕ, _+_, _-_, _≤_, _<_}
 use mathlib.Core.Path.{_≡_}
 use mathlib.Core.Bool.{Bool, true, false}
@@ -25,12 +25,6 @@ pub record Leads (s : List ℕ) (at : ℕ) (st : State) (i : ℕ) (to : State) (
 -- and they leave the state as it is
 abbrev pub Leaves : State → List ℕ → ℕ → ℕ → ℕ → Type 0
 Leaves st s at i n = Leads s at st i st n
-
--- the same under every state of a row that text leaves as it is
-pub record Passes (row : ℕ) (s : List ℕ) (at i n : ℕ) : Type 0 where
-  pub since : at + n ≤ i
-  pub within : i ≤ length s
-  pub leaves : (st : State) → rowOf (st .sets) ≡ row → settledOf (st .directions) ≡ true → Leaves st s at i n
 
 -- nothing but designations stands from a place under sets to another under sets, whatever the directions
 pub record Places (s : List ℕ) (at : ℕ) (a : Sets) (i : ℕ) (b : Sets) : Type 0 where

@@ -1,6 +1,6 @@
 -- Stretches as the code finds them: where they end (`fits`), units of one octet by their entries (`ones-one`, `ones-four`), characters of two octets
 -- of a span (`doubles-pass`, `doubles-on`). Each is a constructor of `Stretched`, with its numbers as the code has them (`by-numbers`).
-use Rattle.element.proofs.Names.{ℕ, _+_, _-_, _*_, _/_, _%_, _<_, _≤_, arith, _≡_, refl, sym, subst, List, length, getD, test, ltb, ltb-true, ltb-false}
+use Rattle.element.proofs.Names.{ℕ, _+_, _-_, _*_, _/_, _%_, _≤_, arith, _≡_, refl, sym, subst, List, length, test, ltb, ltb-true, ltb-false}
 use Rattle.octet_blocks.specs.Blocks.{Within}
 use Rattle.octet_blocks.proofs.Counted.{within-less}
 use Rattle.octet_stretches.specs.Stretched.{Entry, Ones, Stretched}

@@ -1,5 +1,5 @@
 -- Stretches by the entries of any row: what may be passed at once by which entries. How far a stretch goes is left to the program. What the entries
--- mean is said where the row is one of the table's (`Passes` in archive/specs/Passes), so that nothing here has to be believed.
+-- mean is said where the row is one of the table's (`stretch-leaves` in archive_check/proofs/Passes), so that nothing here has to be believed.
 use Prim.Native.Nat.{ℕ, _+_, _-_, _*_, _≤_, _<_}
 use mathlib.Core.Path.{_≡_}
 use mathlib.Core.List.{List}
@@ -11,6 +11,12 @@ pub record Entry (row s : List ℕ) (at k : ℕ) : Type 0 where
   pub inside : at < length s
   pub octet : getD s at 0 < 256
   pub is : k ≡ getD row (getD s at 0) 0
+
+-- the same of any place and any row: an unused octet's class where there is no such octet, or no such row
+pub record ClassAt (row s : List ℕ) (at k : ℕ) : Type 0 where
+  pub entry : 256 ≤ length row → at < length s → Entry row s at k
+  pub short : length row < 256 → k ≡ 9
+  pub past : length s ≤ at → k ≡ 9
 
 -- only octets whose entries are classes of one octet stand from a place to another
 pub record Ones (row s : List ℕ) (at i : ℕ) : Type 0 where

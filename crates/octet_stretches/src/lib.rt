@@ -1,9 +1,8 @@
-// Stretches of units of one octet and of two, that leave the state as it is, by the row of the table that is lent: its entry for an octet is the class of
-// what that octet starts. Where it has no 256 entries, or the place is not in the string, nothing is passed.
-ghost use mathlib.Core.Path.{_≡_};
+// Stretches of units of one octet and of two, that leave the state as it is, by the row of a table that is lent: its entry for an octet is the class of
+// what that octet starts. Where it has fewer than 256 entries, or the place is not in the string, nothing is passed.
 ghost use Prim.Native.Nat.{_+_, _≤_, _<_};
 ghost use lib.ListN.{length};
-ghost use Rattle.octet_stretches.specs.Stretched.{Entry, Ones, Stretched};
+ghost use Rattle.octet_stretches.specs.Stretched.{Entry, ClassAt, Ones, Stretched};
 use crate::entries::entry_at;
 use crate::one_octet::fours;
 use crate::one_octet::ones;
@@ -131,7 +130,7 @@ pub fn singles_by(row: &[u8], s: &[u8], at: usize) -> usize
 
 // The class of the octet at a place; that of an unused octet where there is none.
 pub fn class_at(row: &[u8], s: &[u8], at: usize) -> u8
-    ensures { λ r. ⌜ (256 ≤ length (now (row .entry)) → at < length (now (s .entry)) → Entry (now (row .entry)) (now (s .entry)) at r) ⌝ }
+    ensures { λ r. ⌜ ClassAt (now (row .entry)) (now (s .entry)) at r ⌝ }
 {
     if at < s.len() {
         if 256 <= row.len() {

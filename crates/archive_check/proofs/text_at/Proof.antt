@@ -24,7 +24,8 @@ text-at-spec =
     let k = c .before .class-at .result in
     let f : at-row .result + 256 - at-row .result ≡ 256 = omega arith in
     let entry : Entry (rowAt (at-row .result) (now (start .args .t))) (now (start .args .s)) (start .args .at) k
-    = (rw f at (c .before .class-at .ensures)) (row-length (at-row .result) (now (start .args .t)) (omega (arith, low, start .pre .0))) (start .pre .1) in
+    = (rw f at (c .before .class-at .ensures)) .entry (row-length (at-row .result) (now (start .args .t)) (omega (arith, low, start .pre .0)))
+    (start .pre .1) in
     record {
       number = k;
       classed = subst (λ (r : ℕ). Classed r (now (start .args .s)) (start .args .at) k) (at-row .ensures) (classed _ _ _ is low entry);
