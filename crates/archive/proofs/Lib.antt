@@ -1,5 +1,4 @@
 pub mod Passes
-pub mod Turn
 pub mod Filled
 pub mod Ready
 pub mod Equal

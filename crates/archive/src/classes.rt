@@ -1,11 +1,9 @@
 // What the octet at a place starts, looked up in the table that is lent.
 ghost use mathlib.Core.Path.{_≡_};
-ghost use mathlib.Core.Bool.{true};
-ghost use Prim.Native.Nat.{_+_, _≤_, _<_};
+ghost use Prim.Native.Nat.{_≤_, _<_};
 ghost use lib.ListN.{length};
-ghost use Rattle.octet_table.specs.Table.{table, ruleOf};
+ghost use Rattle.octet_table.specs.Table.{table};
 ghost use Rattle.archive.specs.Passes.{Classed};
-use octet_table::ONE_GR;
 
 fn wide(b: u8) -> usize
     ensures { λ r. ⌜ (r ≡ b) × (r < 256) ⌝ }
@@ -19,12 +17,4 @@ pub fn class_at(t: &[u8], s: &[u8], at: usize, row: usize) -> u8
     ensures { λ r. ⌜ Classed row (now (s .entry)) at r ⌝ }
 {
     t[row + wide(s[at])]
-}
-
-// Whether A0 is a character in a row: then the set in GR uses all of its 96 octets.
-pub fn full_right(t: &[u8], row: usize) -> bool
-    requires { ⌜ (now t ≡ table) × (row ≤ 1280) ⌝ }
-    ensures { λ r. ⌜ (r ≡ true → ruleOf (row + 0xA0) ≡ 4) ⌝ }
-{
-    t[row + 0xA0] == ONE_GR
 }

@@ -1,7 +1,0 @@
--- `archive::stretches::pairs_to` meets its contract.
-use Rattle.element.proofs.Names.{arith, refl}
-use Rattle.archive.proofs.stretches.pairs_to.Statement.{statement}
-use Rattle.archive.proofs.stretches.pairs_to.Tie as tie
-
-pub pairs-to-spec : {M : Type 1} → statement M
-pairs-to-spec = tie.close (tie.spec (search arith) (search arith) (λ c. (refl, refl)))
