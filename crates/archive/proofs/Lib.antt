@@ -1,4 +1,3 @@
-pub mod Passes
 pub mod Filled
 pub mod Ready
 pub mod Equal

@@ -4,7 +4,7 @@
 use Rattle.element.proofs.Names.{ℕ, _+_, _-_, _*_, _%_, _/_, _^_, _<_, _≤_, arith, _≡_, refl, ap, sym, _∙_, subst, true, false, List, [], _∷_}
 use Rattle.element.proofs.Names.{length, getD, le-ltb, ltb-true, ltb-false, pick, pick-by, test, clash, on-lt, on-ge, from, from-octet, from-end}
 use Rattle.element.proofs.Names.{UnitRecord, no-set, Side, GL, GR, part, next, get, put, on, stepOf, writtenOf, State, Sets, Part, Shape, Gives as Makes}
-use Rattle.element.proofs.Names.{eqb, ltb, Element, Refused, Found, eqb-true, on-true, on-eq, on-ne}
+use Rattle.element.proofs.Names.{eqb, ltb, Element, Refused, Found, eqb-true, on-true, on-ne}
 use native.Mathlib.Nat.{mod-eq-of-lt}
 use Rattle.base.specs.Kind as kind
 use Rattle.base.specs.Limit as limit
@@ -34,11 +34,11 @@ use Rattle.cursor.proofs.Marked.{marked-is}
 use Rattle.cursor.proofs.Fits.{placed-fits}
 use Rattle.octet_table.specs.Table.{numberOf, classOf, rowOf}
 use Rattle.octet_table.proofs.Rule.{row-most, class-number}
-use Rattle.archive.specs.Passes.{Classed}
+use Rattle.archive_check.specs.Passes.{Classed}
 use Rattle.archive.specs.Turns.{rowed, rowedTurn, movedBy, turnOf, Ready, ifCharacter, setBy, oneRecord, twoRecord}
 use Rattle.archive.specs.declared.turns.RowCursor.{RowCursor}
 use Rattle.archive.specs.declared.turns.RowTurn.{RowTurn}
-use Rattle.archive.proofs.Passes.{number-is, sequence-at}
+use Rattle.archive_check.proofs.Passes.{number-is, sequence-at}
 
 -- ---- what an octet gives, at a cursor
 

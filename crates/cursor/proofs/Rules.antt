@@ -1,7 +1,8 @@
 -- The ladder's rules for the octets at a cursor: there is one, or the string ends there.
-use Rattle.element.proofs.Names.{ℕ, _+_, _<_, _≤_, _≡_, true, List, [], _∷_, length, getD, from, ladder, on-true, State}
+use Rattle.element.proofs.Names.{ℕ, _+_, _<_, _≤_, _≡_, true, List, [], _∷_, length, getD, ltb, from, pick-by, ladder, on-true, on-ne, State}
+use Rattle.base.specs.Limit as limit
 use Rattle.base.proofs.Ladder.{octet, ended}
-use Rattle.cursor.specs.Cursor.{afterCsi, markOf, textOctet, setAt, doubleOf, octetOf, quickOf, advanceAt}
+use Rattle.cursor.specs.Cursor.{stateIn, elementTurn, afterCsi, markOf, markedTurn, textOctet, setAt, doubleOf, octetOf, quickOf, advanceAt}
 use Rattle.cursor.specs.declared.Cursor.{Cursor}
 use Rattle.cursor.specs.declared.Turn.{Turn}
 
@@ -44,6 +45,14 @@ module _ (s : List ℕ) (at : ℕ) (c : Cursor) (r : Turn) where
 
   pub on-advance-end : length s ≤ at → r ≡ advanceAt [] s c → r ≡ advanceAt (from at s) s c
   on-advance-end h e = ended (λ (t : List ℕ). advanceAt t s c) s at r h e
+
+-- what does not start with 9B is left to its element
+pub on-unmarked : (s : List ℕ) (c : Cursor) (r : Turn) → c .place < length s → (getD s (c .place) 0 ≡ 0x9B → ⊥) → r ≡ elementTurn s c
+    → r ≡ markedTurn s c
+unfolding markOf markedTurn
+on-unmarked s c r h n e =
+    pick-by (λ x. r ≡ x) (ltb limit.octets (length s)) (λ _. e)
+    (λ _. on-mark s (c .place) (stateIn c) (elementTurn s c) r h (on-ne (getD s (c .place) 0) 0x9B _ _ _ n e))
 
 pub ruleset marking = (on-mark, on-mark-end, on-csi, on-csi-end, ladder)
 

@@ -209,7 +209,10 @@ fn text_or_element(s: &[u8], c: Cursor) -> Turn
         }
         return or_two(s, c, b, set);
     }
-    marked(s, c)
+    if b == 0x9B {
+        return marked(s, c);
+    }
+    by_element(s, c)
 }
 
 // The cursor after a designation that was found.

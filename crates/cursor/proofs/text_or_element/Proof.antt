@@ -1,7 +1,7 @@
 -- `cursor::text_or_element` meets its contract, test by test.
 use Rattle.element.proofs.Names.{arith, on-false, on-lt, on-ge, sym, _∙_}
 use Rattle.cursor.specs.Cursor.{octetOf, quickOf, textTurn}
-use Rattle.cursor.proofs.Rules.{on-quick, on-quick-end, on-text}
+use Rattle.cursor.proofs.Rules.{on-quick, on-quick-end, on-text, on-unmarked}
 use Rattle.cursor.proofs.text_or_element.Statement.{statement}
 use Rattle.cursor.proofs.text_or_element.Tie as tie
 
@@ -28,9 +28,19 @@ returns-3 c =
 returns-4 : tie.Need-returns-4
 unfolding quickOf textTurn
 returns-4 c =
-    let read = c .before in
+    let read = c .before .before in
     on-quick _ _ _ _ _ (read .before .before .before .if1 .left)
     (on-false _ _ _ _ (sym (read .before .text-octet .ensures) ∙ read .if2 .left) (c .marked2 .ensures))
+
+returns-5 : tie.Need-returns-5
+unfolding quickOf textTurn
+returns-5 c =
+    let read = c .before .before in
+    let inside = read .before .before .before .if1 .left in
+    let args = c .before .before .before .before .before .before .before .args in
+    on-quick _ _ _ _ _ inside
+    (on-false _ _ _ _ (sym (read .before .text-octet .ensures) ∙ read .if2 .left)
+    (on-unmarked _ (args .c) _ inside (c .before .if4 .left) (c .by-element .ensures)))
 
 pub text-or-element-spec : {M : Type 1} → statement M
 text-or-element-spec =
@@ -46,4 +56,6 @@ text-or-element-spec =
     (search arith)
     returns-3
     (search arith)
-    returns-4)
+    returns-4
+    (search arith)
+    returns-5)
