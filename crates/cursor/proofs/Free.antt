@@ -19,9 +19,6 @@ same-sets like = refl
 abbrev pub texted : State → State
 texted st = directedTo (directions (st .directions .depth) (st .directions .levels) (st .directions .marked) true) st
 
-pub like-texted : {st to : State} → Like st to → Like (texted st) to
-like-texted like = like
-
 -- ---- a step
 
 abbrev unread : Directions → Directions

@@ -3,23 +3,19 @@
 use Rattle.element.proofs.Names.{ℕ, _+_, _%_, _^_, _≤_, _<_, arith, _≡_, refl, ap, sym, _∙_, Bool, true, false, List, [], _∷_, eqb, ltb}
 use Rattle.element.proofs.Names.{length, getD, eqb-true, ltb-true, ltb-false, le-ltb, pick, test, clash, from, from-octet, from-end, UnitRecord}
 use Rattle.element.proofs.Names.{part, next, stepOf, State, Directions, Step, Goes, Stops as Halts, Part, Shape, Refuses, Gives as Makes}
-use Rattle.element.proofs.Names.{Element, Refused, Found}
+use Rattle.element.proofs.Names.{Refused, Found}
 use native.Mathlib.Nat.{mod-eq-of-lt}
 use Rattle.base.specs.Kind as kind
 use Rattle.base.specs.Limit as limit
 use Rattle.control.specs.Mark.{beginOf, csiOf}
-use Rattle.state.specs.Directions.{inForceOf}
+use Rattle.state.specs.Directions.{countsAsText}
 use Rattle.state.specs.State.{directedTo}
 use Rattle.element.specs.Element.{shapeOf, steppedOf, directedOf, elementOf}
 use Rattle.element.specs.Start.{startOf, begunBy}
-use Rattle.element.proofs.Sizes.{found}
-use Rattle.grammar.specs.Reading.{size}
-use Rattle.units.specs.Records.{recordOf}
 use Rattle.units.specs.Next.{nextOf}
-use Rattle.units.specs.declared.Outcome.{Outcome}
 use Rattle.units.specs.declared.Outcome.the-variants.{Gives, Stops}
 use Rattle.units.proofs.Turn.{outcome, gives-refused, gives-found}
-use Rattle.cursor.specs.Cursor.{cursor, stateIn, turn, outcomeTurn, elementTurn, stepTurn, markTurn, afterCsi, markOf, markedTurn}
+use Rattle.cursor.specs.Cursor.{stateIn, outcomeTurn, elementTurn, stepTurn, markTurn, afterCsi, markOf, markedTurn}
 use Rattle.cursor.specs.declared.Cursor.{Cursor}
 use Rattle.cursor.specs.declared.Turn.{Turn}
 
@@ -51,15 +47,10 @@ unfolding pick
 either k octets true h i = h
 either k octets false h i = i
 
-begin-left : (t : List ℕ) → Mark kind.left-to-right 3 (beginOf kind.left-to-right t)
+begins : (k : ℕ) → countsAsText k 0 ≡ false → (t : List ℕ) → Mark k 3 (beginOf k t)
 unfolding beginOf next
-begin-left [] = bad
-begin-left (b ∷ t) = either _ _ (eqb b 0x5D) good bad
-
-begin-right : (t : List ℕ) → Mark kind.right-to-left 3 (beginOf kind.right-to-left t)
-unfolding beginOf next
-begin-right [] = bad
-begin-right (b ∷ t) = either _ _ (eqb b 0x5D) good bad
+begins k e [] = bad
+begins k e (b ∷ t) = either _ _ (eqb b 0x5D) (rw e good) bad
 
 -- ---- the unit that is next
 module _ (s : List ℕ) (c : Cursor) (short : length s ≤ limit.octets) where
@@ -107,8 +98,8 @@ module _ (s : List ℕ) (c : Cursor) (short : length s ≤ limit.octets) where
     unfolding afterCsi csiOf next directedOf pick
     csi-is [] e = refl
     csi-is (b ∷ t) e =
-        test (eqb b 0x31) (λ i. let q = eqb-true b 0x31 i in rw q (mark-is _ _ (begin-left t) (rw q at e)))
-        (λ i. test (eqb b 0x32) (λ j. let q = eqb-true b 0x32 j in rw q (mark-is _ _ (begin-right t) (rw q at e)))
+        test (eqb b 0x31) (λ i. let q = eqb-true b 0x31 i in rw q (mark-is _ _ (begins _ refl t) (rw q at e)))
+        (λ i. test (eqb b 0x32) (λ j. let q = eqb-true b 0x32 j in rw q (mark-is _ _ (begins _ refl t) (rw q at e)))
         (λ j. test (eqb b 0x5D) (λ h. rw (i, j) (mark-is kind.revert 2 good (rw (h) at e))) (λ h. no-refusal (rw (h, i, j) at e))))
 
   by-octet : {u : UnitRecord} {place : ℕ} {after : State} → nextOf s at st ≡ Gives u place after → at < length s

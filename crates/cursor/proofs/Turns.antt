@@ -1,7 +1,7 @@
 -- The unit at a cursor of a string, if one is ahead, is that of the elements from there on (`advance-ahead`), where the cursor's sets are
 -- theirs. An element that is not refused is the same under such a state (`next-ahead`, `by-element`), and so is a mark (`by-marked`); what is taken
 -- for text is the element or is left to it (`text-turns`); and a designation that is passed is the element (`passed-on`).
-use Rattle.element.proofs.Names.{ℕ, _+_, _%_, _^_, _≤_, _<_, arith, _≡_, refl, ap, sym, _∙_, subst, Bool, true, false, List, [], _∷_, eqb, ltb}
+use Rattle.element.proofs.Names.{ℕ, _+_, _%_, _^_, _≤_, _<_, arith, _≡_, refl, ap, _∙_, subst, Bool, true, false, List, [], _∷_, eqb, ltb}
 use Rattle.element.proofs.Names.{length, le-ltb, ltb-true, pick, from, UnitRecord, no-set, designatedOf, State, Part, Element, End, Refused}
 use Rattle.element.proofs.Names.{Silent, Found}
 use native.Mathlib.Nat.{mod-eq-of-lt}
@@ -22,7 +22,7 @@ use Rattle.cursor.specs.Cursor.{flagged, kept, cursor, turn, outcomeTurn
 use Rattle.cursor.specs.Cursor.{advanceOf}
 use Rattle.cursor.specs.declared.Cursor.{Cursor}
 use Rattle.cursor.specs.declared.Turn.{Turn}
-use Rattle.cursor.proofs.Free.{Like, like, texted, like-texted, same-sets, Same, silent as same-silent, found as same-found, same-element}
+use Rattle.cursor.proofs.Free.{Like, like, texted, same-sets, Same, silent as same-silent, found as same-found, same-element}
 use Rattle.cursor.proofs.Marked.{marked-is}
 use Rattle.cursor.proofs.Quick.{Only, refused, found, textPart, textAt, Quick, as-text, as-other, quick-turn}
 

@@ -7,7 +7,7 @@ use Rattle.base.specs.Kind as kind
 use Rattle.grammar.specs.Units.{TextUnit, unitOf}
 use Rattle.grammar.specs.Records.{readable, unitRead, prepend, listReading}
 use Rattle.shortest.specs.Records.{fault, onStep, checkRecords, writerAnswer, writerOutput}
-use Rattle.shortest.specs.Unused.{Alike, AllAlike, none, more, Redirected, AllRedirected, none-redirected, one-redirected}
+use Rattle.shortest.specs.Unused.{Alike, AllAlike, none, more, AllRedirected, none-redirected, one-redirected}
 
 module _ (o : List ℕ) where
   -- by the kind: a segment, a character, one of the others, or none

@@ -1,5 +1,4 @@
 -- `archive::turns::turn` meets its contract, by the class of the octet at the cursor.
-use Rattle.element.proofs.Names.{arith}
 use Rattle.archive.proofs.Ready.{inside, row-fits}
 use Rattle.archive.proofs.turns.turn.Statement.{statement}
 use Rattle.archive.proofs.turns.turn.Tie as tie
