@@ -34,11 +34,11 @@ use Rattle.cursor.proofs.Marked.{marked-is}
 use Rattle.cursor.proofs.Fits.{placed-fits}
 use Rattle.octet_table.specs.Table.{numberOf, classOf, rowOf}
 use Rattle.octet_table.proofs.Rule.{row-most, class-number}
-use Rattle.archive_check.specs.Passes.{Classed}
+use Rattle.archive_laws.specs.Passes.{Classed}
 use Rattle.archive.specs.Turns.{rowed, rowedTurn, movedBy, turnOf, Ready, ifCharacter, setBy, oneRecord, twoRecord}
 use Rattle.archive.specs.declared.turns.RowCursor.{RowCursor}
 use Rattle.archive.specs.declared.turns.RowTurn.{RowTurn}
-use Rattle.archive_check.proofs.Passes.{number-is, sequence-at}
+use Rattle.archive_laws.proofs.Passes.{number-is, sequence-at}
 
 -- ---- what an octet gives, at a cursor
 

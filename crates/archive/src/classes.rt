@@ -3,7 +3,7 @@ ghost use mathlib.Core.Path.{_≡_};
 ghost use Prim.Native.Nat.{_≤_, _<_};
 ghost use lib.ListN.{length};
 ghost use Rattle.octet_table.specs.Table.{table};
-ghost use Rattle.archive_check.specs.Passes.{Classed};
+ghost use Rattle.archive_laws.specs.Passes.{Classed};
 
 fn wide(b: u8) -> usize
     ensures { λ r. ⌜ (r ≡ b) × (r < 256) ⌝ }

@@ -6,13 +6,15 @@ ghost use Rattle.octet_table.specs.Table.{table};
 ghost use Rattle.read.specs.Listing.{readAnswer, storedOf, listAfter};
 use crate::turns::RowCursor;
 use crate::turns::turn;
-use archive_check::check_by;
+use crate::whole::check_by;
 use base::Answer;
 use base::Unit;
 use base::refusal;
 
 mod classes;
+mod quick;
 mod turns;
+mod whole;
 
 // Whether a string is accepted, and what of it is refused: what `check_string::answer` says.
 pub fn check(s: &[u8]) -> Answer

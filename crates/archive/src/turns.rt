@@ -3,7 +3,7 @@ ghost use mathlib.Core.Path.{_≡_};
 ghost use Prim.Native.Nat.{_+_, _<_, _≤_, _^_};
 ghost use Rattle.octet_table.specs.Table.{table};
 ghost use Rattle.cursor.specs.Cursor.{passedOf};
-ghost use Rattle.archive_check.specs.Passes.{Classed};
+ghost use Rattle.archive_laws.specs.Passes.{Classed};
 ghost use Rattle.archive.specs.Turns.{rowed, rowedTurn, firstRow, Ready, turnOf, movedBy, ifCharacter, setBy, oneRecord, twoRecord};
 use crate::classes::class_at;
 use base::Unit;

@@ -1,5 +1,5 @@
 -- Stretches by the entries of any row: what may be passed at once by which entries. How far a stretch goes is left to the program. What the entries
--- mean is said where the row is one of the table's (`stretch-leaves` in archive_check/proofs/Passes), so that nothing here has to be believed.
+-- mean is said where the row is one of the table's (`stretch-leaves` in archive_laws/proofs/Passes), so that nothing here has to be believed.
 use Prim.Native.Nat.{ℕ, _+_, _-_, _*_, _≤_, _<_}
 use mathlib.Core.Path.{_≡_}
 use mathlib.Core.List.{List}
