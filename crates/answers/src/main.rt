@@ -1,4 +1,6 @@
 // Reads strings in hexadecimal from standard input, one to a line, as 1B 28 42, and prints what the reader answers on each: number, place, count.
+#![tactic(auto)]
+
 ghost use Rattle.std.specs.Prelude.{◌<◌, ◌≤◌, length};
 ghost use Rattle.io.specs.Counts.{IsPrefixLen};
 

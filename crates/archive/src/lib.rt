@@ -1,4 +1,6 @@
 // The archive reader: the check of a string, and its units in a list that the caller lends, by the table of what each octet starts.
+#![tactic(auto)]
+
 ghost use Rattle.std.specs.Prelude.{◌≡◌, length};
 ghost use Rattle.grammar.specs.Reading.{check_of};
 ghost use Rattle.octet_table.specs.Table.{table};

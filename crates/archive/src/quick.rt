@@ -14,7 +14,7 @@ use octet_table::{left_of, right_of};
 pub const BLANK_ROW: usize = 1280;
 
 // How far it goes: the place, the units up to there, and the sets in force.
-#[derive(Drop)]
+#[derive(Clone, Copy)]
 pub struct Reach {
     pub place: usize,
     pub units: usize,

@@ -15,7 +15,7 @@ use designations::told;
 use octet_table::{ESCAPE, MARK, ONE_GR, TWO_GL, TWO_GR, row_of};
 
 // Where the next unit is looked for, where the row of the table starts that its sets have, and the direction in force there.
-#[derive(Drop)]
+#[derive(Clone, Copy)]
 pub struct RowCursor {
     pub cursor: Cursor,
     pub row: usize,
@@ -23,7 +23,7 @@ pub struct RowCursor {
 }
 
 // A unit, and the cursor after it.
-#[derive(Drop)]
+#[derive(Clone, Copy)]
 pub struct RowTurn {
     pub cursor: RowCursor,
     pub unit: Unit,

@@ -1,4 +1,6 @@
 // The numbers of the rules, each under a name; the answer that every entry point gives; the record of a unit.
+#![tactic(auto)]
+
 ghost use Rattle.std.specs.Prelude.{◌≡◌};
 ghost use Rattle.base.specs.Answers.{answer, refused_at};
 ghost use Rattle.base.specs.Refusal.{accepted, no_room};
@@ -10,7 +12,7 @@ pub mod refusal;
 
 // An answer: the number of the refusal (0 for accepted), its place and its count.
 #[repr(C)]
-#[derive(Drop)]
+#[derive(Clone, Copy)]
 pub struct Answer {
     pub place: usize,
     pub count: usize,
@@ -53,7 +55,7 @@ impl Answer {
 // A unit: kind, set and code, 0 where they mean nothing; start and length name its octets in the string, and of an extended segment
 // its n octets; the direction in force after it, and how many directions are then open.
 #[repr(C)]
-#[derive(Drop)]
+#[derive(Clone, Copy)]
 pub struct Unit {
     pub kind: u8,
     pub set: u8,

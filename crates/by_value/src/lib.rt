@@ -1,4 +1,6 @@
 // The lent list and the held reader for callers that have neither: plain parameters, and answers by value.
+#![tactic(auto)]
+
 ghost use Rattle.std.specs.Prelude.{◌≡◌, replicate};
 ghost use Rattle.grammar.specs.Reading.{check_of};
 ghost use Rattle.read.specs.Listing.{list_after};

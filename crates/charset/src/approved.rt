@@ -7,7 +7,7 @@ use crate::{FORM_94, FORM_94X94, FORM_96};
 
 // A row: the set's form, the final octet of its designations, whether it may stand in GL, whether in GR, and the octets of a character.
 #[repr(C)]
-#[derive(Drop)]
+#[derive(Clone, Copy)]
 pub struct Charset(pub u8, pub u8, pub bool, pub bool, pub u8);
 
 pub const APPROVED: [Charset; 15] = [

@@ -1,4 +1,6 @@
 // The fifteen sets: their forms, the sides they may use, and the set that a designation names.
+#![tactic(auto)]
+
 ghost use Rattle.std.specs.Prelude.{◌≡◌};
 ghost use Rattle.charset.specs.Charsets.{row_of, form_of, width_of_form, allowed, set_of};
 ghost use Rattle.charset.specs.Finals.{named_of};
@@ -7,7 +9,7 @@ pub mod approved;
 mod finals;
 
 // The two sides that a set can stand on: the octets below 128, and those from 128.
-#[derive(Drop)]
+#[derive(Clone, Copy)]
 pub enum Side {
     GL,
     GR,

@@ -1,5 +1,7 @@
 // The check of a list of unit records, one record at a time: the first that offends is refused, by 11, 7, 8 and 9 in this order, and
 // each before it goes into its row of the work room.
+#![tactic(auto)]
+
 ghost use Rattle.std.specs.Prelude.{◌≡◌, ◌<◌, length};
 ghost use Rattle.base.specs.Choice.{pick};
 ghost use Rattle.rows.specs.Rows.{with_record};
@@ -15,7 +17,7 @@ use state::directions::{Directions, Step};
 mod record;
 
 // How far a list is checked: what the directions are after the last record, or the number and the index of the first that offends.
-#[derive(Drop)]
+#[derive(Clone, Copy)]
 pub enum Progress {
     Fine(Directions),
     Faulty(u8, usize),

@@ -1,4 +1,6 @@
 // The check of a whole string.
+#![tactic(auto)]
+
 ghost use Rattle.std.specs.Prelude.{◌≡◌};
 ghost use Rattle.grammar.specs.Reading.{check_of};
 ghost use Rattle.check_string.specs.Checked.{checked_of};
@@ -12,7 +14,7 @@ use state::elements::Shape;
 use stretch::characters::stretch_at;
 
 // What is said of a string with no list lent.
-#[derive(Drop)]
+#[derive(Clone, Copy)]
 pub struct Checked {
     pub answer: Answer,
 }

@@ -1,4 +1,6 @@
 // The library for C: each entry point under its name in `include/ctext.h`.
+#![tactic(auto)]
+
 ghost use Rattle.std.specs.Prelude.{◌≡◌};
 ghost use Rattle.grammar.specs.Reading.{check_of};
 ghost use Rattle.runs.specs.Runs.{run_at};

@@ -1,5 +1,7 @@
 // The unit at a cursor of an accepted string. Since nothing of it can be refused, text is read by its octets alone, and of the state a cursor
 // keeps the sets and the open directions, as plain numbers: one that held a whole state would be copied through memory at each step (docs/SPEED.md).
+#![tactic(auto)]
+
 ghost use Rattle.std.specs.Prelude.{◌≡◌, ◌+◌, ◌<◌, ◌^◌, length};
 ghost use Rattle.base.specs.Choice.{from};
 ghost use Rattle.cursor.specs.Cursor.{cursor, placed_at, first, state_in, element_turn, marked_turn, text_octet, set_at, single, double};
@@ -21,7 +23,7 @@ pub mod marks;
 pub mod octets;
 
 // Where the next unit is looked for: a place of the string, the sets in force there, and the open directions, as `Directions` has them.
-#[derive(Drop)]
+#[derive(Clone, Copy)]
 pub struct Cursor {
     pub place: usize,
     pub levels: u64,
@@ -31,7 +33,7 @@ pub struct Cursor {
 }
 
 // A unit, and the cursor after it.
-#[derive(Drop)]
+#[derive(Clone, Copy)]
 pub struct Turn {
     pub cursor: Cursor,
     pub unit: Unit,

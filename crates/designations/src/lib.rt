@@ -1,4 +1,6 @@
 // Designations, found by their octets.
+#![tactic(auto)]
+
 ghost use Rattle.std.specs.Prelude.{◌≡◌};
 ghost use Rattle.base.specs.Choice.{from, pick};
 ghost use Rattle.designations.specs.Designation.{absent, by_final_of, multi_octet_at, sequence_of, designation_at, side_by, told_of, form_after};
@@ -6,7 +8,7 @@ ghost use Rattle.designations.specs.Designation.{absent, by_final_of, multi_octe
 use charset::{FORM_94, FORM_94X94, FORM_96, NO_SET, Side};
 
 // A designation: its octets, its side and its set, which is none where there is no designation.
-#[derive(Drop)]
+#[derive(Clone, Copy)]
 pub struct Designation {
     pub octets: usize,
     pub side: Side,

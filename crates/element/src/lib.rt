@@ -1,4 +1,6 @@
 // A whole element: its shape, and then the direction rule.
+#![tactic(auto)]
+
 ghost use Rattle.std.specs.Prelude.{◌≡◌};
 ghost use Rattle.base.specs.Choice.{from};
 ghost use Rattle.element.specs.Element.{shape_of, stepped_of, directed_of, element_of};

@@ -1,4 +1,6 @@
 // The sets in force by number, and the classes of units.
+#![tactic(auto)]
+
 ghost use Rattle.std.specs.Prelude.{◌≡◌, ◌<◌, get_or};
 ghost use Rattle.numbers.specs.Numbers.{class_of, places_in_gl, places_in_gr, sets_in_gl, sets_in_gr, second_slot, chosen_by, changes};
 

@@ -1,4 +1,6 @@
 // Octets of one span, many at a time: 64 by counting those outside, and eight in one word; and one octet at any place.
+#![tactic(auto)]
+
 ghost use Rattle.std.specs.Prelude.{◌≡◌, slice_index};
 
 pub mod blocks;

@@ -1,5 +1,7 @@
 // Stretches of units of one octet and of two, that leave the state as it is, by the row of a table that is lent: its entry for an octet is the class of
 // what that octet starts. Where it has fewer than 256 entries, or the place is not in the string, nothing is passed.
+#![tactic(auto)]
+
 ghost use Rattle.std.specs.Prelude.{◌+◌, ◌≤◌, ◌<◌, length};
 ghost use Rattle.octet_stretches.specs.Stretched.{Entry, ClassAt, Ones, Stretched};
 
@@ -16,7 +18,7 @@ mod two_octets;
 const NEAR: usize = 32;
 
 // So many octets, which are so many units.
-#[derive(Drop)]
+#[derive(Clone, Copy)]
 pub struct Stretch {
     pub octets: usize,
     pub units: usize,

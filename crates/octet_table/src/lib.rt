@@ -1,4 +1,6 @@
 // The table of the archive reader: what each octet starts, under each row of sets in GL and GR.
+#![tactic(auto)]
+
 ghost use Rattle.std.specs.Prelude.{◌≡◌};
 ghost use Rattle.octet_table.specs.Table.{table, left_of, right_of, row_of};
 ghost use Rattle.state.specs.State.{sets};

@@ -1,4 +1,6 @@
 // The pieces of a string: each is a run, a tab, a newline, a control sequence or an extended segment.
+#![tactic(auto)]
+
 ghost use Rattle.std.specs.Prelude.{◌≡◌};
 ghost use Rattle.base.specs.Choice.{from};
 ghost use Rattle.element.specs.Element.{element_of};
@@ -26,7 +28,7 @@ pub const SEGMENT: u8 = 5;
 pub const NONE: u8 = 6;
 
 // Where a piece starts and where the next one does, the state after its first element, and what it is.
-#[derive(Drop)]
+#[derive(Clone, Copy)]
 pub struct Piece {
     pub start: usize,
     pub end: usize,

@@ -94,7 +94,7 @@ fn costs_before(
 }
 
 // What was taken from the costs, and the class that changed them last.
-#[derive(Drop)]
+#[derive(Clone, Copy)]
 pub struct Taken {
     pub base: usize,
     pub last: usize,

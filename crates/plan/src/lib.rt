@@ -1,5 +1,7 @@
 // The plan of a writing. From the last row to the first, it has what the rest costs from all sets in force, and keeps in each row what that
 // row's choice will compare.
+#![tactic(auto)]
+
 ghost use Rattle.std.specs.Prelude.{◌≡◌, length};
 ghost use Rattle.state.specs.State.{fresh};
 ghost use Rattle.rows.specs.Rows.{rows_of, units_in};

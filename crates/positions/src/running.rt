@@ -12,7 +12,7 @@ use state::{Sets, State};
 // Where a reader of runs stands: its place, the sets in force and the open directions, and whether the whole string is known to be
 // accepted. A flag is 0 for no, and anything else for yes.
 #[repr(C)]
-#[derive(Drop)]
+#[derive(Clone, Copy)]
 pub struct RunReader {
     pub levels: u64,
     pub place: usize,
@@ -26,7 +26,7 @@ pub struct RunReader {
 
 // The reader after a step, and the run or the answer where none is shown.
 #[repr(C)]
-#[derive(Drop)]
+#[derive(Clone, Copy)]
 pub struct RunHanded {
     pub reader: RunReader,
     pub run: Bounds,
@@ -34,7 +34,7 @@ pub struct RunHanded {
 
 // The reader after several runs, and the answer: how many were stored, or why none could be.
 #[repr(C)]
-#[derive(Drop)]
+#[derive(Clone, Copy)]
 pub struct RunsHanded {
     pub reader: RunReader,
     pub answer: Answer,

@@ -10,7 +10,7 @@ use state::{Sets, State};
 // Where a reader stands: its place, the units handed out before, the sets in force and the open directions. A flag is 0 for no, and
 // anything else for yes.
 #[repr(C)]
-#[derive(Drop)]
+#[derive(Clone, Copy)]
 pub struct Position {
     pub levels: u64,
     pub place: usize,
@@ -24,7 +24,7 @@ pub struct Position {
 
 // The position after a step; and where `given` is 1 the unit that was handed out, else the answer.
 #[repr(C)]
-#[derive(Drop)]
+#[derive(Clone, Copy)]
 pub struct Handed {
     pub position: Position,
     pub answer: Answer,

@@ -1,4 +1,6 @@
 // What the program prints for an input, all of it but the reading and the writing of descriptors.
+#![tactic(auto)]
+
 ghost use Rattle.std.specs.Prelude.{◌+◌, ◌≤◌, ◌≡◌, length, take};
 ghost use Rattle.base.specs.Limit.{octets};
 ghost use Rattle.base.specs.Output.{stored_in};
@@ -12,7 +14,7 @@ const WORK_ROOM: usize = 65520;
 
 // The answer, and how many octets are printed.
 #[repr(C)]
-#[derive(Drop)]
+#[derive(Clone, Copy)]
 pub struct Printed {
     pub answer: Answer,
     pub length: usize,

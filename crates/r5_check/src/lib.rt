@@ -1,4 +1,6 @@
 // The check of the octets before the 00, element by element, with what X11R5 does not have refused.
+#![tactic(auto)]
+
 ghost use Rattle.std.specs.Prelude.{◌≡◌, ◌+◌, ◌≤◌, length};
 ghost use Rattle.base.specs.Answers.{refused_at};
 ghost use Rattle.base.specs.Choice.{pick, from};

@@ -1,5 +1,7 @@
 // The X11R5 writer, one record at a time. Its pen goes through a list twice: first it checks, and counts where the room might not do, and
 // then, if nothing is refused, it stores.
+#![tactic(auto)]
+
 ghost use Rattle.std.specs.Prelude.{◌≡◌, ◌+◌, length};
 ghost use Rattle.r5_pen.specs.Pen.{looking_at, ample_for, looked_first, begun_at, counted, stayed_at, moved_to, stopped_by, turned_over};
 ghost use Rattle.r5_pen.specs.Pen.{passed_text, passed_by, looked_by, checked_by};
@@ -11,7 +13,7 @@ use unit_octets::{put_designation, stores};
 
 // The octets counted or stored so far, the index of the next record, number and place of the first refusal, the sets in GL and GR, and
 // whether it stores.
-#[derive(Drop)]
+#[derive(Clone, Copy)]
 pub struct Pen {
     pub at: usize,
     pub index: usize,

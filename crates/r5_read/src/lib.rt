@@ -1,4 +1,6 @@
 // The reader of X11R5's strings, which a 00 ends: units into a list that the caller lends.
+#![tactic(auto)]
+
 ghost use Rattle.std.specs.Prelude.{◌≡◌, length};
 ghost use Rattle.r5_read.specs.Listing.{r5_read_answer, r5_list_after};
 

@@ -9,7 +9,7 @@ use base::{Answer, refusal};
 use r5_check::check;
 
 // The answer where the string is refused; else it is accepted so far, and its octets end at a place.
-#[derive(Drop)]
+#[derive(Clone, Copy)]
 pub struct Look {
     pub answer: Answer,
     pub end: usize,

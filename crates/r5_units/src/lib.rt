@@ -1,4 +1,6 @@
 // One record: what it is refused for, its set and code, and its octets, counted and stored.
+#![tactic(auto)]
+
 ghost use Rattle.std.specs.Prelude.{◌≡◌};
 ghost use Rattle.base.specs.Choice.{pick};
 ghost use Rattle.grammar.specs.Records.{unit_read};

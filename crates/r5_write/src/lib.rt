@@ -1,4 +1,6 @@
 // The writer of X11R5 strings: from a list of unit records to the octets of its units, each where its set always stands, and the 00 that ends them.
+#![tactic(auto)]
+
 ghost use Rattle.std.specs.Prelude.{◌≡◌, ◌≤◌, length};
 ghost use Rattle.write.specs.Stowed.{quick_run};
 ghost use Rattle.x11r5.specs.Records.{r5_writer_answer, r5_writer_output};

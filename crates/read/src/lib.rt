@@ -1,4 +1,6 @@
 // The units of a string, in a list that the caller lends.
+#![tactic(auto)]
+
 ghost use Rattle.std.specs.Prelude.{◌≡◌, ◌+◌, ◌≤◌, length};
 ghost use Rattle.spans.specs.Spans.{Fits};
 ghost use Rattle.read.specs.Stores.{count_from, stored_from};

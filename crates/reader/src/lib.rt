@@ -1,4 +1,6 @@
 // The units of a string one by one, from a reader that keeps hold of the string, its place and its state.
+#![tactic(auto)]
+
 ghost use Rattle.std.specs.Prelude.{◌≡◌, length};
 ghost use Rattle.reader.specs.Step.{stepped, may_stand, counted_of, ended_of, after_of, step_at};
 ghost use Rattle.reader.specs.Reader.{opened, item_at, moved};
@@ -10,7 +12,7 @@ use state::State;
 use units::Outcome;
 
 // What is handed out.
-#[derive(Drop)]
+#[derive(Clone, Copy)]
 pub enum Item {
     // a unit
     Given(Unit),
@@ -19,7 +21,7 @@ pub enum Item {
 }
 
 // A place of a string and the state there, and how many units were handed out before.
-#[derive(Drop)]
+#[derive(Clone, Copy)]
 pub struct Reader<'a> {
     pub octets: &'a [u8],
     pub place: usize,
@@ -28,7 +30,7 @@ pub struct Reader<'a> {
 }
 
 // An item, and the place, the count and the state after it.
-#[derive(Drop)]
+#[derive(Clone, Copy)]
 pub struct Stepped {
     pub place: usize,
     pub count: usize,

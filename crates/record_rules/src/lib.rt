@@ -1,4 +1,6 @@
 // What one record of a list is refused for, by itself and by the directions before it: 11, 7, 8 and 9. By value: nothing is stored.
+#![tactic(auto)]
+
 ghost use Rattle.std.specs.Prelude.{◌≡◌};
 ghost use Rattle.grammar.specs.Records.{unit_read};
 ghost use Rattle.shortest.specs.Records.{fault};

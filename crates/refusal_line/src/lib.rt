@@ -1,4 +1,6 @@
 // The line `refused N at P`. It is made in a buffer from its end to its start, since a number's last digit is found first.
+#![tactic(auto)]
+
 ghost use Rattle.std.specs.Prelude.{◌+◌, ◌-◌, ◌≤◌, ◌≡◌, ◌++◌, length, drop};
 ghost use Rattle.base.specs.Output.{stored_in};
 ghost use Rattle.refusal_line.specs.Line.{decimal, refusal_line};

@@ -10,7 +10,7 @@ use base::{Answer, limit, refusal};
 use resource_form::{BACKSLASH, First};
 
 // A form looked over: how many octets it stands for, or the place of its first fault.
-#[derive(Drop)]
+#[derive(Clone, Copy)]
 enum Scan {
     Octets(usize),
     FaultAt(usize),

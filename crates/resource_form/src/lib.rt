@@ -1,4 +1,6 @@
 // The form of octets in a resource file: what stands first in it, and how long the form of an octet is.
+#![tactic(auto)]
+
 ghost use Rattle.std.specs.Prelude.{◌≡◌, length};
 ghost use Rattle.base.specs.Choice.{from};
 ghost use Rattle.resource_form.specs.Form.{octet_form, zero_first, form_zeros, form_escape, form_first};
@@ -15,7 +17,7 @@ pub const LETTER_N: u8 = 0x6E;
 pub const DIGIT_0: u8 = 0x30;
 
 // What stands first in a form: an octet and the number of octets that stand for it, or nothing that a form may begin with.
-#[derive(Drop)]
+#[derive(Clone, Copy)]
 pub enum First {
     Stands(u8, usize),
     Bad,

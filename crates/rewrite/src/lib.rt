@@ -1,4 +1,6 @@
 // The shortest form of a string: what the program writes.
+#![tactic(auto)]
+
 ghost use Rattle.std.specs.Prelude.{◌≡◌, length};
 ghost use Rattle.base.specs.Refusal.{accepted};
 ghost use Rattle.grammar.specs.Reading.{check_of};

@@ -1,4 +1,6 @@
 // The rows of the work room: where the units stand while their writing is planned.
+#![tactic(auto)]
+
 ghost use Rattle.std.specs.Prelude.{◌≡◌, ◌+◌, ◌-◌, ◌*◌, ◌≤◌, get_or};
 ghost use Rattle.rows.specs.Rows.{start_from, high_octet, low_octet, count_of, part_of, rows_of, size_of, part_from};
 ghost use Rattle.rows.specs.Layout as layouts;

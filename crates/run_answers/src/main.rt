@@ -1,5 +1,7 @@
 // Prints the runs of the checked strings (rule P1), and of some more. For each string: its octets; a line for each run, with its
 // start, octets, set, octet width and direction, and what it holds; and the refusal of the string or of the next run.
+#![tactic(auto)]
+
 use base::{Answer, refusal};
 use runs::Bounds;
 

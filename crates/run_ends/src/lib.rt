@@ -1,4 +1,6 @@
 // Where a run ends, in a state that text leaves as it is: an octet of the span of a side is of the run.
+#![tactic(auto)]
+
 ghost use Rattle.std.specs.Prelude.{◌≡◌};
 ghost use Rattle.base.specs.Choice.{from};
 ghost use Rattle.run_ends.specs.Ends.{ones_to, twos_to, left_to, right_to, text_to};

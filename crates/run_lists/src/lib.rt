@@ -1,4 +1,6 @@
 // Several runs a call, into a list that the caller lends.
+#![tactic(auto)]
+
 ghost use Rattle.std.specs.Prelude.{◌≡◌, true, ◌+◌, ◌*◌, ◌≤◌, ◌<◌, ◌^◌, length};
 ghost use Rattle.base.specs.Limit as limits;
 ghost use Rattle.stretch.specs.Characters.{settled_of};
@@ -17,14 +19,14 @@ use state::State;
 use stretch::characters::settled;
 
 // The position after several runs, and the answer: how many were stored, or why none could be.
-#[derive(Drop)]
+#[derive(Clone, Copy)]
 pub struct RunsStep {
     pub position: RunPosition,
     pub answer: Answer,
 }
 
 // Where a list has come to: the place and the state there, and how many runs are stored.
-#[derive(Drop)]
+#[derive(Clone, Copy)]
 struct Stand {
     place: usize,
     count: usize,

@@ -1,4 +1,6 @@
 // A run of a string by its number: where it lies, or as that very part of the string.
+#![tactic(auto)]
+
 ghost use Rattle.std.specs.Prelude.{◌≡◌, ◌-◌, ◌≤◌, length, get_or, take, drop};
 ghost use Rattle.runs.specs.Runs.{run_at};
 ghost use Rattle.run_parts.specs.Parts.{run_octets, StartsAt, Shown};

@@ -3,7 +3,7 @@ use base::Answer;
 
 // That very part of the string; the answer; the set, octet width and direction in force.
 #[repr(C)]
-#[derive(Drop)]
+#[derive(Clone, Copy)]
 pub struct Run<'a> {
     pub part: &'a [u8],
     pub answer: Answer,

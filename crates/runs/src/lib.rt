@@ -1,4 +1,6 @@
 // Runs: the stretches of characters and spaces of one side, and what is shown of each; `stepping` has them one after the other.
+#![tactic(auto)]
+
 ghost use Rattle.std.specs.Prelude.{◌≡◌, ◌≤◌};
 ghost use Rattle.runs.specs.Runs.{width_of, shown_of, no_run};
 
@@ -10,7 +12,7 @@ pub mod stepping;
 
 // Where a run starts and ends in the string, the answer, and the set, octet width and direction in force.
 #[repr(C)]
-#[derive(Drop)]
+#[derive(Clone, Copy)]
 pub struct Bounds {
     pub start: usize,
     pub end: usize,

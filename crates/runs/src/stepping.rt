@@ -17,7 +17,7 @@ use state::elements::Element;
 use stretch::characters::settled;
 
 // A place of a string and the state there, and whether the whole string is known to be accepted.
-#[derive(Drop)]
+#[derive(Clone, Copy)]
 pub struct RunPosition {
     pub place: usize,
     pub state: State,
@@ -25,7 +25,7 @@ pub struct RunPosition {
 }
 
 // The run, or the answer where none is shown, and the position after it.
-#[derive(Drop)]
+#[derive(Clone, Copy)]
 pub struct RunStep {
     pub position: RunPosition,
     pub run: Bounds,

@@ -1,4 +1,6 @@
 // Extended segments. `t` is the octets from the start of an element on, so that a place in it is what a refusal tells.
+#![tactic(auto)]
+
 ghost use Rattle.std.specs.Prelude.{◌≡◌, ◌≤◌, ◌<◌, length};
 ghost use Rattle.base.specs.Choice.{from};
 ghost use Rattle.segment.specs.declared.Name.TheVariants.{Ends};
@@ -9,7 +11,7 @@ use state::directions::counts_as_text;
 use state::elements::{Part, Shape};
 
 // Where a name ends.
-#[derive(Drop)]
+#[derive(Clone, Copy)]
 pub enum Name {
     // before the 02 at this place
     Ends(usize),

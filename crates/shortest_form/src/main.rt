@@ -1,13 +1,15 @@
 // The program: reads a string from standard input and writes its shortest form, nothing added; or `refused N at P` and a newline. What it
 // writes for an input is `program::print`'s. Where a read fails it writes nothing there, and where a read or a write fails a line to
 // standard error.
+#![tactic(auto)]
+
 ghost use Rattle.std.specs.Prelude.{◌≤◌, ◌≡◌, length};
 ghost use Rattle.io.specs.Counts.{IsPrefixLen};
 
 use libc::{STDERR_FILENO, STDIN_FILENO, STDOUT_FILENO};
 
 // The octets that were read, and whether a read failed.
-#[derive(Drop)]
+#[derive(Clone, Copy)]
 struct Input {
     octets: usize,
     failed: bool,

@@ -1,5 +1,7 @@
 // Shows the units of the checked strings (rule P1): what `read` answers for a list of eight records, the records of that list, and what a reader
 // hands out, step by step.
+#![tactic(auto)]
+
 use base::{Answer, Unit};
 use reader::Item;
 use state::directions::Directions;

@@ -1,4 +1,6 @@
 // Units of one form, one after another in an accepted string, found by their octets alone.
+#![tactic(auto)]
+
 ghost use Rattle.std.specs.Prelude.{◌≡◌};
 ghost use Rattle.state.specs.State.{sets};
 ghost use Rattle.spans.specs.Spans.{single_under, left_first, has_two, form_at, lesser_of, any_of, of_form, span_of};
@@ -18,7 +20,7 @@ pub const RIGHT_TWOS: u8 = 3;
 
 // The units of a form that start at a cursor, so many at most, which leave its state as it is. Of any one unit the unit is given, and the cursor
 // is the one after it.
-#[derive(Drop)]
+#[derive(Clone, Copy)]
 pub struct Span {
     pub cursor: Cursor,
     pub most: usize,

@@ -6,7 +6,7 @@ use base::{direction, kind, limit, refusal};
 
 // The open directions, one binary digit for each, the last opened lowest and 1 for right-to-left; how many are open; whether a
 // direction mark was read, and whether text was.
-#[derive(Drop)]
+#[derive(Clone, Copy)]
 pub struct Directions {
     pub levels: u64,
     pub depth: u8,
@@ -15,7 +15,7 @@ pub struct Directions {
 }
 
 // What a unit does to the directions, or the number of its refusal.
-#[derive(Drop)]
+#[derive(Clone, Copy)]
 pub enum Step {
     Goes(Directions),
     Stops(u8),

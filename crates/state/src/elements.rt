@@ -8,7 +8,7 @@ use charset::Side;
 
 // A unit as it stands in its element: how many octets of the element stand before the unit's own, and how many are its own; its
 // code, kind and set; and whether the direction rule counts it as text.
-#[derive(Drop)]
+#[derive(Clone, Copy)]
 pub struct Part {
     pub skip: usize,
     pub octets: usize,
@@ -19,7 +19,7 @@ pub struct Part {
 }
 
 // What stands at a place before the direction rule is asked: it neither knows nor changes the directions.
-#[derive(Drop)]
+#[derive(Clone, Copy)]
 pub enum Shape {
     // nothing is left
     Ends,
@@ -31,7 +31,7 @@ pub enum Shape {
     Gives(Part),
 }
 
-#[derive(Drop)]
+#[derive(Clone, Copy)]
 pub enum Element {
     // nothing is left
     End,

@@ -1,4 +1,6 @@
 // The state of a reading, and what an element does to it.
+#![tactic(auto)]
+
 ghost use Rattle.std.specs.Prelude.{◌≡◌};
 ghost use Rattle.state.specs.State.{designated_of, directed_to};
 
@@ -10,13 +12,13 @@ pub mod elements;
 use crate::directions::Directions;
 
 // The sets in force: that in GL, and that in GR.
-#[derive(Drop)]
+#[derive(Clone, Copy)]
 pub struct Sets {
     pub gl: u8,
     pub gr: u8,
 }
 
-#[derive(Drop)]
+#[derive(Clone, Copy)]
 pub struct State {
     pub directions: Directions,
     pub sets: Sets,

@@ -195,7 +195,7 @@ pub fn settled(d: Directions) -> bool
 }
 
 // A stretch: its octets, and the units in it.
-#[derive(Drop)]
+#[derive(Clone, Copy)]
 pub struct Stretch {
     pub octets: usize,
     pub units: usize,

@@ -1,4 +1,6 @@
 // A table of 80 costs, octet by octet: five rows, for GL's places, by 16 columns, for GR's; and what a row of the work room keeps of it.
+#![tactic(auto)]
+
 ghost use Rattle.std.specs.Prelude.{◌≡◌, cond, ◌+◌, ◌-◌, ◌*◌, ◌%◌, ◌≤◌, ◌<◌, min, eqb, length, get_or};
 ghost use Rattle.table.specs.Table.{FilledTo, PlacesFilled, Charges, ColumnRead, RowRead, Kept};
 ghost use Rattle.numbers.specs.Size as sizes;

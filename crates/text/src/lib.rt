@@ -1,4 +1,6 @@
 // Characters and spaces.
+#![tactic(auto)]
+
 ghost use Rattle.std.specs.Prelude.{◌≡◌};
 ghost use Rattle.base.specs.Choice.{from};
 ghost use Rattle.text.specs.Text.{graphic_of, one_octet_of, two_octets_of, space_of, second_octet_of};

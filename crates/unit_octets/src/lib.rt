@@ -1,4 +1,6 @@
 // The octets of characters, designations, segments and marks, by values; and those of all but characters, stored where they have room.
+#![tactic(auto)]
+
 ghost use Rattle.std.specs.Prelude.{◌≡◌, false, ◌+◌, ◌-◌, ◌%◌, ◌≤◌, eqb, ltb, length, take, drop};
 ghost use Rattle.base.specs.Choice.{pick};
 ghost use Rattle.state.specs.State.{on};

@@ -1,4 +1,6 @@
 // The next unit of a string, from a place and a state on: elements that give no unit are passed.
+#![tactic(auto)]
+
 ghost use Rattle.std.specs.Prelude.{◌≡◌, ◌+◌, ◌≤◌};
 ghost use Rattle.units.specs.Records.{record_of};
 ghost use Rattle.units.specs.Next.{next_of};
@@ -8,7 +10,7 @@ use state::State;
 use state::directions::Directions;
 use state::elements::{Element, Part};
 
-#[derive(Drop)]
+#[derive(Clone, Copy)]
 pub enum Outcome {
     // a unit, and the place and the state after it
     Gives(Unit, usize, State),

@@ -1,1 +1,2 @@
 // No code: the rules that proofs by hand share are in proofs/.
+#![tactic(auto)]

@@ -1,4 +1,6 @@
 // The writer: from a list of unit records to the shortest string that reads as it.
+#![tactic(auto)]
+
 ghost use Rattle.std.specs.Prelude.{◌≡◌, ◌≤◌, length};
 ghost use Rattle.shortest.specs.Records.{writer_answer, writer_output};
 ghost use Rattle.shortest.specs.Demand3.{Demand3For};
