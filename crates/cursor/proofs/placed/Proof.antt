@@ -1,5 +1,5 @@
 -- `cursor::placed` meets its contract: a designation that was found stands within the string.
-use Rattle.element.proofs.Names.{arith, now, ladder, on_lt}
+use Rattle.element.proofs.Names.{arith, ladder, on_lt}
 use Rattle.cursor.specs.Cursor.{placed_of}
 use Rattle.cursor.proofs.Fits.{placed_fits}
 use Rattle.cursor.proofs.placed.Statement.{statement}
@@ -8,7 +8,7 @@ use Rattle.cursor.proofs.placed.Tie as tie
 add_place : tie.Need-overflow-add-place
 add_place c =
     let start = c.before.before.before.before.before.before in
-    let h = placed_fits (now start.args.s) start.args.c.place start.args.d start.requires c.before.before.before.before.if1.true in
+    let h = placed_fits start.args.s.now start.args.c.place start.args.d start.requires c.before.before.before.before.if1.true in
     omega (arith, h)
 
 returns : tie.Need-returns

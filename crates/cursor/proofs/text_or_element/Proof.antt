@@ -1,5 +1,5 @@
 -- `cursor::text_or_element` meets its contract, test by test: each return is a law on plain values, of the string and the cursor.
-use Rattle.element.proofs.Names.{ℕ, ◌+◌, ◌<◌, ◌≤◌, arith, ◌≡◌, true, false, List, length, get_or, from, now, on_false, on_lt, on_ge, sym, ◌∙◌}
+use Rattle.element.proofs.Names.{ℕ, ◌+◌, ◌<◌, ◌≤◌, arith, ◌≡◌, true, false, List, length, get_or, from, on_false, on_lt, on_ge, sym, ◌∙◌}
 use Rattle.state.specs.State.{sets}
 use Rattle.charset.specs.Charsets.{first_double}
 use Rattle.cursor.specs.Cursor.{state_in, marked_turn, text_octet, set_at, single, double_of, octet_of, quick_of, text_turn}
@@ -40,27 +40,27 @@ module _ (s : List ℕ) (c : Cursor) (r : Turn) where
 returns : tie.Need-returns
 returns c =
     let args = c.before.before.before.args in
-    over (now args.s) args.c _ c.before.if1.true c.marked.ensures
+    over args.s.now args.c _ c.before.if1.true c.marked.ensures
 
 returns-2 : tie.Need-returns-2
 returns-2 c =
     let read = c.before.before.before in
     let args = read.before.before.before.before.before.args in
-    one (now args.s) args.c _ read.before.before.before.if1.false _ (sym read.before.text-octet.ensures ∙ read.if2.true)
+    one args.s.now args.c _ read.before.before.before.if1.false _ (sym read.before.text-octet.ensures ∙ read.if2.true)
     c.before.before.set_at.ensures c.before.if3.true c.single-turn.ensures
 
 returns_3 : tie.Need-returns-3
 returns_3 c =
     let read = c.before.before.before in
     let args = read.before.before.before.before.before.args in
-    two (now args.s) args.c _ read.before.before.before.if1.false _ (sym read.before.text-octet.ensures ∙ read.if2.true)
+    two args.s.now args.c _ read.before.before.before.if1.false _ (sym read.before.text-octet.ensures ∙ read.if2.true)
     c.before.before.set_at.ensures c.before.if3.false c.or-two.ensures
 
 returns_4 : tie.Need-returns-4
 returns_4 c =
     let read = c.before.before in
     let args = read.before.before.before.before.before.args in
-    other (now args.s) args.c _ read.before.before.before.if1.false (sym read.before.text-octet.ensures ∙ read.if2.false)
+    other args.s.now args.c _ read.before.before.before.if1.false (sym read.before.text-octet.ensures ∙ read.if2.false)
     c.marked2.ensures
 
 returns_5 : tie.Need-returns-5
@@ -68,8 +68,8 @@ returns_5 c =
     let read = c.before.before in
     let inside = read.before.before.before.if1.false in
     let args = read.before.before.before.before.before.args in
-    other (now args.s) args.c _ inside (sym read.before.text-octet.ensures ∙ read.if2.false)
-    (on_unmarked (now args.s) args.c _ inside c.before.if4.false c.by_element.ensures)
+    other args.s.now args.c _ inside (sym read.before.text-octet.ensures ∙ read.if2.false)
+    (on_unmarked args.s.now args.c _ inside c.before.if4.false c.by_element.ensures)
 
 pub text_or_element_spec : {M : Type 1} → statement M
 text_or_element_spec =

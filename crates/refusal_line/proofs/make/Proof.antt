@@ -1,5 +1,5 @@
 -- `refusal_line::make` meets its contract: each part of the line stands before what stands after it (`line_of`).
-use Rattle.element.proofs.Names.{arith, now}
+use Rattle.element.proofs.Names.{arith}
 use lib.ListN.{drop_of_length-le}
 use Rattle.refusal_line.proofs.Texts.{line_of}
 use Rattle.refusal_line.proofs.make.Statement.{statement}
@@ -13,7 +13,7 @@ returns c =
     let place = put2.before.before.before.before.before in
     let put1 = place.before.before.before.before in
     let start = put1.before.before.before.before in
-    let ends = drop_of_length-le (now start.args.buffer) {i = 64} (omega (arith, start.requires)) in (
+    let ends = drop_of_length-le start.args.buffer.now {i = 64} (omega (arith, start.requires)) in (
       omega (arith, put3.put3.ensures.0),
       line_of _ _ _ _ _ _ _ _ ends put1.put.ensures.1 place.put-decimal.ensures.1 put2.put2.ensures.1
           number.put-decimal2.ensures.1 put3.put3.ensures.1,
