@@ -159,7 +159,7 @@ module _ (seen : Bool) (d e : Directions) (b : Behind seen d e) where
   unfolding written_of pick
   text_now =
       test e.marked
-      (λ m. test (eqb e.depth 0) (λ z. rw (m, z) refl.now) (λ z. rw (m, z) (go (after true (b.marked ∙ m)))))
+      (λ m. test (eqb e.depth 0) (λ z. rw (m, z) (now refl)) (λ z. rw (m, z) (go (after true (b.marked ∙ m)))))
       (λ m. rw m (go (after false (b.marked ∙ m))))
     where
       after : (m : Bool) → d.marked ≡ m → Behind true d (directions e.depth e.levels m true)
@@ -232,7 +232,7 @@ module _ (b : ℕ) (t : List ℕ) (at : ℕ) (s : Sets) (d e : Directions) (seen
   unit p h (go {d = f} {e = g} r) =
       found (b ∷ t) at (state s f) (state s g) p (rw (← (drop_first (size p) b t h)) (rest (size p - 1) s f g _ l r))
   unit p h stop = alike (λ c. refl) refl
-  unit p h q.now = refused_now (at + 0) (λ c. refl) (unit_at p (b ∷ t)) _ refl (or_more (with_text (unit_at p (b ∷ t))) false seen q)
+  unit p h (now q) = refused_now (at + 0) (λ c. refl) (unit_at p (b ∷ t)) _ refl (or_more (with_text (unit_at p (b ∷ t))) false seen q)
 
   -- an element, by its shape
   shape : {x : Shape} → Behind seen d e → Sound s (b ∷ t) x
@@ -296,7 +296,7 @@ module _ (s : List ℕ) (o : Octets s) where
       by (refused_now q f u us g h) =
           off (sym (rw g at none) ∙ any_more (units_of s (elements_of s)) u us (or_first (any_text (units_of s (elements_of s) ++ u ∷ [])) h))
 
-  -- a string is read as before, or refused 8 at.now a unit that was read before; one over the limit is refused by its length, before and now
+  -- a string is read as before, or refused 8 now at a unit that was read before; one over the limit is refused by its length, before and now
   pub changed : length s ≤ limit.octets → ReadBefore s ⊎ RefusedNow s
   unfolding check_of reading_of reading_before pick
   changed short = by from_fresh
