@@ -1,6 +1,6 @@
 -- `refusal_line::put` meets its contract. The invariant is `Put`, and each turn is `put_next`.
 use Rattle.element.proofs.Names.{arith, ◌≡◌}
-use Rattle.refusal_line.proofs.Texts.{Put, put_none, put_next}
+use Rattle.refusal_line.proofs.Texts.{put_none, put_next}
 use Rattle.refusal_line.proofs.put.Goals as goal
 
 pub loop-i-init : goal.loop-i-init

@@ -1,6 +1,5 @@
 -- `refusal_line::put` meets its contract. The invariant is `Put`, and each turn is `put_next`.
-use Rattle.element.proofs.Names.{arith, ◌≡◌}
-use Rattle.refusal_line.proofs.Texts.{Put, put_none, put_next}
+use Rattle.refusal_line.proofs.Texts.{Put}
 use Rattle.refusal_line.proofs.put.Given as goal
 
 abbrev pub invariant-loop-i : goal.invariant-loop-i

@@ -1,6 +1,5 @@
 -- `refusal_line::put_decimal` meets its contract. The invariant is `Counted`, and each turn is `counted_next`.
-use Rattle.element.proofs.Names.{arith}
-use Rattle.refusal_line.proofs.Texts.{Counted, counted_none, digit_room, counted_next, counted_length, counted_last}
+use Rattle.refusal_line.proofs.Texts.{Counted}
 use Rattle.refusal_line.proofs.put_decimal.Given as goal
 
 abbrev pub invariant-loop-rest : goal.invariant-loop-rest

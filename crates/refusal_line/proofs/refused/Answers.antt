@@ -8,8 +8,8 @@ pub returns-then-n-out : goal.returns-then-n-out
 returns-then-n-out c = let put = c.put in
     let make = c.make-start in
     let args = c.args in (
-      line_length _ make.new.1.1.0 make.result make.ensures.1 make.ensures.2,
-      stored_line _ make.new.1.1.0 args.out.now put.new.1.0 make.result put.result make.ensures.1 make.ensures.2
+      line_length _ make.new.buffer make.result make.ensures.1 make.ensures.2,
+      stored_line _ make.new.buffer args.out.now put.new.buffer make.result put.result make.ensures.1 make.ensures.2
           (omega arith) put.ensures.0 put.ensures.1,
       omega arith,
     )
@@ -17,5 +17,5 @@ returns-then-n-out c = let put = c.put in
 pub returns-else-n-out : goal.returns-else-n-out
 returns-else-n-out c = let make = c.make-start in
     let args = c.args in
-    let n = line_length _ make.new.1.1.0 make.result make.ensures.1 make.ensures.2 in
+    let n = line_length _ make.new.buffer make.result make.ensures.1 make.ensures.2 in
     (n, stored_not _ args.out.now args.out.now (rw n at c.if-n-out.false) refl, omega arith)
