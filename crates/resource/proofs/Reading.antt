@@ -43,9 +43,9 @@ module _ (s : List ℕ) where
     pub less : count ≤ at
     pub is : plus count (scan_of (read_from (from at s) 0 at)) ≡ scan_of (form_reading s)
 
-  pub looked_first_lem : Looked 0 0
+  pub looked_first : Looked 0 0
   unfolding from
-  looked_first_lem = record { few = omega arith; less = omega arith; is = plus_none (scan_of (form_reading s)) }
+  looked_first = record { few = omega arith; less = omega arith; is = plus_none (scan_of (form_reading s)) }
 
   -- what stands first has one octet at least, and lies within the form
   pub first_within : (at b k : ℕ) (x : First) → at < length s → x ≡ form_first (from at s) → x ≡ Stands b k → (1 ≤ k) × (at + k ≤ length s)
