@@ -42,7 +42,7 @@ pairs_to-requires-then-end-i c = omega (arith, c.loop-i.invariant.0.since)
 
 pub returns-then-end-i : goal.returns-then-end-i
 returns-then-end-i c = doubles_pass c.requires.3
-    (eight _ _ _ _ c.loop-i.invariant.0 (led _ _ _ (λ k. omega (arith, c.type_inv.s k)) c.loop-i.invariant.0.within c.leading-n.ensures) c.if-n-lt8.false) c.pairs_to-then-end-i.ensures.0
+    (eight _ _ _ _ c.loop-i.invariant.0 (led _ _ _ (λ k. omega (arith, c.type_inv.s k)) c.loop-i.invariant.0.within c.leading-n.ensures) (omega arith)) c.pairs_to-then-end-i.ensures.0
     c.pairs_to-then-end-i.ensures.1
 
 pub loop-i-smaller : goal.loop-i-smaller
@@ -50,7 +50,7 @@ loop-i-smaller c = omega (arith, c.loop-i-test.true)
 
 pub loop-i-preserved : goal.loop-i-preserved
 loop-i-preserved c = let inv = c.loop-i.invariant in
-    (eight _ _ _ _ inv.0 (led _ _ _ (λ k. omega (arith, c.type_inv.s k)) c.loop-i.invariant.0.within c.leading-n.ensures) c.if-n-lt8.false, c.if-end-i.false, omega (arith, inv.0.since, inv.2))
+    (eight _ _ _ _ inv.0 (led _ _ _ (λ k. omega (arith, c.type_inv.s k)) c.loop-i.invariant.0.within c.leading-n.ensures) (omega arith), c.if-end-i.false, omega (arith, inv.0.since, inv.2))
 
 pub pairs_to-a-requires : goal.pairs_to-a-requires
 pairs_to-a-requires c = c.loop-i.invariant.0.since
