@@ -34,7 +34,7 @@ use mir.Val.{WT, has_ty}
 use base.Logic.{comm∗, assoc∗, assoc', mono∗, mono_l, mono_r, emp∗, ex_i}
 use base.Fml.{fdead}
 use contract.Monad.{top}
-use types.Kit.{Post, lands, Seq, regoal, updating, mean, nth, del, push, pop, unpull, aim, use0, as.now at_once}
+use types.Kit.{Post, lands, Seq, regoal, updating, mean, nth, del, push, pop, unpull, aim, use0, now as at_once}
 use types.Run.{Opds}
 use denote.Laws.{Tells, Typed, Lawful}
 use denote.Signature.{type_at, types_at, Signature}

@@ -16,7 +16,7 @@ use base.Fml.{fdead, fres, Incl}
 use ghost.Rules.{Toks, span}
 use types.Logic.{Logic, sem, lfts}
 use contract.BorrowLft.{meet_⊑_left}
-use types.Kit.{mean, Post, Seq, lands, regoal, fpick, fpack, updating, as.now at_once}
+use types.Kit.{mean, Post, Seq, lands, regoal, fpick, fpack, updating, now as at_once}
 use types.Run.{Opds}
 use types.Share.{arr_parts}
 use types.Tokens.{lent_back}

@@ -35,7 +35,8 @@ pub use denote.Laws.{Is, shows}
 pub use denote.Plain.{uint_Makes, uint_Tells}
 pub use denote.Builtin.{u8, usize}
 pub use denote.Ref.{Bor, MutBor, NamedLft, MutRef, shr_vals, mut_vals, mut_Tells, mut_Lawful}
-pub use denote.Slice.{slice_val, ShrSlice, MutSlice, Room, finally, heres, coded_holeys, shr_slice_at, mut_slice_at, shr_slice_vals, mut_slice_vals, shr_slice_Tells}
+pub use denote.Slice.{slice_val, ShrSlice, MutSlice, Room, finally, heres, coded_holeys, shr_slice_at, mut_slice_at, shr_slice_vals, mut_slice_vals}
+pub use denote.Slice.{shr_slice_Tells}
 pub use denote.Slice.{shr_slice_Lawful, shr_slice_copy}
 pub use denote.Lend.{Held, lends_slice, slice_back}
 pub use denote.Index.{row, place_is, elem_out, elem_back, elem_put, opens_slice, closes_slice, looks_slice, shuts_slice}

@@ -6,8 +6,7 @@ use Rattle.cursor.specs.Cursor.{state_in, marked_turn, text_octet, set_at, singl
 use Rattle.cursor.specs.declared.Cursor.{Cursor}
 use Rattle.cursor.specs.declared.Turn.{Turn}
 use Rattle.cursor.proofs.Rules.{on_quick, on_quick_end, on_text, on_unmarked}
-use Rattle.cursor.proofs.text_or_element.Statement.{statement}
-use Rattle.cursor.proofs.text_or_element.Tie as tie
+use Rattle.cursor.proofs.text_or_element.Goals as goal
 
 module _ (s : List ℕ) (c : Cursor) (r : Turn) where
   over : length s ≤ c.place → r ≡ marked_turn s c → r ≡ text_turn s c
@@ -37,54 +36,27 @@ module _ (s : List ℕ) (c : Cursor) (r : Turn) where
     unfolding quick_of text_turn
     other h e = on_quick s c.place (state_in c) (marked_turn s c) r inside (on_false _ _ _ _ h e)
 
-returns : tie.Need-returns
-returns c =
-    let args = c.before.before.before.args in
-    over args.s.now args.c _ c.before.if1.true c.marked.ensures
+pub returns-then-s-at : goal.returns-then-s-at
+returns-then-s-at c = let args = c.args in
+    over args.s.now args.c _ c.if-s-at.true c.marked.ensures
 
-returns-2 : tie.Need-returns-2
-returns-2 c =
-    let read = c.before.before.before in
-    let args = read.before.before.before.before.before.args in
-    one args.s.now args.c _ read.before.before.before.if1.false _ (sym read.before.text-octet.ensures ∙ read.if2.true)
-    c.before.before.set_at.ensures c.before.if3.true c.single-turn.ensures
+pub returns-then-set-lt-FIRST_DOUBLE : goal.returns-then-set-lt-FIRST_DOUBLE
+returns-then-set-lt-FIRST_DOUBLE c = let args = c.args in
+    one args.s.now args.c _ c.if-s-at.false _ (sym c.text_octet.ensures ∙ c.if-text_octet.true)
+    c.set_at-set.ensures c.if-set-lt-FIRST_DOUBLE.true c.single_turn.ensures
 
-returns_3 : tie.Need-returns-3
-returns_3 c =
-    let read = c.before.before.before in
-    let args = read.before.before.before.before.before.args in
-    two args.s.now args.c _ read.before.before.before.if1.false _ (sym read.before.text-octet.ensures ∙ read.if2.true)
-    c.before.before.set_at.ensures c.before.if3.false c.or-two.ensures
+pub returns-then-text_octet : goal.returns-then-text_octet
+returns-then-text_octet c = let args = c.args in
+    two args.s.now args.c _ c.if-s-at.false _ (sym c.text_octet.ensures ∙ c.if-text_octet.true)
+    c.set_at-set.ensures c.if-set-lt-FIRST_DOUBLE.false c.or_two.ensures
 
-returns_4 : tie.Need-returns-4
-returns_4 c =
-    let read = c.before.before in
-    let args = read.before.before.before.before.before.args in
-    other args.s.now args.c _ read.before.before.before.if1.false (sym read.before.text-octet.ensures ∙ read.if2.false)
-    c.marked2.ensures
+pub returns-then-b : goal.returns-then-b
+returns-then-b c = let args = c.args in
+    other args.s.now args.c _ c.if-s-at.false (sym c.text_octet.ensures ∙ c.if-text_octet.false)
+    c.marked-then-b.ensures
 
-returns_5 : tie.Need-returns-5
-returns_5 c =
-    let read = c.before.before in
-    let inside = read.before.before.before.if1.false in
-    let args = read.before.before.before.before.before.args in
-    other args.s.now args.c _ inside (sym read.before.text-octet.ensures ∙ read.if2.false)
-    (on_unmarked args.s.now args.c _ inside c.before.if4.false c.by_element.ensures)
-
-pub text_or_element_spec : {M : Type 1} → statement M
-text_or_element_spec =
-    tie.close
-    (tie.spec
-    (search arith)
-    returns
-    (search arith)
-    (search arith)
-    (search arith)
-    (search arith)
-    returns-2
-    (search arith)
-    returns_3
-    (search arith)
-    returns_4
-    (search arith)
-    returns_5)
+pub returns : goal.returns
+returns c = let inside = c.if-s-at.false in
+    let args = c.args in
+    other args.s.now args.c _ inside (sym c.text_octet.ensures ∙ c.if-text_octet.false)
+    (on_unmarked args.s.now args.c _ inside c.if-b.false c.by_element.ensures)
