@@ -1,5 +1,5 @@
 -- `cursor::advance` meets its contract. Assumes nothing.
-use Rattle.element.proofs.Names.{arith, ap, ◌∙◌}
+use Rattle.element.proofs.Names.{ap, ◌∙◌}
 use Rattle.cursor.specs.Cursor.{text_turn, passed_of, advance_at}
 use Rattle.cursor.proofs.Rules.{reading}
 use Rattle.cursor.proofs.advance.Goals as goal
