@@ -1,5 +1,5 @@
 -- `record_rules::own::character` meets its contract.
-use Rattle.element.proofs.Names.{arith, sym, ap, ◌∙◌, ℕ, Bool, step_of}
+use Rattle.element.proofs.Names.{sym, ap, ◌∙◌, ℕ, Bool, step_of}
 use Rattle.record_rules.proofs.Refusals.{set_none, code_unused, code_fits}
 use Rattle.base.specs.Kind as kind
 use Rattle.grammar.specs.Units.{code_used}

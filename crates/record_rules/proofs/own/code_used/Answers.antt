@@ -1,5 +1,5 @@
 -- `record_rules::own::code_used` meets its contract, form by form.
-use Rattle.element.proofs.Names.{arith, sym, ◌∙◌, eq-eqb, ne_eqb}
+use Rattle.element.proofs.Names.{sym, ◌∙◌, eq-eqb, ne_eqb}
 use Rattle.base.proofs.Bools.{to-tests}
 use Rattle.grammar.specs.Units.{code_used}
 use Rattle.record_rules.proofs.own.code_used.Goals as goal

@@ -1,5 +1,5 @@
 -- `record_rules::own::segment` meets its contract, refusal by refusal.
-use Rattle.element.proofs.Names.{arith, sym, ◌∙◌, ⊎_elim}
+use Rattle.element.proofs.Names.{arith, sym, ◌∙◌}
 use Rattle.segment.proofs.Steps.{ends_within}
 use Rattle.record_rules.proofs.Refusals.{part_outside, part_low, part_high, part_many, part_found, part_ragged, part_bad}
 use Rattle.record_rules.proofs.own.segment.Goals as goal
@@ -23,7 +23,7 @@ pub returns-in_default : goal.returns-in_default
 returns-in_default c = part_bad c.args.segments.now _ _ _ _ c.if-m-start.false
     c.if-m-start-2.false c.if-d-lt48.false c.if-d-gt52.false c.if-n-gt16383.false
     _ c.name_end-name.ensures
-    (λ k q. ⊎_elim (λ z. omega (arith, z)) (λ z. omega (arith, z)) (rw q at c.in-Ends.in-Ends-own.keys2))
+    c.in_default.not-Ends
 
 pub overflow_sub-size : goal.overflow_sub-size
 overflow_sub-size c = let h = ends_within c.args.segments.now _ _ _ c.if-m-start-2.false

@@ -1,5 +1,5 @@
 -- `record_rules::plain::plain` meets its contract.
-use Rattle.element.proofs.Names.{arith, ladder}
+use Rattle.element.proofs.Names.{ladder}
 use Rattle.record_rules.specs.Plain.{plain_of}
 use Rattle.record_rules.proofs.plain.plain.Goals as goal
 
