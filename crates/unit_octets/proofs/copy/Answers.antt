@@ -1,5 +1,5 @@
 -- `unit_octets::copy` meets its contract. The invariant: the first k octets are stored.
-use Rattle.element.proofs.Names.{arith, ◌≡◌, refl, ◌-◌, ◌≤◌, length, take, drop, length-set, sets}
+use Rattle.element.proofs.Names.{arith, refl, length-set}
 use Rattle.unit_octets.proofs.Storing.{copy_more, copy_done}
 use Rattle.unit_octets.proofs.copy.Goals as goal
 

@@ -1,6 +1,5 @@
 -- `unit_octets::copy` meets its contract. The invariant: the first k octets are stored.
-use Rattle.element.proofs.Names.{arith, ◌≡◌, refl, ◌-◌, ◌≤◌, length, take, drop, length-set, sets}
-use Rattle.unit_octets.proofs.Storing.{copy_more, copy_done}
+use Rattle.element.proofs.Names.{◌≡◌, ◌-◌, ◌≤◌, length, take, drop, sets}
 use Rattle.unit_octets.proofs.copy.Given as goal
 
 abbrev pub invariant-loop-k : goal.invariant-loop-k

@@ -1,5 +1,4 @@
 -- `unit_octets::put_designation` meets its contract, for sets of one octet and of two.
-use Rattle.element.proofs.Names.{arith}
 use Rattle.unit_octets.proofs.Storing.{stored_as, designation_one, designation_two}
 use Rattle.unit_octets.proofs.put_designation.Goals as goal
 

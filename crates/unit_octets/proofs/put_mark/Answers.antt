@@ -1,5 +1,5 @@
 -- `unit_octets::put_mark` meets its contract, tag by tag.
-use Rattle.element.proofs.Names.{arith, ladder}
+use Rattle.element.proofs.Names.{ladder}
 use Rattle.grammar.specs.Units.{tab, newline, ltr, rtl, revert, octets}
 use Rattle.rows.specs.Rows.{mark_tagged}
 use Rattle.unit_octets.proofs.Storing.{mark_stored}

@@ -1,7 +1,8 @@
 -- `unit_octets::put_other` meets its contract, by the tag.
-use Rattle.element.proofs.Names.{arith, ⊎_elim}
+use Rattle.element.proofs.Names.{arith}
 use Rattle.unit_octets.proofs.Storing.{stored_as, other_segment_octets, other_mark_octets}
 use Rattle.unit_octets.proofs.put_other.Goals as goal
+use Rattle.unit_octets.proofs.put_other.Goals.{then-tag-ge-SEGMENT+else-tag-lt-SPARE, else-tag-ge-SEGMENT}
 
 pub put_segment-requires : goal.put_segment-requires
 put_segment-requires c = c.count_at-n.ensures.1
@@ -18,5 +19,5 @@ pub returns : goal.returns
 returns c = let args = c.args in
     stored_as
     (other_mark_octets args.segments.now args.work.now args.row _
-    (λ a d. ⊎_elim (λ z. omega (arith, z.1.left)) (λ z. omega (arith, z.left)) c.if-tag-ge-SEGMENT.branch))
+    (λ a d. elim c.if-tag-ge-SEGMENT.branch [ then-tag-ge-SEGMENT+else-tag-lt-SPARE w ↦ omega arith | else-tag-ge-SEGMENT w ↦ omega arith ]))
     c.put_mark.ensures

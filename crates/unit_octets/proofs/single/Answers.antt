@@ -1,5 +1,5 @@
 -- `unit_octets::single` meets its contract.
-use Rattle.element.proofs.Names.{arith, ladder}
+use Rattle.element.proofs.Names.{ladder}
 use Rattle.unit_octets.proofs.single.Goals as goal
 
 pub returns-then-tag-eq-SPACE : goal.returns-then-tag-eq-SPACE
