@@ -1,0 +1,6 @@
+-- `archive::turns::RowCursor::moved` meets its contract, by what it calls.
+use Rattle.element.proofs.Names.{arith}
+use Rattle.archive.proofs.turns.RowCursor.moved.Goals as goal
+
+pub returns : goal.returns
+returns c = rw c.placed_at.ensures
