@@ -1,5 +1,5 @@
 -- `archive::answer` meets its contract. Assumes nothing.
-use Rattle.element.proofs.Names.{arith, ladder}
+use Rattle.element.proofs.Names.{ladder}
 use Rattle.read.specs.Listing.{read_answer}
 use Rattle.archive.proofs.answer.Goals as goal
 

@@ -1,7 +1,6 @@
 -- `archive::quick::quick` meets its contract: in each turn a stretch (`after_stretch`) and a designation (`after_told`) lead on, under the sets that
 -- they leave, and the two parts of the row are those of the sets.
-use Rattle.element.proofs.Names.{ℕ, ◌+◌, ◌-◌, ◌<◌, ◌≤◌, arith, ◌≡◌, refl, ap, sym, ◌∙◌, List, form_of, GL, GR, on, put}
-use Rattle.designations.specs.Designation.{form_after, designation_at}
+use Rattle.element.proofs.Names.{ℕ, ◌+◌, ◌≤◌, arith, ◌≡◌, refl, ap, sym, ◌∙◌, List, form_of, GL, GR, put}
 use Rattle.state.specs.State.{sets}
 use Rattle.octet_stretches.specs.Stretched.{Stretched}
 use Rattle.octet_stretches.proofs.Laws.{fits}
@@ -29,10 +28,10 @@ after_stretch inv u =
 pub loop-i-init : goal.loop-i-init
 unfolding put
 loop-i-init c = (
-      reaches_none _ _ _ _ c.requires.1,
-      c.left_of-high.ensures ∙ ap left_of c.form_of.ensures,
-      c.right_of-low.ensures ∙ ap right_of c.form_of-2.ensures,
-    )
+  reaches_none _ _ _ _ c.requires.1,
+  c.left_of-high.ensures ∙ ap left_of c.form_of.ensures,
+  c.right_of-low.ensures ∙ ap right_of c.form_of-2.ensures,
+)
 
 pub overflow_add-high : goal.overflow_add-high
 unfolding put

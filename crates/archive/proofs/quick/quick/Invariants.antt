@@ -1,13 +1,9 @@
 -- `archive::quick::quick` meets its contract: in each turn a stretch (`after_stretch`) and a designation (`after_told`) lead on, under the sets that
 -- they leave, and the two parts of the row are those of the sets.
-use Rattle.element.proofs.Names.{ℕ, ◌+◌, ◌-◌, ◌<◌, ◌≤◌, arith, ◌≡◌, refl, ap, sym, ◌∙◌, length, get_or, from, form_of, no_set, Side, GL, GR, on, put}
-use Rattle.designations.specs.Designation.{form_after, designation_at}
+use Rattle.element.proofs.Names.{◌-◌, ◌≡◌, length, form_of}
 use Rattle.state.specs.State.{sets}
-use Rattle.octet_stretches.proofs.Laws.{fits}
-use Rattle.octet_table.specs.Table.{left_of, right_of, row_of}
-use Rattle.octet_table.proofs.Rule.{left_most, right_most}
+use Rattle.octet_table.specs.Table.{left_of, right_of}
 use Rattle.archive_laws.specs.Passes.{Reaches}
-use Rattle.archive_laws.proofs.Passes.{designation_some, told_at, reaches_none, reaches_units, reaches_told}
 use Rattle.archive.proofs.quick.quick.Given as goal
 
 abbrev pub invariant-loop-i : goal.invariant-loop-i

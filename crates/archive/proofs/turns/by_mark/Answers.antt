@@ -1,5 +1,5 @@
 -- `archive::turns::by_mark` meets its contract: a unit is next, so a mark that is read by its second octet is that of the elements.
-use Rattle.element.proofs.Names.{arith, ◌∙◌}
+use Rattle.element.proofs.Names.{◌∙◌}
 use Rattle.archive.proofs.Ready.{mark_turn_lem}
 use Rattle.archive.proofs.turns.by_mark.Goals as goal
 

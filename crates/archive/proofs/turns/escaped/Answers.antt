@@ -1,5 +1,5 @@
 -- `archive::turns::escaped` meets its contract: a designation that is passed changes nothing of what is next.
-use Rattle.element.proofs.Names.{arith, ◌∙◌}
+use Rattle.element.proofs.Names.{◌∙◌}
 use Rattle.archive.proofs.Ready.{inside, row_fits, ready_passed, turn_passed}
 use Rattle.archive.proofs.turns.escaped.Goals as goal
 

@@ -1,5 +1,4 @@
 -- `archive::turns::one` meets its contract, by what it calls.
-use Rattle.element.proofs.Names.{arith}
 use Rattle.archive.proofs.turns.one.Goals as goal
 
 pub returns : goal.returns

@@ -1,5 +1,4 @@
 -- `archive::turns::with_row` meets its contract, by the row of the sets.
-use Rattle.element.proofs.Names.{arith}
 use Rattle.archive.proofs.turns.with_row.Goals as goal
 
 pub returns : goal.returns

@@ -1,7 +1,5 @@
 -- `archive::whole::placed` meets its contract: each designation leads on, under the sets that it leaves.
-use Rattle.element.proofs.Names.{◌-◌, arith, refl, length, GL, GR, put}
-use Rattle.state.specs.State.{sets}
-use Rattle.archive_laws.specs.Passes.{Places}
+use Rattle.element.proofs.Names.{arith, refl, GL, GR, put}
 use Rattle.archive_laws.proofs.Passes.{places_none, places_more, designation_some}
 use Rattle.archive.proofs.whole.placed.Goals as goal
 

@@ -1,8 +1,7 @@
 -- `archive::whole::placed` meets its contract: each designation leads on, under the sets that it leaves.
-use Rattle.element.proofs.Names.{◌-◌, arith, refl, length, GL, GR, put}
+use Rattle.element.proofs.Names.{◌-◌, length}
 use Rattle.state.specs.State.{sets}
 use Rattle.archive_laws.specs.Passes.{Places}
-use Rattle.archive_laws.proofs.Passes.{places_none, places_more, designation_some}
 use Rattle.archive.proofs.whole.placed.Given as goal
 
 abbrev pub invariant-loop-i : goal.invariant-loop-i

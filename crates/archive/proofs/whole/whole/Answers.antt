@@ -1,7 +1,7 @@
 -- `archive::whole::whole` meets its contract: at each turn of the loop what is left answers what the whole string does (`Head`). What is passed at
 -- once leads on (`turn_on`), so this holds where the two ways meet, of a mark and of anything else (`ahead`); and the element there is a turn of the
 -- first reader's check.
-use Rattle.element.proofs.Names.{◌-◌, ◌≤◌, arith, ◌∙◌, length, on_lt, on_ge, ⊎_elim}
+use Rattle.element.proofs.Names.{◌≤◌, arith, ◌∙◌, on_lt, on_ge}
 use Rattle.grammar.specs.Reading.{check_of}
 use Rattle.check_string.proofs.Turn.{turn_done, turn_ends, turn_refuses, turn_stops}
 use Rattle.archive_laws.proofs.Turn.{HeadBy, first_by, turn_on, refuses_fits, designates_by, goes_by}
@@ -15,15 +15,15 @@ ahead : (j : Joined-s-at)
 ahead j =
     let inv = j.loop-at.invariant in
     elim j.if-s-at.branch [
-    then-s-at+else-s-at-2+then-began-at+else-not-settled w ↦ (
-      rw (w.at-is, w.count-is, w.st-is) (turn_on _ _ _ _ _ inv _ w.begun-st.ensures _ _ _ w.passed-p.ensures),
-      rw w.at-is (omega (arith, w.passed-p.ensures.since)),
-    )
-    | then-s-at+else-s-at-2+else-began-at w ↦ (
-      rw (w.at-is, w.count-is, w.st-is) (turn_on _ _ _ _ _ inv _ w.begun-st.ensures _ _ _ w.passed-p.ensures),
-      rw w.at-is (omega (arith, w.passed-p.ensures.since)),
-    )
-    | else-s-at w ↦ (rw (w.at-is, w.count-is, w.st-is) inv, rw w.at-is (omega arith))
+      | then-s-at+else-s-at-2+then-began-at+else-not-settled w ↦ (
+        rw (w.at-is, w.count-is, w.st-is) (turn_on _ _ _ _ _ inv _ w.begun-st.ensures _ _ _ w.passed-p.ensures),
+        rw w.at-is (omega (arith, w.passed-p.ensures.since)),
+      )
+      | then-s-at+else-s-at-2+else-began-at w ↦ (
+        rw (w.at-is, w.count-is, w.st-is) (turn_on _ _ _ _ _ inv _ w.begun-st.ensures _ _ _ w.passed-p.ensures),
+        rw w.at-is (omega (arith, w.passed-p.ensures.since)),
+      )
+      | else-s-at w ↦ (rw (w.at-is, w.count-is, w.st-is) inv, rw w.at-is (omega arith))
     ]
 
 pub returns-then-s-gt-OCTETS : goal.returns-then-s-gt-OCTETS

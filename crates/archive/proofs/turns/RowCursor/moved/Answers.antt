@@ -1,5 +1,4 @@
 -- `archive::turns::RowCursor::moved` meets its contract, by what it calls.
-use Rattle.element.proofs.Names.{arith}
 use Rattle.archive.proofs.turns.RowCursor.moved.Goals as goal
 
 pub returns : goal.returns
