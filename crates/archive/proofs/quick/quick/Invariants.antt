@@ -7,7 +7,8 @@ use Rattle.archive_laws.specs.Passes.{Reaches}
 use Rattle.archive.proofs.quick.quick.Given as goal
 
 abbrev pub invariant-loop-i : goal.invariant-loop-i
-invariant-loop-i l = Reaches l.t l.s l.at (sets l.gl l.gr) l.i (sets l.left l.right) l.n × (l.high ≡ left_of (form_of l.left)) × (l.low ≡ right_of (form_of l.right))
+invariant-loop-i l =
+    Reaches l.t l.s l.at (sets l.gl l.gr) l.i (sets l.left l.right) l.n × (l.high ≡ left_of (form_of l.left)) × (l.low ≡ right_of (form_of l.right))
 
 abbrev pub decreases-loop-i : goal.decreases-loop-i
 decreases-loop-i l = length l.s - l.i

@@ -65,58 +65,82 @@ loop-at-preserved-then-not-settled c = turn_on _ _ _ _ _ c.loop-at.invariant _ c
 
 pub returns-in-Ends : goal.returns-in-Ends
 unfolding check_of
-returns-in-Ends c = λ is. let h = turn_ends _ _ _ _ ((ahead (goal.at.returns-in-Ends c).Joined-s-at).0.head is) _ c.shape-shape.ensures c.in-Ends.is in
+returns-in-Ends c = λ is.
+    let here = ahead (goal.at.returns-in-Ends c).Joined-s-at in
+    let h = turn_ends _ _ _ _ (here.0.head is) _ c.shape-shape.ensures c.in-Ends.is in
     on_ge _ _ _ _ _ c.if-s-gt-OCTETS.false (c.accepted-in-Ends.ensures ∙ h)
 
 pub overflow_add-place : goal.overflow_add-place
-overflow_add-place c = let h = refuses_fits _ _ _ _ _ (ahead (goal.at.overflow_add-place c).Joined-s-at).0 _ c.shape-shape.ensures c.in-Refuses.is in
+overflow_add-place c =
+    let here = ahead (goal.at.overflow_add-place c).Joined-s-at in
+    let h = refuses_fits _ _ _ _ _ here.0 _ c.shape-shape.ensures c.in-Refuses.is in
     omega (arith, h)
 
 pub returns-in-Refuses : goal.returns-in-Refuses
 unfolding check_of
-returns-in-Refuses c = λ is. let h = turn_refuses _ _ _ _ ((ahead (goal.at.returns-in-Refuses c).Joined-s-at).0.head is) _ c.shape-shape.ensures c.in-Refuses.is in
+returns-in-Refuses c = λ is.
+    let here = ahead (goal.at.returns-in-Refuses c).Joined-s-at in
+    let h = turn_refuses _ _ _ _ (here.0.head is) _ c.shape-shape.ensures c.in-Refuses.is in
     on_ge _ _ _ _ _ c.if-s-gt-OCTETS.false (c.refused-in-Refuses.ensures ∙ h)
 
 pub overflow_add-at : goal.overflow_add-at
-overflow_add-at c = let h = designates_by _ _ _ _ _ (ahead (goal.at.overflow_add-at c).Joined-s-at).0 _ c.shape-shape.ensures c.in-Designates.is in
+overflow_add-at c =
+    let here = ahead (goal.at.overflow_add-at c).Joined-s-at in
+    let h = designates_by _ _ _ _ _ here.0 _ c.shape-shape.ensures c.in-Designates.is in
     omega (arith, h.fits)
 
 pub loop-at-smaller-in-Designates : goal.loop-at-smaller-in-Designates
-loop-at-smaller-in-Designates c = let h = designates_by _ _ _ _ _ (ahead (goal.at.loop-at-smaller-in-Designates c).Joined-s-at).0 _ c.shape-shape.ensures c.in-Designates.is in
-    omega (arith, h.fits, h.some, (ahead (goal.at.loop-at-smaller-in-Designates c).Joined-s-at).1)
+loop-at-smaller-in-Designates c =
+    let here = ahead (goal.at.loop-at-smaller-in-Designates c).Joined-s-at in
+    let h = designates_by _ _ _ _ _ here.0 _ c.shape-shape.ensures c.in-Designates.is in
+    omega (arith, h.fits, h.some, here.1)
 
 pub loop-at-preserved-in-Designates : goal.loop-at-preserved-in-Designates
-loop-at-preserved-in-Designates c = let h = designates_by _ _ _ _ _ (ahead (goal.at.loop-at-preserved-in-Designates c).Joined-s-at).0 _ c.shape-shape.ensures c.in-Designates.is in
+loop-at-preserved-in-Designates c =
+    let here = ahead (goal.at.loop-at-preserved-in-Designates c).Joined-s-at in
+    let h = designates_by _ _ _ _ _ here.0 _ c.shape-shape.ensures c.in-Designates.is in
     rw c.designated-st.ensures h.head
 
 pub returns-in-Stops : goal.returns-in-Stops
 unfolding check_of
-returns-in-Stops c = λ is. let h = turn_stops _ _ _ _ ((ahead (goal.at.returns-in-Stops c).Joined-s-at).0.head is) _ c.shape-shape.ensures c.in-Gives.is c.step-step.ensures
+returns-in-Stops c = λ is.
+    let here = ahead (goal.at.returns-in-Stops c).Joined-s-at in
+    let h = turn_stops _ _ _ _ (here.0.head is) _ c.shape-shape.ensures c.in-Gives.is c.step-step.ensures
     c.in-Stops.is in
     on_ge _ _ _ _ _ c.if-s-gt-OCTETS.false (c.refused-in-Stops.ensures ∙ h)
 
 pub overflow_add-at-in-Goes : goal.overflow_add-at-in-Goes
-overflow_add-at-in-Goes c = let h = goes_by _ _ _ _ _ (ahead (goal.at.overflow_add-at-in-Goes c).Joined-s-at).0 _ c.shape-shape.ensures c.in-Gives.is c.step-step.ensures
+overflow_add-at-in-Goes c =
+    let here = ahead (goal.at.overflow_add-at-in-Goes c).Joined-s-at in
+    let h = goes_by _ _ _ _ _ here.0 _ c.shape-shape.ensures c.in-Gives.is c.step-step.ensures
     c.in-Goes.is in
     omega (arith, h.fits, c.if-s-gt-OCTETS.false)
 
 pub overflow_add-at-in-Goes-2 : goal.overflow_add-at-in-Goes-2
-overflow_add-at-in-Goes-2 c = let h = goes_by _ _ _ _ _ (ahead (goal.at.overflow_add-at-in-Goes-2 c).Joined-s-at).0 _ c.shape-shape.ensures c.in-Gives.is c.step-step.ensures
+overflow_add-at-in-Goes-2 c =
+    let here = ahead (goal.at.overflow_add-at-in-Goes-2 c).Joined-s-at in
+    let h = goes_by _ _ _ _ _ here.0 _ c.shape-shape.ensures c.in-Gives.is c.step-step.ensures
     c.in-Goes.is in
     omega (arith, h.fits, c.if-s-gt-OCTETS.false)
 
 pub overflow_add-count-in-Goes : goal.overflow_add-count-in-Goes
-overflow_add-count-in-Goes c = let h = goes_by _ _ _ _ _ (ahead (goal.at.overflow_add-count-in-Goes c).Joined-s-at).0 _ c.shape-shape.ensures c.in-Gives.is c.step-step.ensures
+overflow_add-count-in-Goes c =
+    let here = ahead (goal.at.overflow_add-count-in-Goes c).Joined-s-at in
+    let h = goes_by _ _ _ _ _ here.0 _ c.shape-shape.ensures c.in-Gives.is c.step-step.ensures
     c.in-Goes.is in
     omega (arith, h.head.few, h.fits, c.if-s-gt-OCTETS.false)
 
 pub loop-at-smaller : goal.loop-at-smaller
-loop-at-smaller c = let h = goes_by _ _ _ _ _ (ahead (goal.at.loop-at-smaller c).Joined-s-at).0 _ c.shape-shape.ensures c.in-Gives.is c.step-step.ensures
+loop-at-smaller c =
+    let here = ahead (goal.at.loop-at-smaller c).Joined-s-at in
+    let h = goes_by _ _ _ _ _ here.0 _ c.shape-shape.ensures c.in-Gives.is c.step-step.ensures
     c.in-Goes.is in
-    omega (arith, h.fits, h.some, (ahead (goal.at.loop-at-smaller c).Joined-s-at).1)
+    omega (arith, h.fits, h.some, here.1)
 
 pub loop-at-preserved : goal.loop-at-preserved
-loop-at-preserved c = let h = goes_by _ _ _ _ _ (ahead (goal.at.loop-at-preserved c).Joined-s-at).0 _ c.shape-shape.ensures c.in-Gives.is c.step-step.ensures
+loop-at-preserved c =
+    let here = ahead (goal.at.loop-at-preserved c).Joined-s-at in
+    let h = goes_by _ _ _ _ _ here.0 _ c.shape-shape.ensures c.in-Gives.is c.step-step.ensures
     c.in-Goes.is in
     rw c.directed-st.ensures h.head
 
