@@ -11,67 +11,70 @@ unfolding unended_check_of
 returns-then-s-gt-OCTETS c = on_lt _ _ _ _ _ c.if-s-gt-OCTETS.true c.refused.ensures
 
 pub loop-at-init : goal.loop-at-init
-unfolding unended_check_of
 loop-at-init c = head_first _
 
 pub returns-in-End : goal.returns-in-End
 unfolding unended_check_of
-returns-in-End c = let h = turn_end _ _ _ _ c.loop-at.invariant _ c.element.ensures c.in-End.is in
+returns-in-End c =
+    let h = turn_end _ _ _ _ c.loop-at.invariant _ c.element.ensures c.in-End.is in
     on_ge _ _ _ _ _ c.if-s-gt-OCTETS.false (c.accepted.ensures ∙ h)
 
 pub refused_at-requires : goal.refused_at-requires
-unfolding unended_check_of
 refused_at-requires c = turn_short _ _ _ _ c.loop-at.invariant _ c.element.ensures c.in-Refused.is
 
 pub returns-in-Refused : goal.returns-in-Refused
 unfolding unended_check_of
-returns-in-Refused c = let h = turn_refused _ _ _ _ c.loop-at.invariant _ c.element.ensures c.in-Refused.is in
+returns-in-Refused c =
+    let h = turn_refused _ _ _ _ c.loop-at.invariant _ c.element.ensures c.in-Refused.is in
     on_ge _ _ _ _ _ c.if-s-gt-OCTETS.false (c.refused_at.ensures ∙ h)
 
 pub overflow_add-at : goal.overflow_add-at
-unfolding unended_check_of
 overflow_add-at c = let h = turn_silent _ _ _ _ c.loop-at.invariant _ c.element.ensures c.in-Silent.is in omega (arith, h.fits)
 
 pub loop-at-smaller-in-Silent : goal.loop-at-smaller-in-Silent
-loop-at-smaller-in-Silent c = let h = turn_silent _ _ _ _ c.loop-at.invariant _ c.element.ensures c.in-Silent.is in
+loop-at-smaller-in-Silent c =
+    let h = turn_silent _ _ _ _ c.loop-at.invariant _ c.element.ensures c.in-Silent.is in
     omega (arith, h.fits, h.some)
 
 pub loop-at-preserved-in-Silent : goal.loop-at-preserved-in-Silent
-loop-at-preserved-in-Silent c = let h = turn_silent _ _ _ _ c.loop-at.invariant _ c.element.ensures c.in-Silent.is in
+loop-at-preserved-in-Silent c =
+    let h = turn_silent _ _ _ _ c.loop-at.invariant _ c.element.ensures c.in-Silent.is in
     h.head
-
-pub unsupported_at-requires : goal.unsupported_at-requires
-unfolding unended_check_of
-unsupported_at-requires c = c.loop-at.invariant.within
 
 pub returns-then-unsupported_at : goal.returns-then-unsupported_at
 unfolding unended_check_of
-returns-then-unsupported_at c = let h = turn_unsupported _ _ _ _ c.loop-at.invariant _ c.element.ensures c.in-Found.is
+returns-then-unsupported_at c =
+    let h = turn_unsupported _ _ _ _ c.loop-at.invariant _ c.element.ensures c.in-Found.is
     (sym c.unsupported_at.ensures ∙ c.if-unsupported_at.true) in
     on_ge _ _ _ _ _ c.if-s-gt-OCTETS.false (c.refused-then-unsupported_at.ensures ∙ h)
 
 pub overflow_add-at-in-Found : goal.overflow_add-at-in-Found
-overflow_add-at-in-Found c = let h = turn_found _ _ _ _ c.loop-at.invariant _ c.element.ensures c.in-Found.is
+overflow_add-at-in-Found c =
+    let h = turn_found _ _ _ _ c.loop-at.invariant _ c.element.ensures c.in-Found.is
     (sym c.unsupported_at.ensures ∙ c.if-unsupported_at.false) in
     omega (arith, h.fits)
 
 pub overflow_add-at-in-Found-2 : goal.overflow_add-at-in-Found-2
-overflow_add-at-in-Found-2 c = let h = turn_found _ _ _ _ c.loop-at.invariant _ c.element.ensures c.in-Found.is
+overflow_add-at-in-Found-2 c =
+    let h = turn_found _ _ _ _ c.loop-at.invariant _ c.element.ensures c.in-Found.is
     (sym c.unsupported_at.ensures ∙ c.if-unsupported_at.false) in
     omega (arith, h.fits)
 
 pub overflow_add-count : goal.overflow_add-count
-overflow_add-count c = let h = turn_found _ _ _ _ c.loop-at.invariant _ c.element.ensures c.in-Found.is
+overflow_add-count c =
+    let h = turn_found _ _ _ _ c.loop-at.invariant _ c.element.ensures c.in-Found.is
     (sym c.unsupported_at.ensures ∙ c.if-unsupported_at.false) in
     omega (arith, h.head.few, h.fits, c.if-s-gt-OCTETS.false)
 
 pub loop-at-smaller : goal.loop-at-smaller
-loop-at-smaller c = let h = turn_found _ _ _ _ c.loop-at.invariant _ c.element.ensures c.in-Found.is
+loop-at-smaller c =
+    let h = turn_found _ _ _ _ c.loop-at.invariant _ c.element.ensures c.in-Found.is
     (sym c.unsupported_at.ensures ∙ c.if-unsupported_at.false) in
     omega (arith, h.fits, h.some)
 
 pub loop-at-preserved : goal.loop-at-preserved
-loop-at-preserved c = let h = turn_found _ _ _ _ c.loop-at.invariant _ c.element.ensures c.in-Found.is
+loop-at-preserved c =
+    let h = turn_found _ _ _ _ c.loop-at.invariant _ c.element.ensures c.in-Found.is
     (sym c.unsupported_at.ensures ∙ c.if-unsupported_at.false) in
     h.head
 

@@ -11,4 +11,4 @@ here s at =
     rest s at 0 ∙ ap (λ (n : ℕ). from n s) e
 
 pub returns : goal.returns
-returns c = let args = c.args in c.unsupported.ensures ∙ ap unsupported_at (here args.s.now args.at)
+returns c = c.unsupported.ensures ∙ ap unsupported_at (here c.args.s.now c.args.at)
