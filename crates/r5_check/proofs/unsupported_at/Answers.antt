@@ -2,8 +2,7 @@
 use Rattle.element.proofs.Names.{ℕ, ◌+◌, ◌-◌, arith, ◌≡◌, ap, ◌∙◌, List, length, take, drop, from}
 use Rattle.element.proofs.Steps.{rest}
 use Rattle.x11r5.specs.Reading.{unsupported_at}
-use Rattle.r5_check.proofs.unsupported_at.Statement.{statement}
-use Rattle.r5_check.proofs.unsupported_at.Tie as tie
+use Rattle.r5_check.proofs.unsupported_at.Goals as goal
 
 here : (s : List ℕ) (at : ℕ) → take (length s - at) (drop at s) ≡ from at s
 unfolding from
@@ -11,7 +10,5 @@ here s at =
     let e : at + 0 ≡ at = omega arith in
     rest s at 0 ∙ ap (λ (n : ℕ). from n s) e
 
-pub unsupported_at_spec : {M : Type 1} → statement M
-unsupported_at_spec =
-    tie.close (tie.spec (search arith) (search arith) (search arith) (search arith)
-    (λ c. let args = c.before.before.before.args in c.unsupported.ensures ∙ ap unsupported_at (here args.s.now args.at)))
+pub returns : goal.returns
+returns c = c.unsupported.ensures ∙ ap unsupported_at (here c.args.s.now c.args.at)
