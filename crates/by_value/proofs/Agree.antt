@@ -1,5 +1,5 @@
 -- A reader that is opened on a string and stepped until it repeats gives the list of `read` and the answer of `check` (`same_list`).
-use Rattle.element.proofs.Names.{ℕ, ◌≤◌, arith, ◌≡◌, refl, ap, sym, ◌∙◌, Bool, true, false, List, [], ltb, length, le-ltb, now, pick, UnitRecord}
+use Rattle.element.proofs.Names.{ℕ, ◌≤◌, arith, ◌≡◌, refl, ap, sym, ◌∙◌, Bool, true, false, List, [], ltb, length, le-ltb, pick, UnitRecord}
 use denote.Ref.{Bor}
 use Rattle.base.specs.Limit as limit
 use Rattle.base.specs.Refusal as refusal
@@ -17,8 +17,8 @@ unfolding units_before pick
 units_before_lem s z = rw (le-ltb limit.octets (length s) (short s z))
 
 -- for a list in which `read` stores the units: step k hands out record k of the list, and once they are through the answer of `check`
-pub same_list : (s : Bor (List ℕ)) (old : List UnitRecord) → (read_answer (now s) (length old)).number ≡ refusal.accepted
-    → (k : ℕ) → item_at (reader_after k (opened s)) ≡ item_of k (stored_records (now s) old) (check_of (now s))
+pub same_list : (s : Bor (List ℕ)) (old : List UnitRecord) → (read_answer s.now (length old)).number ≡ refusal.accepted
+    → (k : ℕ) → item_at (reader_after k (opened s)) ≡ item_of k (stored_records s.now old) (check_of s.now)
 same_list s old z k =
     opened_items s k
-    ∙ ap (λ (us : List UnitRecord). item_of k us (check_of (now s))) (units_before_lem (now s) (checked (now s) old z) ∙ sym (list_stored (now s) old z))
+    ∙ ap (λ (us : List UnitRecord). item_of k us (check_of s.now)) (units_before_lem s.now (checked s.now old z) ∙ sym (list_stored s.now old z))

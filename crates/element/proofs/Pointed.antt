@@ -323,6 +323,7 @@ pub of_place : {t : List ℕ} {st : State} {n o : ℕ} → Pointed t st (Refused
 of_place (at_length e) = omega arith
 of_place (at_octet m n h e d) = omega (arith, h.0, d.there)
 of_place (at_start m n h d) = omega arith
+of_place {t = t} {st = st} {n = n} {o = o} (passes {k = k} x3 _) = elim x3 [ ]
 
 -- an element that is passed is the same with fewer octets after it
 pub of_passed : {t : List ℕ} {st : State} {e : Element} {k : ℕ} {next : State} → Passed e k next → Pointed t st e → (i : ℕ) → k ≤ i
@@ -337,17 +338,20 @@ of_before {t} {st} {o = o} is (at_length e) =
     inr (ap (λ (u : List ℕ). element_of u st) (take_all o t (omega arith)) ∙ is)
 of_before is (at_octet m n h e d) = e
 of_before is (at_start m n h d) = inl refl
+of_before {t = t} {st = st} {n = n} {o = o} is (passes {k = k} x3 _) = elim x3 [ ]
 
 -- by the number: 2, 3 to 7, 8 and 9
 pub of_cut : {t : List ℕ} {st : State} {o : ℕ} → Pointed t st (Refused refusal.cut o) → o ≡ length t
 of_cut (at_length e) = e
 of_cut (at_octet m n h e d) = absurd (omega (arith, n.0))
 of_cut (at_start m n h d) = absurd (omega (arith, n.0))
+of_cut {t = t} {st = st} {o = o} (passes {k = k} x3 _) = elim x3 [ ]
 
 pub of_direction : {t : List ℕ} {st : State} {n o : ℕ} → refusal.direction ≤ n → Pointed t st (Refused n o) → o ≡ 0
 of_direction k (at_length e) = absurd (omega (arith, k))
 of_direction k (at_octet m n h e d) = absurd (omega (arith, k, n.1))
 of_direction k (at_start m n h d) = refl
+of_direction {t = t} {st = st} {n = n} {o = o} k (passes x3 _) = elim x3 [ ]
 
 -- the octets of the element that decide a refusal of 3 to 9
 pub record Extent (t : List ℕ) (st : State) (n o : ℕ) : Type 0 where
@@ -359,3 +363,4 @@ pub of_extent : {t : List ℕ} {st : State} {n o : ℕ} → refusal.unused ≤ n
 of_extent k (at_length e) = absurd (omega (arith, k))
 of_extent k (at_octet m n h e d) = record { octets = m; ends = h; decided = d }
 of_extent k (at_start m n h d) = record { octets = m; ends = (h, λ v. absurd (omega (arith, v, n.0))); decided = d }
+of_extent {t = t} {st = st} {n = n} {o = o} k (passes x3 _) = elim x3 [ ]

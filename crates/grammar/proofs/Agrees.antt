@@ -148,7 +148,7 @@ answered {s} (show {t = t} {us = us} u b g h r) d l e at count =
         → Answered (state s d) (octets b u ++ t) (u ∷ us) at count
     go (Stops m) q e k = off e
     go (Goes m) q e k =
-        let v = elements_after (octets b u) t at (state s d) found (part_size u b) (starts_unit s l u b t g h) (ap (stepped_of _ _) q) in
+        let v = elements_after (octets b u) t at (state s d) found (part_size u b) (starts_unit s l u b t g h) (ap (stepped_of (part_of u) (state s d)) q) in
         let i = k m e in
         record {
           answers = rw v (i.answers ∙ ap₂ (answer 0) (omega (arith, length-append (octets b u) t, part_size u b)) (omega arith));
@@ -165,7 +165,7 @@ unfolding answer_of none_refused
 zero_none s count (ends e) z = refl
 zero_none s count (stops {n = n} h e) z = absurd (let y : n ≡ 0 = z in omega arith)
 zero_none s count (passes t e a) z = zero_none s count a z
-zero_none s count (reads t m e a) z = zero_none s _ a z
+zero_none s count (reads t m e a) z = zero_none s (count + 1) a z
 
 -- and what is refused has count 0
 by_refusal : (count : ℕ) (es : Elements) → ((answer_of count es).number ≡ 0) ⊎ ((none_refused es ≡ false) × ((answer_of count es).count ≡ 0))
@@ -173,7 +173,7 @@ unfolding answer_of none_refused
 by_refusal count (end_at at) = inl refl
 by_refusal count (refused_at_lem at n o) = inr (refl, refl)
 by_refusal count (silent_at at k st es) = by_refusal count es
-by_refusal count (found_at at p st es) = by_refusal _ es
+by_refusal count (found_at at p st es) = by_refusal (count + 1) es
 
 -- ---- the theorems
 

@@ -1,7 +1,7 @@
 -- What a reader opened on a string hands out, by the values of each item (`unit_in`, `answer_in`): as many units as stand before the end or the
 -- refusal, the k-th at step k and no answer beside it (`opened_unit`), and from then on the string's answer and no unit (`opened_answer`).
 -- By `opened_items`, and induction on the units.
-use Rattle.element.proofs.Names.{ℕ, zero, suc, ◌≤◌, ◌<◌, arith, ◌≡◌, refl, ap, ◌∙◌, List, [], ◌∷◌, none, some, length, get_or, now, Answer}
+use Rattle.element.proofs.Names.{ℕ, zero, suc, ◌≤◌, ◌<◌, arith, ◌≡◌, refl, ap, ◌∙◌, List, [], ◌∷◌, none, some, length, get_or, Answer}
 use Rattle.element.proofs.Names.{UnitRecord}
 use denote.Ref.{Bor}
 use Rattle.grammar.specs.Reading.{check_of}
@@ -29,13 +29,13 @@ module _ (s : Bor (List ℕ)) (k : ℕ) where
   item = item_at (reader_after k (opened s))
 
   -- step k, while there are units (rule U7)
-  pub opened_unit : k < length (units_before (now s)) → (unit_in item ≡ some (get_or (units_before (now s)) k blank)) × (answer_in item ≡ none)
+  pub opened_unit : k < length (units_before s.now) → (unit_in item ≡ some (get_or (units_before s.now) k blank)) × (answer_in item ≡ none)
   opened_unit h =
-      let e : item ≡ Given (get_or (units_before (now s)) k blank) = opened_items s k ∙ item_given k (units_before (now s)) (check_of (now s)) h in
+      let e : item ≡ Given (get_or (units_before s.now) k blank) = opened_items s k ∙ item_given k (units_before s.now) (check_of s.now) h in
       (ap unit_in e, ap answer_in e)
 
   -- and every step after them (rules U7, N1)
-  pub opened_answer : length (units_before (now s)) ≤ k → (unit_in item ≡ none) × (answer_in item ≡ some (check_of (now s)))
+  pub opened_answer : length (units_before s.now) ≤ k → (unit_in item ≡ none) × (answer_in item ≡ some (check_of s.now))
   opened_answer h =
-      let e : item ≡ Ended (check_of (now s)) = opened_items s k ∙ item_ended k (units_before (now s)) (check_of (now s)) h in
+      let e : item ≡ Ended (check_of s.now) = opened_items s k ∙ item_ended k (units_before s.now) (check_of s.now) h in
       (ap unit_in e, ap answer_in e)

@@ -2,7 +2,7 @@
 -- of a string that is too long it hands out no unit. By induction on the elements of the string: a reader from which the next unit is
 -- that of the elements that are left hands out their records, and with the answer comes to stand where they stop, and stays (`hands`).
 use Rattle.element.proofs.Names.{ℕ, zero, suc, ◌+◌, ◌≤◌, ◌<◌, arith, ◌≡◌, refl, ap, sym, ◌∙◌, Bool, true, false, List, [], ◌∷◌, ltb, length}
-use Rattle.element.proofs.Names.{ltb-false, le-ltb, lt-ltb, le-leb, ne_eqb, now, refused_at, pick, Answer, UnitRecord, allowed, may_use, fresh, State}
+use Rattle.element.proofs.Names.{ltb-false, le-ltb, lt-ltb, le-leb, ne_eqb, refused_at, pick, Answer, UnitRecord, allowed, may_use, fresh, State}
 use denote.Ref.{Bor}
 use Rattle.base.specs.Limit as limit
 use Rattle.base.specs.Refusal as refusal
@@ -74,22 +74,22 @@ unfolding allowed may_use
 fresh-fit = record { left = refl; right = refl; depth = omega arith }
 
 -- ---- a string that is not too long
-module _ (s : Bor (List ℕ)) (short : length (now s) ≤ limit.octets) where
+module _ (s : Bor (List ℕ)) (short : length s.now ≤ limit.octets) where
   abbrev reader : ℕ → ℕ → State → Reader
   reader place count st = record { octets = s; place = place; count = count; state = st }
 
   -- a reader may stand at a place under a state, and what comes next from there
   record Finds (place : ℕ) (st : State) (o : Outcome) : Type 0 where
-    may : may_stand (length (now s)) place st ≡ true
-    gives : next_of (now s) place st ≡ o
+    may : may_stand (length s.now) place st ≡ true
+    gives : next_of s.now place st ≡ o
 
   -- where the elements ahead start it finds what they give
-  finds : {at : ℕ} {st : State} {es : Elements} → Ahead (now s) at st es → at ≤ length (now s) → Fit st → Finds at st (outcome_of st es)
-  finds {at} {st} a h f = record { may = may_stand_lem (length (now s)) at st h f; gives = next_ahead (now s) short a }
+  finds : {at : ℕ} {st : State} {es : Elements} → Ahead s.now at st es → at ≤ length s.now → Fit st → Finds at st (outcome_of st es)
+  finds {at} {st} a h f = record { may = may_stand_lem (length s.now) at st h f; gives = next_ahead s.now short a }
 
   step_by : {place : ℕ} {st : State} {o : Outcome} (count : ℕ) → Finds place st o → reader_step (reader place count st) ≡ after_of count o
   unfolding step_at pick
-  step_by count h = rw (le-ltb limit.octets (length (now s)) short, h.may, h.gives)
+  step_by count h = rw (le-ltb limit.octets (length s.now) short, h.may, h.gives)
 
   counted_one : (count : ℕ) → count + 1 ≤ largest → counted_of count ≡ count + 1
   unfolding counted_of pick
@@ -118,7 +118,7 @@ module _ (s : Bor (List ℕ)) (short : length (now s) ≤ limit.octets) where
       hands_unit x.0 (x.1 ∙ ap (λ (c : ℕ). reader at c st) (counted_one count n)) g
 
   -- the records of the elements ahead, and the last reader stands where they stop
-  hands : {at : ℕ} {st : State} {es : Elements} → Ahead (now s) at st es → at ≤ length (now s) → Fit st → (place count : ℕ) (to : State)
+  hands : {at : ℕ} {st : State} {es : Elements} → Ahead s.now at st es → at ≤ length s.now → Fit st → (place count : ℕ) (to : State)
       → Finds place to (outcome_of st es) → (total : ℕ) → count + length (records_from es) ≡ total → total ≤ largest
       → Hands (reader place count to) (records_from es) (answer_of count es) (reader (stop_of st es).place total (stop_of st es).state)
   unfolding records_from outcome_of answer_of ended_of stop_of pick
@@ -133,25 +133,25 @@ module _ (s : Bor (List ℕ)) (short : length (now s) ≤ limit.octets) where
       gives_unit count (omega (arith, c, n)) h
       (hands a t.fits (t.fit f) (at + size p) (count + 1) next (finds a t.fits (t.fit f)) total (omega (arith, c)) n)
 
-  pub opened_hands : Hands (opened s) (records_of (now s)) (answer_of 0 (elements_of (now s))) (at_stop s)
+  pub opened_hands : Hands (opened s) (records_of s.now) (answer_of 0 (elements_of s.now)) (at_stop s)
   unfolding records_of
   opened_hands =
-      let start = from_start (now s) in
-      let few : 0 + length (records_from (elements_of (now s))) ≤ length (now s) = few_records (now s) start (omega arith) in
+      let start = from_start s.now in
+      let few : 0 + length (records_from (elements_of s.now)) ≤ length s.now = few_records s.now start (omega arith) in
       hands start (omega arith) fresh-fit 0 0 fresh (finds start (omega arith) fresh-fit) _ (omega arith) (omega (arith, few, short))
 
 -- ---- every string
 
-by_length : (s : Bor (List ℕ)) (b : Bool) → ltb limit.octets (length (now s)) ≡ b → (k : ℕ)
-    → item_at (reader_after k (opened s)) ≡ item_of k (pick b [] (records_of (now s))) (pick b (refused_at refusal.too_long 0) (answer_of 0 (elements_of (now s))))
+by_length : (s : Bor (List ℕ)) (b : Bool) → ltb limit.octets (length s.now) ≡ b → (k : ℕ)
+    → item_at (reader_after k (opened s)) ≡ item_of k (pick b [] (records_of s.now)) (pick b (refused_at refusal.too_long 0) (answer_of 0 (elements_of s.now)))
 unfolding step_at pick
 by_length s true e k =
     let z : reader_step (opened s) ≡ stepped (Ended (refused_at refusal.too_long 0)) 0 0 fresh = rw e in
     let x = step_to_lem (opened s) z in
     items (hands_answer x.0 x.1 x.0 x.1) k
-by_length s false e k = items (opened_hands s (ltb-false limit.octets (length (now s)) e)) k
+by_length s false e k = items (opened_hands s (ltb-false limit.octets (length s.now) e)) k
 
 -- item k of a reader opened on a string: the units in their order, and then the string's answer for good (rules U7, U8)
-pub opened_items : (s : Bor (List ℕ)) (k : ℕ) → item_at (reader_after k (opened s)) ≡ item_of k (units_before (now s)) (check_of (now s))
+pub opened_items : (s : Bor (List ℕ)) (k : ℕ) → item_at (reader_after k (opened s)) ≡ item_of k (units_before s.now) (check_of s.now)
 unfolding units_before check_of
-opened_items s k = by_length s (ltb limit.octets (length (now s))) refl k
+opened_items s k = by_length s (ltb limit.octets (length s.now)) refl k

@@ -1,5 +1,5 @@
 -- `octet_stretches::found` meets its contract: near, and then far.
-use Rattle.element.proofs.Names.{◌+◌, arith, refl, now}
+use Rattle.element.proofs.Names.{◌+◌, arith, refl}
 use Rattle.octet_stretches.specs.Stretched.{Stretched, more}
 use Rattle.octet_stretches.proofs.Laws.{fits, by_numbers}
 use Rattle.octet_stretches.proofs.found.Statement.{statement}
@@ -8,7 +8,7 @@ use Rattle.octet_stretches.proofs.found.Tie as tie
 -- both, one after the other
 after_far : (c : tie.After-far)
     → let near = c.before.before.before.before.before.before in let start = near.before.before.before.before in
-    Stretched (now start.args.row) (now start.args.s) start.args.at
+    Stretched start.args.row.now start.args.s.now start.args.at
     (start.args.at + (near.near.result.octets + c.far.result.octets)) (near.near.result.units + c.far.result.units)
 after_far c =
     by_numbers (omega arith) refl (more c.before.before.before.before.before.before.near.ensures c.far.ensures)

@@ -1,5 +1,5 @@
 -- `print` meets its contract, by the cases of the answer (proofs/Whole).
-use Rattle.element.proofs.Names.{arith, ap, ap₂, sym, ◌∙◌, length, now}
+use Rattle.element.proofs.Names.{arith, ap, ap₂, sym, ◌∙◌, length}
 use Rattle.base.specs.Output.{stored_in}
 use Rattle.program.proofs.Whole.{accepted_form, counted_form, refused_line}
 use Rattle.program.proofs.print.Statement.{statement}
@@ -10,7 +10,7 @@ returns c =
     let call = c.before.before.before.before in
     let args = call.before.before.before.before.args in
     let is = call.shorten.ensures in
-    let form = accepted_form (now args.s) (now args.out) call.shorten.result is.0 c.if1.true in
+    let form = accepted_form args.s.now args.out.now call.shorten.result is.0 c.if1.true in
     (is.0, form.counts, is.1 ∙ form.stored, λ long. omega (arith, form.short, long))
 
 returns-2 : tie.Need-returns-2
@@ -18,7 +18,7 @@ returns-2 c =
     let call = c.before.before.before.before.before.before in
     let args = call.before.before.before.before.args in
     let is = call.shorten.ensures in
-    let form = counted_form (now args.s) (now args.out) call.shorten.result is.0 c.if2.true in
+    let form = counted_form args.s.now args.out.now call.shorten.result is.0 c.if2.true in
     (is.0, form.counts, is.1 ∙ form.stored, λ long. omega (arith, form.short, long))
 
 returns_3 : tie.Need-returns-3
@@ -31,7 +31,7 @@ returns_3 c =
     let is = call.shorten.ensures in
     let none = no-count.if2.false in
     let refused =
-    refused_line (now args.s) (now args.out) call.shorten.result is.0 no_form.if1.false (λ q. omega (arith, q, none)) in (
+    refused_line args.s.now args.out.now call.shorten.result is.0 no_form.if1.false (λ q. omega (arith, q, none)) in (
       is.0,
       line.0 ∙ sym (ap length refused.printed),
       line.1 ∙ ap₂ stored_in (sym refused.printed) (is.1 ∙ refused.stays),

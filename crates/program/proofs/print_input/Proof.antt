@@ -1,5 +1,5 @@
 -- `print_input` meets its contract, which is `print`'s: the first n octets of the room are all of it where n is not less than its length.
-use Rattle.element.proofs.Names.{ℕ, arith, ap, sym, ◌∙◌, List, length, length-take-le, now}
+use Rattle.element.proofs.Names.{ℕ, arith, ap, sym, ◌∙◌, List, length, length-take-le}
 use lib.Seq.{take_all}
 use Rattle.rewrite.specs.Shortest.{shortest_answer}
 use Rattle.base.specs.Output.{stored_in}
@@ -11,10 +11,10 @@ returns-2 : tie.Need-returns-2
 returns-2 c =
     let args = c.before.before.before.before.before.before.before.args in
     let is = c.before.before.print2.ensures in
-    let all = sym (take_all args.n (now args.input) c.before.before.before.before.if1.false) in (
-      is.0 ∙ ap (λ (s : List ℕ). shortest_answer s room (length (now args.out))) all,
+    let all = sym (take_all args.n args.input.now c.before.before.before.before.if1.false) in (
+      is.0 ∙ ap (λ (s : List ℕ). shortest_answer s room (length args.out.now)) all,
       is.1 ∙ ap (λ (s : List ℕ). length (printed_of s)) all,
-      is.2 ∙ ap (λ (s : List ℕ). stored_in (printed_of s) (now args.out)) all,
+      is.2 ∙ ap (λ (s : List ℕ). stored_in (printed_of s) args.out.now) all,
       is.3,
     )
 

@@ -7,7 +7,7 @@ use Rattle.walks.proofs.Names.{◌≡◌, refl, sym, ◌∙◌, ap, ℕ, [], ◌
 use Rattle.walks.proofs.Names.{Fml, flft}
 use Rattle.walks.proofs.Names.{‵, ◌⊛◌, ◌$◌, !, move, let_go, split, join, done, no_more, Is, u8, RefT}
 use Rattle.walks.proofs.Names as kit
-use Rattle.element.proofs.Names.{now, Answer, UnitRecord}
+use Rattle.element.proofs.Names.{Answer, UnitRecord}
 use Rattle.base.specs.contracts.Unit as U
 use Rattle.base.specs.contracts.Answer as N
 use Rattle.base.proofs.Answer.TheLaws as N'
@@ -116,7 +116,7 @@ module _ {M : Type 1} {𝓤 : kit.Ura M} (𝓛 : Logic 𝓤) (𝓜 : kit.Model �
       gets ! 𝓣 0 refl (twice s) given-fn.ended (given-fn.clauses 𝓛 𝓜.mem 𝓡.run)
       (cites 𝓛 𝓜 𝓡 code.env code.calls-r5-read::look::given (given-fn.Met.met 𝓤 𝓛 𝓜 𝓡))
       (((κ, tt), (q, tt), tt, (s, (l, tt)), (v s ∷ [], (L'.lowered l ∷ [], tt))), tt) (the_one 𝓛 κ q)
-      (id⊢ 𝓤 _ & plain 𝓛 (O s) a_look l is-l & all) (id⊢ 𝓤 _) (λ r. now r ≡ given xs l) (λ r e. id⊢ 𝓤 _)
+      (id⊢ 𝓤 _ & plain 𝓛 (O s) a_look l is-l & all) (id⊢ 𝓤 _) (λ r. r.now ≡ given xs l) (λ r e. id⊢ 𝓤 _)
       kit.shr_slice_vals (kit.shr_slice_Tells (named 0) κ u8) (arg ! 15 refl (arg ! 11 refl (no_more !))) (λ r e is-r.
       lands_in ! 10 refl (tt, ((kit.shr_slice_Lawful 𝓛 (named 0) κ u8).typed r _ is-r).0.1) $
       -- [what the part owns; the string; the list; its token]: the string and its part in one entry

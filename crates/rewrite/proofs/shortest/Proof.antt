@@ -1,6 +1,6 @@
 -- `rewrite::shortest` meets its contract, by what it calls and the laws of `Whole`.
 use Rattle.rewrite.proofs.Whole.{accepts, counts, refused_answer, refused_output, accepted_answer, accepted_output}
-use Rattle.element.proofs.Names.{arith, refl, ◌∙◌, now}
+use Rattle.element.proofs.Names.{arith, refl, ◌∙◌}
 use Rattle.grammar.specs.Reading.{Octets}
 use Rattle.rewrite.proofs.shortest.Statement.{statement}
 use Rattle.rewrite.proofs.shortest.Tie as tie
@@ -8,14 +8,14 @@ use Rattle.rewrite.proofs.shortest.Tie as tie
 returns : tie.Need-returns
 returns c =
     let start = c.before.before.before.before.before.before.before.before.before.before.before.before.before.before.before.before.before in
-    let octets : Octets (now start.before.args.s) = λ i. omega (arith, start.shared-slice-known.given i) in
+    let octets : Octets start.before.args.s.now = λ i. omega (arith, start.shared-slice-known.given i) in
     let answer = c.before.before.before.before.before.before.before.before.before.before.before.before.before.before.answer.ensures in
     let taken = c.before.before.before.before.before.before.before.before.before.before.before.before.if1.true in
     let stowed = c.before.before.before.before.before.before.before.before.before.before.stow.ensures in
     let wrote = c.before.before.before.before.finish.ensures in
     let begun = c.before.before.before.before.before.before.before.begin.ensures in (
-      accepted_answer _ _ answer octets taken _ _ (now start.before.args.out) stowed _ (rw begun at wrote.0),
-      accepted_output _ _ answer octets taken _ _ (now start.before.args.out) stowed _ (rw begun at wrote.1),
+      accepted_answer _ _ answer octets taken _ _ start.before.args.out.now stowed _ (rw begun at wrote.0),
+      accepted_output _ _ answer octets taken _ _ start.before.args.out.now stowed _ (rw begun at wrote.1),
       wrote.2 ∙ stowed.same,
     )
 

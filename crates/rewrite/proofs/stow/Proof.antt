@@ -1,6 +1,6 @@
 -- `rewrite::stow` meets its contract. The invariant is `Head`, each turn is `head_next`, there is always a next unit (`head_more`), and no record
 -- offends (`fine_at`).
-use Rattle.element.proofs.Names.{arith, suc, ◌-◌, ◌≡◌, now}
+use Rattle.element.proofs.Names.{arith, suc, ◌-◌, ◌≡◌}
 use Rattle.grammar.specs.Reading.{Octets}
 use Rattle.read.proofs.Filled.{short}
 use Rattle.rewrite.proofs.Unoffending.{fine_at}
@@ -31,7 +31,7 @@ loop_again c =
     let loop = turn.before.loop in
     let entry = turn.before.before.before in
     let start = entry.before in
-    let octets : Octets (now start.args.s) = λ i. omega (arith, entry.shared-slice-known.given i) in
+    let octets : Octets start.args.s.now = λ i. omega (arith, entry.shared-slice-known.given i) in
     let more = turn.loop-test.true in
     let all = start.requires.1 in
     head_next _ (short _ start.requires.0) _ _ _ _ _ loop.invariant (omega arith) _ _ _ _ _ found.next-unit.ensures

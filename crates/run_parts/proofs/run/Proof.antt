@@ -5,7 +5,6 @@ use denote.Ref.{Bor}
 use Rattle.walks.proofs.Names.{◌≡◌, refl, ℕ, ◌-◌, ◌<◌, ◌^◌, [], ◌∷◌, List, length, named, w64, w8, Val, vint, SProp, Sq, prop, id⊢, flft, ‵, ◌⊛◌}
 use Rattle.walks.proofs.Names.{◌$◌, !, by, move, let_go, split, join, frame, and_then, no_more, Is, uint_Makes, u8, RefT, nothing, says}
 use Rattle.walks.proofs.Names as kit
-use Rattle.element.proofs.Names.{now}
 use denote.Struct.Laws as LL
 use Rattle.walks.proofs.Body.{𝓣of}
 use Rattle.walks.proofs.Data.{Data, number, struct, Params, shared, by_value, stays}
@@ -68,7 +67,7 @@ module _ {M : Type 1} {𝓤 : kit.Ura M} (𝓛 : Logic 𝓤) (𝓜 : kit.Model �
 
   -- what `part` ensures of its result
   abbrev IsPart : Bor (List ℕ) → Type 0
-  IsPart r = (now r ≡ kit.take (g.end - g.start) (kit.drop g.start (now s))) × StartsAt r s g.start
+  IsPart r = (r.now ≡ kit.take (g.end - g.start) (kit.drop g.start s.now)) × StartsAt r s g.start
 
   exits : Is B.the_row g (B'.lowered g ∷ []) → (r : Bor (List ℕ)) → IsPart r → Sq 𝓛 (‵ (Own r) ∷ (‵ (flft κ q) ⊛ ‵ (Own s)) ∷ [])
       (prop (End 𝓛 this.ended params clauses y (T'.lowered (made r))))

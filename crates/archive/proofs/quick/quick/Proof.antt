@@ -1,6 +1,6 @@
 -- `archive::quick::quick` meets its contract: in each turn a stretch (`after_stretch`) and a designation (`after_told`) lead on, under the sets that
 -- they leave, and the two parts of the row are those of the sets.
-use Rattle.element.proofs.Names.{ℕ, ◌+◌, ◌-◌, ◌<◌, ◌≤◌, arith, ◌≡◌, refl, ap, sym, ◌∙◌, length, get_or, from, now, form_of, no_set, Side, GL, GR, on, put}
+use Rattle.element.proofs.Names.{ℕ, ◌+◌, ◌-◌, ◌<◌, ◌≤◌, arith, ◌≡◌, refl, ap, sym, ◌∙◌, length, get_or, from, form_of, no_set, Side, GL, GR, on, put}
 use Rattle.designations.specs.Designation.{form_after, designation_at}
 use Rattle.state.specs.State.{sets}
 use Rattle.octet_stretches.proofs.Laws.{fits}
@@ -28,7 +28,7 @@ row_parts left right high low e f =
 -- after the stretch of a turn
 after_stretch : (c : tie.After-stretch-in invariant-loop decreases-loop)
     → let start = c.before.before.before.before.before.before.before.before.before in let turn = c.before.before.loop in
-    Reaches (now start.args.t) (now start.args.s) start.args.at (sets start.args.gl start.args.gr) (turn.i + c.stretch-in.result.octets)
+    Reaches start.args.t.now start.args.s.now start.args.at (sets start.args.gl start.args.gr) (turn.i + c.stretch-in.result.octets)
     (sets turn.left turn.right) (turn.n + c.stretch-in.result.units)
 after_stretch c =
     let turn = c.before.before.loop in
@@ -38,7 +38,7 @@ after_stretch c =
 -- what is told after it is a designation, where it names a set, and its form is known
 after_told : (c : tie.After-told invariant-loop decreases-loop) → c.told.result.set < no_set
     → let turn = c.before.before.before.before.before.before.before.before in
-    let s = now turn.before.before.before.before.before.before.before.before.before.args.s in
+    let s = turn.before.before.before.before.before.before.before.before.before.args.s.now in
     let i = turn.before.before.loop.i + turn.stretch-in.result.octets in
     (c.told.result ≡ designation_at (from i s)) × (form_of c.told.result.set ≡ form_after (get_or s (i + 1) 0))
 after_told c h =
@@ -50,7 +50,7 @@ after_designation : (c : tie.After-told invariant-loop decreases-loop) → c.tol
     → let at-stretch = c.before.before.before.before.before.before.before.before in
     let start = at-stretch.before.before.before.before.before.before.before.before.before in
     let turn = at-stretch.before.before.loop in
-    Reaches (now start.args.t) (now start.args.s) start.args.at (sets start.args.gl start.args.gr)
+    Reaches start.args.t.now start.args.s.now start.args.at (sets start.args.gl start.args.gr)
     (turn.i + at-stretch.stretch-in.result.octets + c.told.result.octets) (put (on d c.told.result.set) (sets turn.left turn.right))
     (turn.n + at-stretch.stretch-in.result.units)
 after_designation c h d e =

@@ -1,5 +1,5 @@
 -- `archive::whole::text_at` meets its contract: the entry of the octet in the row of the sets is its class.
-use Rattle.element.proofs.Names.{ℕ, ◌+◌, ◌-◌, arith, ◌≡◌, sym, ◌∙◌, subst, now}
+use Rattle.element.proofs.Names.{ℕ, ◌+◌, ◌-◌, arith, ◌≡◌, sym, ◌∙◌, subst}
 use Rattle.octet_stretches.specs.Stretched.{Entry}
 use Rattle.octet_table.proofs.Rule.{row_low}
 use Rattle.archive_laws.specs.Passes.{Classed, row_at}
@@ -23,11 +23,11 @@ text_at_spec =
     let low = row_low _ _ at_row.ensures in
     let k = c.before.class-at.result in
     let f : at_row.result + 256 - at_row.result ≡ 256 = omega arith in
-    let entry : Entry (row_at at_row.result (now start.args.t)) (now start.args.s) start.args.at k
-    = (rw f at c.before.class-at.ensures).entry (row_length at_row.result (now start.args.t) (omega (arith, low, start.requires.0)))
+    let entry : Entry (row_at at_row.result start.args.t.now) start.args.s.now start.args.at k
+    = (rw f at c.before.class-at.ensures).entry (row_length at_row.result start.args.t.now (omega (arith, low, start.requires.0)))
     start.requires.1 in
     record {
       number = k;
-      classed = subst (λ (r : ℕ). Classed r (now start.args.s) start.args.at k) at_row.ensures (classed _ _ _ is low entry);
+      classed = subst (λ (r : ℕ). Classed r start.args.s.now start.args.at k) at_row.ensures (classed _ _ _ is low entry);
       text = sym c.text-class.ensures ∙ e;
     }))

@@ -1,7 +1,7 @@
 -- `archive::whole::whole` meets its contract: at each turn of the loop what is left answers what the whole string does (`Head`). What is passed at
 -- once leads on (`turn_on`), so this holds where the two ways meet, of a mark and of anything else (`ahead`); and the element there is a turn of the
 -- first reader's check.
-use Rattle.element.proofs.Names.{◌-◌, ◌≤◌, arith, ◌∙◌, length, now, on_lt, on_ge, ⊎_elim}
+use Rattle.element.proofs.Names.{◌-◌, ◌≤◌, arith, ◌∙◌, length, on_lt, on_ge, ⊎_elim}
 use Rattle.grammar.specs.Reading.{check_of}
 use Rattle.check_string.proofs.Turn.{turn_done, turn_ends, turn_refuses, turn_stops}
 use Rattle.archive_laws.proofs.Turn.{HeadBy, first_by, turn_on, refuses_fits, designates_by, goes_by}
@@ -17,7 +17,7 @@ decreases-loop t s at₀ count₀ st₀ at count st = length s - at
 -- where the ways meet
 ahead : (j : tie.Joined2 invariant-loop decreases-loop)
     → let start = j.before.before.before.before.before.before.before in
-    HeadBy (now start.args.t) (now start.args.s) j.if2.at j.if2.count j.if2.st
+    HeadBy start.args.t.now start.args.s.now j.if2.at j.if2.count j.if2.st
     × (j.before.before.before.loop.at ≤ j.if2.at)
 ahead j =
     let inv = j.before.before.before.loop.invariant in

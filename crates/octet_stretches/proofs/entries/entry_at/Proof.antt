@@ -1,5 +1,5 @@
 -- `octet_stretches::entries::entry_at` meets its contract: the octet is below 256, so it has an entry in the row.
-use Rattle.element.proofs.Names.{ℕ, arith, ap, get_or, now}
+use Rattle.element.proofs.Names.{ℕ, arith, ap, get_or}
 use Rattle.octet_stretches.proofs.entries.entry_at.Statement.{statement}
 use Rattle.octet_stretches.proofs.entries.entry_at.Tie as tie
 
@@ -12,5 +12,5 @@ entry_at_spec =
     record {
       inside = start.requires.1;
       octet = omega (arith, w.0, w.1);
-      is = ap (λ (n : ℕ). get_or (now start.args.row) n 0) w.0;
+      is = ap (λ (n : ℕ). get_or start.args.row.now n 0) w.0;
     }))

@@ -1,6 +1,6 @@
 -- `octet_stretches::two_octets::doubles` meets its contract: from the place on only octets of 21-7E stand, and the first has the entry of two octets in
 -- GL, so as many characters of two octets as are whole; and then those that are found octet by octet.
-use Rattle.element.proofs.Names.{ℕ, ◌+◌, ◌-◌, ◌%◌, ◌<◌, ◌≤◌, arith, ◌≡◌, List, length, now}
+use Rattle.element.proofs.Names.{ℕ, ◌+◌, ◌-◌, ◌%◌, ◌<◌, ◌≤◌, arith, ◌≡◌, List, length}
 use Rattle.octet_blocks.specs.Blocks.{Within}
 use Rattle.octet_blocks.proofs.Counted.{within_none, blocks_more}
 use Rattle.octet_blocks.proofs.Octets.{leading_passed, leading_few}
@@ -17,7 +17,7 @@ decreases-loop row s at end i₀ i = length s - i
 
 -- what is found of a word
 after_leading : (c : tie.After-leading invariant-loop decreases-loop)
-    → let s = now c.before.before.before.before.before.args.s in let i = c.before.before.loop.i in
+    → let s = c.before.before.before.before.before.args.s.now in let i = c.before.before.loop.i in
     Within 0x21 0x7E s i (i + c.leading.result) × (c.leading.result ≤ 8)
 after_leading c =
     let inv = c.before.before.loop.invariant in (
@@ -34,7 +34,7 @@ eight s at i n a b h =
 -- the words, and what follows them
 after_pairs : (c : tie.After-pairs invariant-loop decreases-loop)
     → let start = c.before.before.before.before.before.before in let words = c.before.pairs-to3.result in
-    Stretched (now start.args.row) (now start.args.s) start.args.at
+    Stretched start.args.row.now start.args.s.now start.args.at
     (start.args.at + (words.octets + c.pairs.result.octets)) (words.units + c.pairs.result.units)
 after_pairs c =
     let words = c.before.pairs-to3.ensures in

@@ -1,0 +1,16 @@
+-- `designation::multi_octet` meets its contract, arm by arm.
+use Rattle.element.proofs.Names.{arith, ladder}
+use Rattle.designations.specs.Designation.{multi_octet_at}
+use Rattle.designations.proofs.multi_octet.Goals as goal
+
+pub returns-in-40 : goal.returns-in-40
+unfolding multi_octet_at
+returns-in-40 c = search ladder depth 9
+
+pub returns-in-41 : goal.returns-in-41
+unfolding multi_octet_at
+returns-in-41 c = search ladder depth 9
+
+pub returns-in_default : goal.returns-in_default
+unfolding multi_octet_at
+returns-in_default c = search ladder depth 9

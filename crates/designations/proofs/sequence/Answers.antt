@@ -1,0 +1,24 @@
+-- `designation::sequence` meets its contract, arm by arm.
+use Rattle.element.proofs.Names.{arith, ladder}
+use Rattle.designations.specs.Designation.{sequence_of}
+use Rattle.designations.proofs.sequence.Goals as goal
+
+pub returns-in-36 : goal.returns-in-36
+unfolding sequence_of
+returns-in-36 c = search ladder depth 9
+
+pub returns-in-40 : goal.returns-in-40
+unfolding sequence_of
+returns-in-40 c = search ladder depth 9
+
+pub returns-in-41 : goal.returns-in-41
+unfolding sequence_of
+returns-in-41 c = search ladder depth 9
+
+pub returns-in-45 : goal.returns-in-45
+unfolding sequence_of
+returns-in-45 c = search ladder depth 9
+
+pub returns-in_default : goal.returns-in_default
+unfolding sequence_of
+returns-in_default c = search ladder depth 9

@@ -1,0 +1,6 @@
+-- `element::element` meets its contract, by what it calls.
+use native.Mathlib.Omega.{arith}
+use Rattle.element.proofs.element.Goals as goal
+
+pub returns : goal.returns
+returns c = rw (← c.shape.ensures) c.directed.ensures

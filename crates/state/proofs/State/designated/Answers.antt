@@ -1,0 +1,12 @@
+-- `State::designated` meets its contract on each side.
+use native.Mathlib.Omega.{arith}
+use Rattle.state.specs.State.{put}
+use Rattle.state.proofs.State.designated.Goals as goal
+
+pub returns-in-GL : goal.returns-in-GL
+unfolding put
+returns-in-GL c = rw c.in-GL.is
+
+pub returns-in-GR : goal.returns-in-GR
+unfolding put
+returns-in-GR c = rw c.in-GR.is

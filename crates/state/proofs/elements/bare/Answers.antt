@@ -1,0 +1,6 @@
+-- `element::bare` meets its contract, by what `counts_as_text` ensures.
+use native.Mathlib.Omega.{arith}
+use Rattle.state.proofs.elements.bare.Goals as goal
+
+pub returns : goal.returns
+returns c = rw c.counts_as_text-text.ensures
