@@ -10,7 +10,8 @@ returns-then-s-at c = search reading depth 9
 
 pub returns-then-s-at-eq27 : goal.returns-then-s-at-eq27
 unfolding advance_at
-returns-then-s-at-eq27 c = let h = c.text_or_element-then-s-at-eq27.ensures ∙ ap (text_turn _) (c.passed-then-s-at-eq27.ensures ∙ ap (passed_of _) c.passed.ensures) in
+returns-then-s-at-eq27 c =
+    let h = c.text_or_element-then-s-at-eq27.ensures ∙ ap (text_turn _) (c.passed-then-s-at-eq27.ensures ∙ ap (passed_of _) c.passed.ensures) in
     search reading depth 9
 
 pub returns : goal.returns
