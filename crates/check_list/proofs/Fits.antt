@@ -1,10 +1,10 @@
 -- A record that is not refused fits a row, and the row's unit is the record's.
 use Rattle.element.proofs.Names.{ℕ, ◌+◌, ◌-◌, ◌/◌, ◌%◌, ◌≤◌, ◌<◌, arith, ◌≡◌, refl, sym, ap, ap₂, ◌∙◌, subst, true, List, some}
-use Rattle.element.proofs.Names.{Option·some-injective, eqb, ltb, length, set, take, drop, eqb-true, eqb-false, ne_eqb, lt-ltb, ltb-true, ltb-false}
+use Rattle.element.proofs.Names.{Option·some-injective, eqb, ltb, length, take, drop, eqb-true, eqb-false, ne_eqb, lt-ltb, ltb-true, ltb-false}
 use Rattle.element.proofs.Names.{leb-true, pick, UnitRecord, off, clash, test, from-tests, form_of}
 use Rattle.base.specs.Kind as kind
 use Rattle.charset.proofs.Laws.{narrow_form, wide_form}
-use Rattle.grammar.specs.Units.{TextUnit, char, space, control, ext, control_of, unit_of, code_used, segment, good}
+use Rattle.grammar.specs.Units.{TextUnit, char, space, control, ext, control_of, unit_of, code_used, good}
 use Rattle.grammar.proofs.Good.{one_code, two_code, good_segment}
 use Rattle.grammar.specs.Records.{readable, unit_read}
 use Rattle.rows.specs.Rows.{count_of, text_tagged, unit_tagged, tag_of, number_of}

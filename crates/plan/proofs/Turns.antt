@@ -33,14 +33,14 @@ module _ (last x : ℕ) (before after : List ℕ) (l : length before ≡ 80) whe
       record { still = λ _. (refl, refl, refl); moved = λ q. absurd (false≢true (sym e ∙ q)); low = h; small = omega arith; long = refl }
 
   module _ (s : Columns (λ g r. least_by x before (16 * g + r)) 16 after) where
-    now : (k : ℕ) → k < 80 → get_or after k 0 ≡ least_by x before k
-    k.now h = columns_at (λ m. least_by x before m) s k h
+    now_at : (k : ℕ) → k < 80 → get_or after k 0 ≡ least_by x before k
+    now_at k h = columns_at (λ m. least_by x before m) s k h
 
     pub turned_moved : changes last x ≡ true → get_or after 1 0 ≤ 200 → Turned last x before 0 x after
     turned_moved e h =
         record {
           still = λ q. absurd (true≢false (sym e ∙ q));
-          moved = λ q. (refl, λ k hk. omega (arith, k.now hk));
+          moved = λ q. (refl, λ k hk. omega (arith, now_at k hk));
           low = h;
           small = omega arith;
           long = s.long ∙ sym l;
@@ -49,7 +49,7 @@ module _ (last x : ℕ) (before after : List ℕ) (l : length before ≡ 80) whe
     module _ (n : (k m : ℕ) → k < 80 → m < 80 → least_by x before k ≤ 8 + least_by x before m) (h : 200 < get_or after 1 0) where
       -- every cost is near the one at 1
       turned-near : (k : ℕ) → k < 80 → 128 ≤ get_or after k 0
-      turned-near k hk = omega (arith, n 1 k (omega arith) hk, k.now hk, now 1 (omega arith))
+      turned-near k hk = omega (arith, n 1 k (omega arith) hk, now_at k hk, now_at 1 (omega arith))
 
       pub turned_lowered : (last-costs : List ℕ) → changes last x ≡ true → ((j : ℕ) → get_or before j 0 ≤ 208)
           → FilledTo (λ k. k) (λ k. get_or after k 0 - 128) (length after) after last-costs
@@ -57,8 +57,8 @@ module _ (last x : ℕ) (before after : List ℕ) (l : length before ≡ 80) whe
       turned_lowered last-costs e u d =
           record {
             still = λ q. absurd (true≢false (sym e ∙ q));
-            moved = λ q. (refl, λ k hk. omega (arith, d.there k (omega (arith, s.long)), turned-near k hk, k.now hk));
-            low = omega (arith, d.there 1 (omega (arith, s.long)), least_by_most x before 208 u 1, now 1 (omega arith));
+            moved = λ q. (refl, λ k hk. omega (arith, d.there k (omega (arith, s.long)), turned-near k hk, now_at k hk));
+            low = omega (arith, d.there 1 (omega (arith, s.long)), least_by_most x before 208 u 1, now_at 1 (omega arith));
             small = omega arith;
             long = d.long ∙ s.long ∙ sym l;
           }

@@ -5,7 +5,7 @@ use Rattle.element.proofs.Names.{ℕ, suc, zero, ◌+◌, ◌-◌, ◌*◌, ◌�
 use Rattle.element.proofs.Names.{List, [], ◌∷◌}
 use Rattle.element.proofs.Names.{◌++◌, some, ◌⊎◌, inl, inr, ⊎_elim, true≢false, eqb, leb, ltb, eqb-true, eqb-false, ltb-true, ltb-false, leb-true}
 use Rattle.element.proofs.Names.{leb-false}
-use Rattle.element.proofs.Names.{ne_eqb, le-leb, length, get_or, drop, length-append, sets, test, pick_by, pick_last, pick, UnitRecord}
+use Rattle.element.proofs.Names.{ne_eqb, le-leb, length, get_or, drop, length-append, test, pick_by, pick_last, pick, UnitRecord}
 use Rattle.element.proofs.Names.{fresh, clash, not-suc-le-zero, Sets}
 use mathlib.Core.List.{append_assoc}
 use native.Mathlib.Nat.{le_of_suc-le-suc, eq-or-lt_of_le}

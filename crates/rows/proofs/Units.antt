@@ -2,7 +2,7 @@
 use Rattle.element.proofs.Names.{ℕ, ◌+◌, ◌≤◌, ◌<◌, arith, ◌≡◌, ◌∙◌, false, ◌&&◌, List, length, take, drop, length-take, length-drop, eqb, leb, ltb}
 use Rattle.element.proofs.Names.{eq-eqb, lt-ltb, le-ltb, le-leb, lt-leb, ltb-true, ltb-false, ne_eqb, pick, test, tested}
 use Rattle.base.proofs.Bools.{and_second}
-use Rattle.grammar.specs.Units.{control, tab, newline, revert, ext, control_of}
+use Rattle.grammar.specs.Units.{control, revert, ext, control_of}
 use Rattle.rows.specs.Rows.{count_of, part_of, text_tagged, mark_tagged, other_tagged, unit_tagged}
 use Rattle.rows.specs.Tag as tag
 

@@ -10,7 +10,7 @@ use Rattle.base.specs.Limit as limit
 use Rattle.base.specs.Refusal as refusal
 use Rattle.grammar.specs.Units.{TextUnit, kind_of, text_in, good}
 use Rattle.grammar.specs.Records.{unit_read, list_reading}
-use Rattle.grammar.proofs.Before.{with_text, counted_before, Behind, Steps, go, stop, unit_steps, behind_fresh}
+use Rattle.grammar.proofs.Before.{with_text, counted_before, Behind, Steps, go, stop, now, unit_steps, behind_fresh}
 use Rattle.shortest.specs.Records.{own, fault, Finding, fine, faulty, on_step, check_records, after_check, of_reading, work_room, writer_answer, output_of}
 use Rattle.shortest.specs.Records.{writer_output}
 

@@ -235,11 +235,11 @@ not_both space a b p q = omega (arith, p.0, q.1)
 not_both (control x) a b p q = p
 not_both (ext n xs) a b p q = p
 
-one_way : {us : List TextUnit} {os ps : List (Option Standing)} → Before us os ps → Before us ps os → ⊥
-one_way (here u a b p) (here _ _ _ q) = not_both u a b p q
-one_way (here u a b p) (later _ o q) = not_both u a a p p
-one_way (later u o p) (here _ a b q) = not_both u a a q q
-one_way (later u o p) (later _ _ q) = one_way p q
+one_way : {us : List TextUnit} {os ps os' ps' : List (Option Standing)} → Before us os ps → Before us ps' os' → os ≡ os' → ps ≡ ps' → ⊥
+one_way (here u a b p) (here _ c d q) e f = let h : a ≡ d = cc in let k : b ≡ c = cc in not_both u a b p (rw (h, k) q)
+one_way (here u a b p) (later _ o q) e f = let h : b ≡ a = cc in not_both u a a (rw h at p) (rw h at p)
+one_way (later u o p) (here _ c d q) e f = let h : d ≡ c = cc in not_both u c c (rw h at q) (rw h at q)
+one_way (later {os = os} {ps = ps} u o p) (later {os = ps'} {ps = os'} _ _ q) e f = let h : os ≡ os' = cc in let k : ps ≡ ps' = cc in one_way p q h k
 
 pub one_choice : (us : List TextUnit) (s : Sets) (os : List (Option Standing)) (t : List ℕ) → Legal s → Good us → Chosen us s os t
     → t ≡ writing us s
@@ -257,4 +257,4 @@ one_choice us s os t l g c = go (first l c.lazy (same ∙ writing_length us s)) 
     go : (os ≡ choices us s) ⊎ Before us (choices us s) os → (choices us s ≡ os) ⊎ Before us os (choices us s) → t ≡ writing us s
     go (inl e) y = equal e
     go (inr x) (inl e) = equal (sym e)
-    go (inr x) (inr y) = absurd (one_way x y)
+    go (inr x) (inr y) = absurd (one_way x y refl refl)

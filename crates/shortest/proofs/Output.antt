@@ -2,7 +2,7 @@
 -- its first place and the rest stays (`accepted_output`), which is the string of rule W4 (`output_chosen`, `output_one`) and
 -- is accepted and reads as the list (`output_read`). Its length stays (`output_length`). And 1 for the writing comes exactly where every
 -- string of the reading is over the limit (`over_limit`).
-use Rattle.element.proofs.Names.{ℕ, ◌<◌, arith, ◌≡◌, sym, ap, ap₂, ◌∙◌, subst, List, Option, none, some, Option·some-injective, ◌↔◌, length, take}
+use Rattle.element.proofs.Names.{ℕ, ◌<◌, arith, ◌≡◌, sym, ap, ap₂, ◌∙◌, subst, List, Option, some, Option·some-injective, ◌↔◌, length, take}
 use Rattle.element.proofs.Names.{drop, length-append, length-drop, take-append_seam, eqb, eqb-true, eqb-false, eq-eqb, ne_eqb, Answer, UnitRecord, test}
 use Rattle.element.proofs.Names.{Standing, fresh, undirected}
 use Rattle.base.specs.Limit as limit

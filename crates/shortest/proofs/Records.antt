@@ -6,7 +6,7 @@ use Rattle.element.proofs.Names.{◌↔◌, length, take, drop, eqb, ltb, UnitRe
 use lib.ListN.{take-append-drop}
 use Rattle.base.specs.Kind as kind
 use Rattle.base.specs.Limit as limit
-use Rattle.grammar.specs.Units.{TextUnit, space, unit_of, good}
+use Rattle.grammar.specs.Units.{TextUnit, unit_of, good}
 use Rattle.grammar.specs.Reading.{direct, Octets, ReadAs}
 use Rattle.grammar.proofs.Rule.{directed, passes, direction_rule}
 use Rattle.shortest.specs.Writing.{shortest_of, shortest_count, Every, Good, Contents}

@@ -4,7 +4,7 @@ use Rattle.element.proofs.Names.{ℕ, ◌+◌, ◌≤◌, arith, ◌≡◌, refl
 use Rattle.element.proofs.Names.{test, Answer, State}
 use Rattle.base.specs.Limit as limit
 use Rattle.base.specs.Refusal as refusal
-use Rattle.element.proofs.Pointed.{Pointed, at_length, at_octet, at_start, element_pointed}
+use Rattle.element.proofs.Pointed.{Pointed, at_length, at_octet, at_start, element_pointed, passes}
 use Rattle.grammar.specs.Reading.{Elements, answer_of, check_of}
 use Rattle.grammar.proofs.Places.{Ahead, ends, stops, passes, reads, from_start, refused_within}
 use Rattle.grammar.proofs.Pointed.{stop_in, refused_element, refused_place}
@@ -14,6 +14,7 @@ of_number : {t : List ℕ} {st : State} {n o : ℕ} → Pointed t st (Refused n 
 of_number (at_length e) = omega arith
 of_number (at_octet m n h e d) = omega (arith, n.1)
 of_number (at_start m n h d) = n.1
+of_number (passes x _) = elim x [ ]
 
 -- it ends, where it accepts, within the string
 end_within : (t : List ℕ) (c : ℕ) {at : ℕ} {st : State} {es : Elements} → Ahead t at st es → at ≤ length t

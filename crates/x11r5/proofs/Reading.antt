@@ -10,7 +10,7 @@ use Rattle.base.specs.Refusal as refusal
 use Rattle.element.proofs.Sizes.{Fit}
 use Rattle.grammar.specs.Reading.{Elements, elements_of, answer_of, check_of, reading_of, Octets}
 use Rattle.grammar.proofs.Agrees.{agrees, fresh_legal, accepted_whole, accepted_where as base-accepted}
-use Rattle.grammar.proofs.Places.{reads, from_start}
+use Rattle.grammar.proofs.Places.{from_start}
 use Rattle.grammar.proofs.Pointed.{cut_at_length}
 use Rattle.x11r5.specs.Reading.{before_null, unsupported_at, supported_of, unended_check_of, null_ended_check_of}
 use Rattle.x11r5.specs.Theorems.{NoNull, Supported}

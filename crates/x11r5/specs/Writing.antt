@@ -3,7 +3,7 @@ use Rattle.std.specs.Prelude.{ℕ, Bool, cond, List, [], ◌∷◌, ◌++◌, le
 use Rattle.std.proofs.Math.Option.{Option, none, some}
 use Rattle.base.specs.Kind as kind
 use Rattle.charset.specs.Charsets.{allowed}
-use Rattle.charset.specs.declared.Side.{Side, TheVariants.GL, TheVariants.GR}
+use Rattle.charset.specs.declared.Side.{TheVariants.GL, TheVariants.GR}
 use Rattle.grammar.specs.Units.{TextUnit, char, space, control, ext, kind_of, octets}
 use Rattle.shortest.specs.Writing.{Need, free, either, met, used, after, designated}
 use Rattle.state.specs.State.{Standing, on, fresh}

@@ -3,9 +3,6 @@ use Rattle.element.proofs.Names.{ladder}
 use Rattle.read.specs.Listing.{read_answer}
 use Rattle.archive.proofs.answer.Goals as goal
 
-pub check_by-a-requires : goal.check_by-a-requires
-check_by-a-requires c = c.requires
-
 pub returns-then-room-a : goal.returns-then-room-a
 unfolding read_answer
 returns-then-room-a c = rw (← c.check_by-a.ensures) (search ladder)

@@ -1,5 +1,5 @@
--- `archive::read_by` meets its contract: after i units the cursor and the list are those after i steps of the definition (`cur` and `got` in
--- `Filled`), and at the end the list is `list_after` (`filled`).
+-- `archive::read_by` meets its contract: after i units the cursor and the list are those after i units of the elements (`cur` and `got` in `Filled`),
+-- and at the end the list is that of the contract (`filled`).
 use Rattle.std.proofs.Common.{◌-◌, ◌≡◌, ◌≤◌}
 use Rattle.archive.specs.Turns.{rowed}
 use Rattle.archive.proofs.Filled.{cur, got}

@@ -3,9 +3,6 @@ use Rattle.element.proofs.Names.{◌∙◌}
 use Rattle.archive.proofs.Ready.{inside, row_fits, ready_passed, turn_passed}
 use Rattle.archive.proofs.turns.escaped.Goals as goal
 
-pub passed-d-requires : goal.passed-d-requires
-passed-d-requires c = c.requires.1
-
 pub class_at-k-requires : goal.class_at-k-requires
 class_at-k-requires c = let pre = c.requires in
     let ready = ready_passed _ _ pre.1 _ c.passed-d.ensures in (pre.0, row_fits _ _ ready, inside _ _ ready)

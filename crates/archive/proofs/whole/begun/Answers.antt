@@ -10,9 +10,6 @@ returns-then-directions c = λ _. leads_none _ _ _ (omega (arith, c.requires.1))
 pub returns-then-directions-2 : goal.returns-then-directions-2
 returns-then-directions-2 c = λ _. leads_none _ _ _ (omega (arith, c.requires.1))
 
-pub text_at-requires : goal.text_at-requires
-text_at-requires c = c.requires
-
 pub returns-then-text_at : goal.returns-then-text_at
 returns-then-text_at c = λ is. rw c.directed.ensures (begun_leads _ c.if-directions.false _ _ (c.text_at.ensures is c.if-text_at.true))
 

@@ -4,9 +4,6 @@ use Rattle.archive_laws.proofs.Passes.{leads_on}
 use Rattle.archive_laws.proofs.Turn.{blanks_lead}
 use Rattle.archive.proofs.whole.passed.Goals as goal
 
-pub quick-requires : goal.quick-requires
-quick-requires c = c.requires
-
 pub returns-then-settled : goal.returns-then-settled
 returns-then-settled c = let r = c.quick.ensures in
     record {
@@ -14,15 +11,6 @@ returns-then-settled c = let r = c.quick.ensures in
       within = r.within;
       leads = λ is. r.leads is _ (sym c.settled.ensures ∙ c.if-settled.true);
     }
-
-pub placed-d-requires : goal.placed-d-requires
-placed-d-requires c = c.requires.1
-
-pub blanks-i-requires : goal.blanks-i-requires
-blanks-i-requires c = c.requires.0
-
-pub overflow_sub-i : goal.overflow_sub-i
-overflow_sub-i c = c.blanks-i.ensures.since
 
 pub returns : goal.returns
 returns c = let placed = c.placed-d.ensures.0 in

@@ -1,0 +1,24 @@
+-- `write::finish` meets its contract, by the length of the list and by how far it is checked.
+use Rattle.element.proofs.Names.{refl, ◌∙◌}
+use Rattle.write.proofs.Finishes.{finish_long, finish_fine, finish_faulty}
+use Rattle.write.proofs.finish.Goals as goal
+
+pub returns-then-n-gt-UNITS : goal.returns-then-n-gt-UNITS
+returns-then-n-gt-UNITS c = let args = c.args in
+    let f = finish_long args.progress args.n args.segments.now args.work.now args.out.now c.if-n-gt-UNITS.true in
+    (c.refused.ensures ∙ f.0, f.1, refl)
+
+pub returns-in-Fine : goal.returns-in-Fine
+returns-in-Fine c = let args = c.args in
+    let few = c.if-n-gt-UNITS.false in
+    let fine = c.in-Fine.is in
+    let written = c.write_rows.ensures in
+    let f = finish_fine args.progress args.n args.segments.now args.work.now args.out.now _ few fine in
+    (written.0 ∙ f.0, written.1 ∙ f.1, written.2)
+
+pub returns-in-Faulty : goal.returns-in-Faulty
+returns-in-Faulty c = let args = c.args in
+    let few = c.if-n-gt-UNITS.false in
+    let faulty = c.in-Faulty.is in
+    let f = finish_faulty args.progress args.n args.segments.now args.work.now args.out.now _ _ few faulty in
+    (c.refused-in-Faulty.ensures ∙ f.0, f.1, refl)
