@@ -1,5 +1,5 @@
 -- A step more is a step of the reader after i steps.
-use Rattle.std.proofs.Common.{◌≡◌, ℕ, ◌∙◌, ap, sym, refl, suc, add-one, arith}
+use Rattle.std.proofs.Common.{◌≡◌, ℕ, ◌∙◌, ap, refl, add-one, arith}
 use native.Mathlib.Nat.{le_antisymm}
 use Rattle.reader.specs.Reader.{opened, item_at, moved, reader_after}
 use Rattle.reader.proofs.Whole.{opened_items}

@@ -1,5 +1,5 @@
 -- `by_value::nth` meets its contract: after i items the reader is the one after i steps, which hands out item i (`opened_items`).
-use Rattle.std.proofs.Common.{◌-◌, ◌≡◌, ℕ, ◌≤◌}
+use Rattle.std.proofs.Common.{◌-◌, ◌≡◌, ◌≤◌}
 use Rattle.reader.specs.Reader.{reader_after}
 use Rattle.by_value.proofs.nth.Given as goal
 

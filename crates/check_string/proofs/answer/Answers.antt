@@ -1,5 +1,5 @@
 -- `check_string::answer` meets its contract, by what `check` ensures.
-use Rattle.element.proofs.Names.{arith, ap}
+use Rattle.element.proofs.Names.{ap}
 use Rattle.check_string.specs.declared.Checked.{Checked}
 use Rattle.check_string.proofs.answer.Goals as goal
 

@@ -1,5 +1,4 @@
 -- `check_string::check` meets its contract, by what `whole` ensures.
-use Rattle.element.proofs.Names.{arith}
 use Rattle.check_string.proofs.check.Goals as goal
 
 pub returns : goal.returns

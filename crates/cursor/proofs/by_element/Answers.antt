@@ -1,5 +1,5 @@
 -- `cursor::by_element` meets its contract, by the case of what it calls.
-use Rattle.element.proofs.Names.{arith, sym, ap, ◌∙◌}
+use Rattle.element.proofs.Names.{sym, ap, ◌∙◌}
 use Rattle.cursor.specs.Cursor.{outcome_turn, element_turn}
 use Rattle.units.specs.Next.{next_of}
 use Rattle.cursor.proofs.by_element.Goals as goal

@@ -1,5 +1,4 @@
 -- `cursor::double_turn` meets its contract, by what it calls.
-use Rattle.element.proofs.Names.{arith}
 use Rattle.cursor.proofs.double_turn.Goals as goal
 
 pub returns : goal.returns

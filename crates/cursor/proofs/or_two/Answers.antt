@@ -1,5 +1,4 @@
 -- `cursor::or_two` meets its contract, test by test.
-use Rattle.element.proofs.Names.{arith}
 use Rattle.cursor.specs.Cursor.{double_of}
 use Rattle.cursor.proofs.Rules.{reading}
 use Rattle.cursor.proofs.or_two.Goals as goal

@@ -1,5 +1,4 @@
 -- `cursor::single_turn` meets its contract, by what it calls.
-use Rattle.element.proofs.Names.{arith}
 use Rattle.cursor.proofs.single_turn.Goals as goal
 
 pub returns : goal.returns

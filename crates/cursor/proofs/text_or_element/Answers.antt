@@ -1,5 +1,5 @@
 -- `cursor::text_or_element` meets its contract, test by test: each return is a law on plain values, of the string and the cursor.
-use Rattle.element.proofs.Names.{ℕ, ◌+◌, ◌<◌, ◌≤◌, arith, ◌≡◌, true, false, List, length, get_or, from, on_false, on_lt, on_ge, sym, ◌∙◌}
+use Rattle.element.proofs.Names.{ℕ, ◌+◌, ◌<◌, ◌≤◌, ◌≡◌, true, false, List, length, get_or, from, on_false, on_lt, on_ge, sym, ◌∙◌}
 use Rattle.state.specs.State.{sets}
 use Rattle.charset.specs.Charsets.{first_double}
 use Rattle.cursor.specs.Cursor.{state_in, marked_turn, text_octet, set_at, single, double_of, octet_of, quick_of, text_turn}

@@ -1,5 +1,5 @@
 -- `read::answer` meets its contract. Assumes nothing.
-use Rattle.element.proofs.Names.{arith, ladder}
+use Rattle.element.proofs.Names.{ladder}
 use Rattle.read.specs.Listing.{read_answer}
 use Rattle.read.proofs.answer.Goals as goal
 

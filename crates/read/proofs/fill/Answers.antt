@@ -1,5 +1,5 @@
 -- What each turn stores is what `stored_from` stores there (`Fills`).
-use Rattle.std.proofs.Common.{◌≡◌, ℕ, ◌+◌, ◌-◌, suc, true, false, sym, ◌∙◌, ap, add-one, arith}
+use Rattle.std.proofs.Common.{◌≡◌, ◌-◌, suc, true, false, sym, ◌∙◌, add-one, arith}
 use Rattle.spans.specs.Spans.{stands_after}
 use Rattle.read.proofs.Fills.{count_over, count_stops, count_goes, stored_over_lem, stored_stops, stored_goes}
 use Rattle.read.proofs.fill.Goals as goal

@@ -1,6 +1,6 @@
 -- `read::fill` meets its contract: of a span, j units are passed and r.most - j may follow; the number and the list at the end are what they
 -- were to be at the start (`Fills`).
-use Rattle.std.proofs.Common.{◌-◌, ◌≡◌, ◌+◌, ◌≤◌, ℕ}
+use Rattle.std.proofs.Common.{◌-◌, ◌≡◌, ◌≤◌}
 use Rattle.read.specs.Stores.{count_from, stored_from}
 use Rattle.read.proofs.fill.Given as goal
 

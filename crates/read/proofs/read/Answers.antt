@@ -1,6 +1,6 @@
 -- Each turn stores a span of units, at least one and no more than are wanted (`count_some`, `count_most`), and moves the cursor past them
 -- (`cursor_next`, `list_next`).
-use Rattle.std.proofs.Common.{◌≡◌, ◌≤◌, ◌<◌, ◌+◌, ◌-◌, ◌*◌, ◌^◌, ◌∙◌, ap, ap₂, sym, subst, ℕ, length, List, arith}
+use Rattle.std.proofs.Common.{◌≡◌, ◌≤◌, ◌<◌, ◌+◌, ◌-◌, ◌*◌, ◌^◌, ◌∙◌, ap, ap₂, sym, ℕ, length, List, arith}
 use native.Mathlib.Nat.{le_antisymm}
 use Rattle.base.specs.declared.Unit.{Unit as UnitRecord}
 use Rattle.cursor.specs.declared.Cursor.{Cursor}

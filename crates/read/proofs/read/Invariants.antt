@@ -1,6 +1,6 @@
 -- `read::read` meets its contract: after i units the cursor and the list are those after i steps of the definition (`cur` and `got` in
 -- `Spanned`), and at the end the list is `list_after` (`filled`).
-use Rattle.std.proofs.Common.{◌-◌, ◌≡◌, ◌≤◌, ℕ}
+use Rattle.std.proofs.Common.{◌-◌, ◌≡◌, ◌≤◌}
 use Rattle.read.proofs.Spanned.{cur, got}
 use Rattle.read.proofs.read.Given as goal
 

@@ -1,5 +1,5 @@
 -- `reader::after` meets its contract. Assumes nothing.
-use Rattle.element.proofs.Names.{arith, sym, ap}
+use Rattle.element.proofs.Names.{sym, ap}
 use Rattle.reader.specs.Step.{after_of}
 use Rattle.reader.proofs.after.Goals as goal
 

@@ -1,5 +1,5 @@
 -- `reader::step` meets its contract. Assumes nothing.
-use Rattle.element.proofs.Names.{arith, ap, ◌∙◌, ladder}
+use Rattle.element.proofs.Names.{ap, ◌∙◌, ladder}
 use Rattle.reader.specs.Step.{after_of, step_at}
 use Rattle.reader.proofs.step.Goals as goal
 

@@ -1,5 +1,4 @@
 -- `spans::any_unit` meets its contract. Assumes nothing.
-use Rattle.element.proofs.Names.{arith}
 use Rattle.spans.proofs.any_unit.Goals as goal
 
 pub returns : goal.returns

@@ -1,5 +1,5 @@
 -- `spans::span_at` meets its contract, test by test. Assumes nothing.
-use Rattle.element.proofs.Names.{arith, ladder, on_eq, on_ne, on_lt, on_ge, on_gt}
+use Rattle.element.proofs.Names.{ladder, on_eq, on_ne, on_lt, on_ge, on_gt}
 use Rattle.spans.specs.Spans.{by_form, span_of}
 use Rattle.spans.proofs.span_at.Goals as goal
 

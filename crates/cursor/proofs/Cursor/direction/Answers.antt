@@ -1,5 +1,4 @@
 -- `cursor::Cursor::direction` meets its contract, by what it calls.
-use Rattle.element.proofs.Names.{arith}
 use Rattle.cursor.proofs.Cursor.direction.Goals as goal
 
 pub returns : goal.returns

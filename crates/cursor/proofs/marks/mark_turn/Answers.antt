@@ -1,5 +1,4 @@
 -- `marks::mark_turn` meets its contract, by the case of the step.
-use Rattle.element.proofs.Names.{arith}
 use Rattle.cursor.specs.Cursor.{step_turn}
 use Rattle.cursor.proofs.Marked.{mark_goes, mark_stops}
 use Rattle.cursor.proofs.marks.mark_turn.Goals as goal

@@ -1,5 +1,4 @@
 -- `marks::marked` meets its contract, test by test.
-use Rattle.element.proofs.Names.{arith}
 use Rattle.cursor.specs.Cursor.{after_csi, mark_of, marked_turn}
 use Rattle.cursor.proofs.Rules.{marking}
 use Rattle.cursor.proofs.marks.marked.Goals as goal

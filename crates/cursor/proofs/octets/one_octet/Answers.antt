@@ -1,5 +1,4 @@
 -- `octets::one_octet` meets its contract, by what it calls.
-use Rattle.element.proofs.Names.{arith}
 use Rattle.cursor.proofs.octets.one_octet.Goals as goal
 
 pub returns : goal.returns

@@ -16,7 +16,8 @@ pub entry_at-requires-then-entry_at-le-ONE_GR-3 : goal.entry_at-requires-then-en
 entry_at-requires-then-entry_at-le-ONE_GR-3 c = let pre = c.requires in (pre.0, omega arith)
 
 pub returns-then-entry_at-le-ONE_GR-3 : goal.returns-then-entry_at-le-ONE_GR-3
-returns-then-entry_at-le-ONE_GR-3 c = λ h. ones_four c.entry_at.ensures c.if-entry_at-le-ONE_GR.true c.entry_at-then-entry_at-le-ONE_GR.ensures c.if-entry_at-le-ONE_GR-2.true
+returns-then-entry_at-le-ONE_GR-3 c = λ h.
+    ones_four c.entry_at.ensures c.if-entry_at-le-ONE_GR.true c.entry_at-then-entry_at-le-ONE_GR.ensures c.if-entry_at-le-ONE_GR-2.true
     c.entry_at-then-entry_at-le-ONE_GR-2.ensures c.if-entry_at-le-ONE_GR-3.true c.entry_at-then-entry_at-le-ONE_GR-3.ensures (leb-true _ _ h)
 
 pub returns-then-entry_at-le-ONE_GR-2 : goal.returns-then-entry_at-le-ONE_GR-2

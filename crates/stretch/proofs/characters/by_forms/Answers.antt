@@ -1,5 +1,4 @@
 -- `characters::by_forms` meets its contract: the first kind of stretch that has units.
-use Rattle.element.proofs.Names.{arith}
 use Rattle.stretch.proofs.Stretches.{chosen_left, chosen_right, chosen_ones}
 use Rattle.stretch.proofs.characters.by_forms.Goals as goal
 

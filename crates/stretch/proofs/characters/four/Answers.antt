@@ -1,5 +1,5 @@
 -- `characters::four` meets its contract: true only where each of the four tests is.
-use Rattle.element.proofs.Names.{arith, false≢true}
+use Rattle.element.proofs.Names.{false≢true}
 use Rattle.stretch.proofs.characters.four.Goals as goal
 
 pub returns-then-within-3 : goal.returns-then-within-3

@@ -1,6 +1,4 @@
 -- `characters::fours` meets its contract. The invariant: only octets of the span stand from `at` to `i`.
-use Rattle.element.proofs.Names.{arith, ◌-◌, length}
-use Rattle.stretch.specs.Characters.{Filled}
 use Rattle.stretch.proofs.Loops.{filled_first, filled_four}
 use Rattle.stretch.proofs.characters.fours.Goals as goal
 

@@ -1,5 +1,4 @@
 -- `characters::pair_fours` meets its contract: each span is of octets of the side.
-use Rattle.element.proofs.Names.{arith}
 use Rattle.stretch.proofs.Loops.{left_span, right_span}
 use Rattle.stretch.proofs.characters.pair_fours.Goals as goal
 

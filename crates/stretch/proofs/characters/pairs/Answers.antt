@@ -1,6 +1,5 @@
 -- `characters::pairs` meets its contract. The invariant: only two-octet characters stand from `at` to `i`.
-use Rattle.element.proofs.Names.{arith, sym, ◌∙◌, ◌-◌, length}
-use Rattle.stretch.specs.Characters.{two_at, Along}
+use Rattle.element.proofs.Names.{sym, ◌∙◌}
 use Rattle.stretch.proofs.Loops.{along_pair, pairs_last, pair_no, pair_not, pair_end}
 use Rattle.stretch.proofs.characters.pairs.Goals as goal
 

@@ -1,5 +1,4 @@
 -- `characters::same_side` meets its contract: each span is of units by themselves.
-use Rattle.element.proofs.Names.{arith}
 use Rattle.stretch.proofs.Loops.{gl_span, gr_span_96, gr_span_94}
 use Rattle.stretch.proofs.characters.same_side.Goals as goal
 

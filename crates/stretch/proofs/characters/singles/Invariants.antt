@@ -1,7 +1,6 @@
 -- `characters::singles` meets its contract. The invariant: only units of one octet stand from `at` to `i`.
-use Rattle.element.proofs.Names.{arith, sym, ◌∙◌, ◌-◌, length}
+use Rattle.element.proofs.Names.{◌-◌, length}
 use Rattle.stretch.specs.Characters.{one_at, Along}
-use Rattle.stretch.proofs.Loops.{along_first, along_one, along_last, single_no, single_end}
 use Rattle.stretch.proofs.characters.singles.Given as goal
 
 abbrev pub invariant-loop-i : goal.invariant-loop-i

@@ -1,5 +1,5 @@
 -- `characters::twos` meets its contract, by what `pairs` ensures.
-use Rattle.element.proofs.Names.{arith, on_eq, on_ne, refl}
+use Rattle.element.proofs.Names.{on_eq, on_ne, refl}
 use Rattle.stretch.proofs.characters.twos.Goals as goal
 
 pub returns-then-form-eq-FORM_94X94 : goal.returns-then-form-eq-FORM_94X94
