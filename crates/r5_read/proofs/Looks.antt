@@ -1,8 +1,8 @@
 -- What a look at a string tells, on plain values: the octets before the first 00 are those before its place; where nothing before it stops the quick look,
 -- X11R5 has all their elements; and what the look refuses is refused with the string's own answer.
-use Rattle.element.proofs.Names.{ℕ, zero, suc, ◌+◌, ◌-◌, ◌≤◌, ◌<◌, arith, ◌≡◌, refl, ap, sym, ◌∙◌, List, [], ◌∷◌, length, length-take, get_or, take}
+use Rattle.element.proofs.Names.{ℕ, zero, suc, ◌+◌, ◌≤◌, ◌<◌, arith, ◌≡◌, refl, ap, sym, ◌∙◌, List, [], ◌∷◌, length, length-take, get_or, take}
 use Rattle.element.proofs.Names.{eqb, ltb, false}
-use Rattle.element.proofs.Names.{ltb-true, ltb-false, ne_eqb, pick, test, refused_at, answer, Answer, List·getD-eq-default}
+use Rattle.element.proofs.Names.{ltb-true, ltb-false, ne_eqb, pick, test, refused_at, Answer, List·getD-eq-default}
 use Prim.Native.Nat.{min}
 use lib.Seq.{get_or-take}
 use Rattle.base.specs.Refusal as refusal
