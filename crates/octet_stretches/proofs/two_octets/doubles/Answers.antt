@@ -1,6 +1,6 @@
 -- `octet_stretches::two_octets::doubles` meets its contract: from the place on only octets of 21-7E stand, and the first has the entry of two octets in
 -- GL, so as many characters of two octets as are whole; and then those that are found octet by octet.
-use Rattle.element.proofs.Names.{ℕ, ◌+◌, ◌<◌, ◌≤◌, arith, ◌≡◌, List, length, get_or}
+use Rattle.element.proofs.Names.{ℕ, ◌+◌, ◌≤◌, arith, ◌≡◌, List}
 use Rattle.octet_blocks.specs.Blocks.{Within}
 use Rattle.octet_blocks.proofs.Counted.{within_none, blocks_more}
 use Rattle.octet_blocks.proofs.Octets.{leading_passed, leading_few}
