@@ -3,7 +3,7 @@
    a note into the string of an X11R5 console and the form of resource files, and
    back.
 
-   cc -std=c99 -I include -o notes examples/notes.c -L target/staticlib -lctext */
+   cc -std=c99 -I include -o notes examples/notes.c -L crates/ctext/out -lctext */
 
 #include <inttypes.h>
 #include <stdio.h>

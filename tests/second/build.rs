@@ -29,7 +29,7 @@ fn archive_folder() -> String {
     }
     let package = env::var("CARGO_MANIFEST_DIR").expect("cargo names the package's folder");
     Path::new(&package)
-        .join("../../target/staticlib")
+        .join("../../crates/ctext/out")
         .display()
         .to_string()
 }

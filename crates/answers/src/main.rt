@@ -1,10 +1,11 @@
 // Reads strings in hexadecimal from standard input, one to a line, as 1B 28 42, and prints what the reader answers on each: number, place, count.
 #![tactic(auto)]
 
-ghost use Rattle.std.specs.Prelude.{◌<◌, ◌≤◌, length};
-ghost use Rattle.io.specs.Counts.{IsPrefixLen};
+ghost use Rattle.std.specs.Prelude.{◌<◌, ◌≡◌, ◌≤◌, length, take};
 
 use base::Answer;
+use std::io;
+use std::io::Read;
 
 // The value of a hexadecimal digit, 16 where it is none.
 fn digit(b: u8) -> u8 {
@@ -44,7 +45,7 @@ fn octet(high: u8, low: u8) -> u8 {
 
 // The octets that a line stands for, two digits for each and one character after them; answers how many.
 fn octets_of(line: &[u8], octets: &mut [u8]) -> usize
-    ensures { IsPrefixLen result octets.new }
+    ensures { (result ≤ length octets.new) × (result ≡ length (take result octets.new)) }
 {
     let n = line.len() / 3;
     let mut k: usize = 0;
@@ -58,45 +59,42 @@ fn octets_of(line: &[u8], octets: &mut [u8]) -> usize
     k
 }
 
-fn print_answer(a: Answer) {
-    io::print_decimal(1, a.number as u64);
-    io::write_all(1, b" ");
-    io::print_decimal(1, a.place as u64);
-    io::write_all(1, b" ");
-    io::print_decimal(1, a.count as u64);
-    io::write_all(1, b"\n");
+fn print_answer(rt: &impl Print, a: Answer) -> io::Result<()> {
+    println!(rt; "{} {} {}", a.number, a.place, a.count)
 }
 
-fn show(line: &[u8]) {
-    let mut space = io::buffer();
+fn show(rt: &impl Print, line: &[u8]) -> io::Result<()> {
+    let mut space = [0u8; 4096];
     let n = octets_of(line, &mut space);
     let a = check_string::answer(&space[..n]);
-    io::write_all(1, line);
-    io::write_all(1, b"  ");
-    print_answer(a);
+    rt.write_all(line)?;
+    rt.write_all(b"  ")?;
+    print_answer(rt, a)
 }
 
 // The longest string, and one octet more.
-fn show_longest() {
+fn show_longest(rt: &impl Print) -> io::Result<()> {
     let space = [0x20u8; 65536];
-    io::write_all(1, b"65535 spaces\n  ");
-    print_answer(check_string::answer(&space[..65535]));
-    io::write_all(1, b"65536 spaces\n  ");
-    print_answer(check_string::answer(&space));
+    rt.write_all(b"65535 spaces\n  ")?;
+    print_answer(rt, check_string::answer(&space[..65535]))?;
+    rt.write_all(b"65536 spaces\n  ")?;
+    print_answer(rt, check_string::answer(&space))
 }
 
-fn show_lines(text: &[u8]) {
+fn show_lines(rt: &impl Print, text: &[u8]) -> io::Result<()> {
     let mut at = 0;
     while at < text.len() {
         let end = line_end(text, at);
-        show(&text[at..end]);
+        show(rt, &text[at..end])?;
         at = end;
     }
+    Ok(())
 }
 
-fn main() {
-    let mut space = io::large_buffer();
-    let n = io::read_full(0, &mut space);
-    show_lines(&space[..n]);
-    show_longest();
+// Of the input the first 65,536 octets are read.
+fn main(rt: HostRuntime) -> io::Result<()> {
+    let mut text = Vec::new(rt.alloc());
+    rt.stdin().take(65536).read_to_end(&mut text)?;
+    show_lines(&rt, text.as_slice())?;
+    show_longest(&rt)
 }

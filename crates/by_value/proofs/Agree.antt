@@ -1,5 +1,5 @@
 -- A reader that is opened on a string and stepped until it repeats gives the list of `read` and the answer of `check` (`same_list`).
-use Rattle.element.proofs.Names.{ℕ, ◌≤◌, arith, ◌≡◌, refl, ap, sym, ◌∙◌, Bool, true, false, List, [], ltb, length, le-ltb, pick, UnitRecord}
+use Rattle.element.proofs.Names.{ℕ, ◌≡◌, ap, sym, ◌∙◌, List, length, le-ltb, pick, UnitRecord}
 use denote.Ref.{Bor}
 use Rattle.base.specs.Limit as limit
 use Rattle.base.specs.Refusal as refusal

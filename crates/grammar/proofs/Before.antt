@@ -17,7 +17,7 @@ use Rattle.state.specs.Directions.{counts_as_text}
 use Rattle.state.specs.State.{state}
 use Rattle.state.specs.declared.elements.Shape.TheVariants.{Ends}
 use Rattle.element.specs.Element.{shape_of, stepped_of, directed_of}
-use Rattle.grammar.specs.Units.{TextUnit, char, ext, kind_of, text_octets, text_in, octets, designation}
+use Rattle.grammar.specs.Units.{TextUnit, char, ext, kind_of, text_octets, text_in, designation}
 use Rattle.grammar.specs.Grammar.{Legal}
 use Rattle.grammar.specs.Reading.{Elements, end_at, silent_at, found_at, size, onward, elements, elements_of, answer_of, check_of, direct}
 use Rattle.grammar.specs.Reading.{Octets, unit_at, units_of, reading_of}

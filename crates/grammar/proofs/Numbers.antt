@@ -1,7 +1,7 @@
 -- Request No. 4 changes no number: of every string the number and the count are those of the definition before it, and the place that was told before
 -- is where the reading stops, the start of the refused element or the end (`numbers_stay`). By one walk: each definition of an element is that before,
 -- but for the offset of its refusals (`Alike`), and so are the elements of a string (`Match`).
-use Rattle.element.proofs.Names.{ℕ, zero, suc, ◌+◌, ◌-◌, ◌≤◌, ◌<◌, subst, lt-ltb, leb-true, length-take-le, arith, ◌≡◌, refl, Bool, true, false, cond}
+use Rattle.element.proofs.Names.{ℕ, zero, suc, ◌+◌, ◌≤◌, ◌<◌, subst, lt-ltb, leb-true, length-take-le, arith, ◌≡◌, refl, Bool, true, false, cond}
 use Rattle.element.proofs.Names.{List, [], ◌∷◌, eqb, leb, ltb, length, take, le-ltb, on_true, on_false, pick, test, no_set, set_of, Side, GL, GR, get}
 use Rattle.element.proofs.Names.{fresh, next, step_of, Step, Goes, Stops, Sets, State, Part, Shape, Refuses, Designates, Gives, Element, Refused, Silent}
 use Rattle.element.proofs.Names.{Found}

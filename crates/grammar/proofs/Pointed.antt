@@ -4,7 +4,7 @@
 -- elements: they lead to the refused one (`Offence`), and those before it are the same in each part of the string that ends after them, since an element
 -- that is passed does not depend on what follows it.
 use Rattle.element.proofs.Names.{ℕ, zero, suc, ◌+◌, ◌-◌, ◌<◌, ◌≤◌, arith, ◌≡◌, refl, sym, ap, ◌∙◌, subst, List, [], ◌∷◌, ◌⊎◌, inl, inr, ⊎_elim}
-use Rattle.element.proofs.Names.{ltb, length, take, drop, length-take, length-take-le, le-ltb, ltb-false, clash, test, pick, from, from_length, answer}
+use Rattle.element.proofs.Names.{ltb, length, take, drop, length-take, length-take-le, le-ltb, ltb-false, clash, test, pick, from, from_length}
 use Rattle.element.proofs.Names.{refused_at, Answer, fresh, State, Element, End, Refused, Silent, Found}
 use Rattle.base.specs.Limit as limit
 use Rattle.base.specs.Refusal as refusal

@@ -1,6 +1,7 @@
 -- What the count of a word's octets of 21-7E says of the octets that the word was made of: as many of them, from the first on, are of that span.
 -- By induction over the octets, the lowest first.
-use Rattle.std.proofs.Common.{◌≡◌, ℕ, zero, suc, ◌+◌, ◌-◌, ◌*◌, ◌/◌, ◌%◌, ◌<◌, ◌≤◌, ltb, List, [], ◌∷◌, length, get_or, sym, ap, subst, ap₂, add-zero, arith, ltb-false}
+use Rattle.std.proofs.Common.{◌≡◌, ℕ, zero, suc, ◌+◌, ◌-◌, ◌*◌, ◌/◌, ◌%◌, ◌<◌, ◌≤◌, ltb, List, [], ◌∷◌, length, get_or, sym, ap, subst, ap₂, add-zero}
+use Rattle.std.proofs.Common.{arith, ltb-false}
 use Rattle.base.specs.Choice.{pick}
 use Rattle.base.proofs.Bools.{pick_by}
 use Rattle.octet_blocks.specs.Blocks.{Within}

@@ -2,7 +2,8 @@
 -- By induction over the octets, lowest first. The lowest octet of the result follows from the lowest octet of the word alone, by a test that antt
 -- computes over 256 octets for the numbers of the code (`serve`). Where that octet is of 21-7E, neither sum carries, so the rest is the same of the
 -- octets above.
-use Rattle.std.proofs.Common.{◌≡◌, ℕ, zero, suc, ◌+◌, ◌-◌, ◌*◌, ◌/◌, ◌%◌, ◌^◌, ◌<◌, ◌≤◌, Bool, true, false, eqb, ltb, leb, sym, refl, ap, ◌∙◌, ap₂, add-zero, mul-one, arith, lit<, ltb-true, eqb-true, leb-true}
+use Rattle.std.proofs.Common.{◌≡◌, ℕ, zero, suc, ◌+◌, ◌-◌, ◌*◌, ◌/◌, ◌%◌, ◌^◌, ◌<◌, ◌≤◌, Bool, true, false, eqb, ltb, leb, sym, refl, ap, ◌∙◌, ap₂}
+use Rattle.std.proofs.Common.{add-zero, mul-one, arith, lit<, ltb-true, eqb-true, leb-true}
 use lib.Arith.{lt-one}
 use lib.Bits.{bit_and, bit_or, or_block, and_block, or_lt, block_half, block_odd}
 use lib.Count.{count_trailing_zeros, under}

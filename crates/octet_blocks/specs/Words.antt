@@ -19,8 +19,8 @@ word_of (b ∷ t) = b + 256 * word_of t
 -- the eight octets at a place
 abbrev pub eight_at : List ℕ → ℕ → List ℕ
 eight_at s at =
-    slice_index s at ∷ slice_index s (at + 1) ∷ slice_index s (at + 2) ∷ slice_index s (at + 3) ∷ slice_index s (at + 4) ∷ slice_index s (at + 5) ∷ slice_index s (at + 6)
-    ∷ slice_index s (at + 7) ∷ []
+    slice_index s at ∷ slice_index s (at + 1) ∷ slice_index s (at + 2) ∷ slice_index s (at + 3)
+    ∷ slice_index s (at + 4) ∷ slice_index s (at + 5) ∷ slice_index s (at + 6) ∷ slice_index s (at + 7) ∷ []
 
 -- how many of them are of 21-7E, up to the first that is not; none where eight are not left
 unfoldable pub leading_of : List ℕ → ℕ → ℕ

@@ -1,11 +1,9 @@
 -- The table's rule at each entry: one test that antt computes over the octets and the forms, carried to each by `up_to_lem`. So what an octet starts
 -- under a state is the class of its entry in the state's row (`table_class`), and the shape of an element is what that class starts
 -- (`table_shape`).
-use Rattle.element.proofs.Names.{ℕ, zero, suc, ◌+◌, ◌%◌, ◌^◌, ◌<◌, ◌≤◌, arith, ◌≡◌, refl, ap, sym, ◌∙◌, Bool, true, List, ◌∷◌}
-use Rattle.element.proofs.Names.{eqb, ltb, length, get_or, eqb-true, ltb-true, pick, pick_by, up_to_lem, form_96, form_94x94}
+use Rattle.element.proofs.Names.{ℕ, zero, suc, ◌+◌, ◌<◌, ◌≤◌, arith, ◌≡◌, refl, ap, sym, ◌∙◌, Bool, true, List, ◌∷◌}
+use Rattle.element.proofs.Names.{eqb, ltb, length, get_or, eqb-true, ltb-true, pick, pick_by, up_to_lem, form_96}
 use Rattle.element.proofs.Names.{form_of, Sets, GL, GR}
-use Rattle.element.proofs.Names.{on_eq, on_ne}
-use Rattle.state.specs.State.{sets}
 use native.Mathlib.Nat.{add-zero}
 use Rattle.base.proofs.Bools.{up_to, up_to_both, implies, implies_elim}
 use Rattle.charset.proofs.Laws.{by_rows, row_past}

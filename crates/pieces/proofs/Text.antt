@@ -1,10 +1,10 @@
 -- Characters and spaces: their octets are all of one side, and they change neither the sets nor the direction in force. By the unit
 -- that an element is.
 use Rattle.element.proofs.Names.{ℕ, zero, suc, ◌+◌, ◌/◌, ◌%◌, ◌<◌, arith, ◌≡◌, refl, sym, ◌∙◌, Bool, true, false, List, [], ◌∷◌, ◌++◌, eqb, ltb}
-use Rattle.element.proofs.Names.{length, get_or, pick, on_lt, on_ge, and_right, form_94x94, no_set, form_of, Side, GL, GR, directions, written_of, step_of, clash}
+use Rattle.element.proofs.Names.{length, get_or, pick, on_lt, on_ge, and_right, form_94x94, no_set, form_of, Side, GL, GR, directions}
+use Rattle.element.proofs.Names.{written_of, step_of, clash}
 use Rattle.element.proofs.Names.{test, Directions, Goes}
 use Rattle.base.specs.Kind as kind
-use Rattle.base.specs.Refusal as refusal
 use Rattle.grammar.specs.Units.{Control, tab, newline, ltr, rtl, revert, control_kind, TextUnit, char, space, control, ext, kind_of, wide, top, shown, octets}
 use Rattle.grammar.specs.Units.{code_used, good}
 use Rattle.grammar.specs.Reading.{direct}

@@ -8,24 +8,20 @@ use Rattle.base.specs.declared.Unit.{Unit as UnitRecord}
 use Rattle.grammar.specs.Reading.{check_of}
 use Rattle.units.specs.Records.{records_of}
 
--- what the answer for a string becomes where a list of so many records is lent: the string's own refusal comes before 10, which has the count
--- needed (rules N1, N5)
-abbrev pub with_room : ℕ → Answer → Answer
-with_room room a =
+-- for a list of so many records: the string's own refusal comes before 10, which has the count needed (rules N1, N5)
+unfoldable pub read_answer : List ℕ → ℕ → Answer
+read_answer s room =
+    let a = check_of s in
     pick (eqb a.number refusal.accepted)
     (pick (ltb room a.count) (answer refusal.no_room 0 a.count) a)
     a
 
--- the list after an answer: the records stand at its start and the rest stays (rule U6); after a refusal all of it (rule N7)
-abbrev pub list_with : Answer → List UnitRecord → List UnitRecord → List UnitRecord
-list_with a records old = pick (eqb a.number refusal.accepted) (records ++ drop (length records) old) old
-
--- of a string and a list
-unfoldable pub read_answer : List ℕ → ℕ → Answer
-read_answer s room = with_room room (check_of s)
-
+-- the list after: the records stand at its start and the rest stays (rule U6); after a refusal all of it (rule N7)
 unfoldable pub list_after : List ℕ → List UnitRecord → List UnitRecord
-list_after s old = list_with (read_answer s (length old)) (records_of s) old
+list_after s old =
+    pick (eqb (read_answer s (length old)).number refusal.accepted)
+    (records_of s ++ drop (length (records_of s)) old)
+    old
 
 -- how many records an answer stores: none where it refuses
 unfoldable pub stored_of : Answer → ℕ

@@ -12,7 +12,7 @@ use Rattle.base.specs.declared.Answer.{Answer}
 use Rattle.base.proofs.Bools.{clash}
 use Rattle.base.proofs.Ladder.{on_le, on_gt, on_lt, on_ge}
 use Rattle.base.proofs.Stores.{stored_not}
-use Rattle.resource_form.specs.Form.{FormReading, stands_for, fault_at_lem}
+use Rattle.resource_form.specs.Form.{FormReading, stands_for, fault_at}
 use Rattle.resource_form.specs.Conversion.{Conversion, refuses, gives, read_conversion, given_answer, conversion_answer, conversion_output}
 use Rattle.resource.specs.Scan.{scan_of, octets_of}
 use Rattle.resource.specs.declared.read.Scan.TheVariants.{Octets, FaultAt}
@@ -49,20 +49,20 @@ module _ (n : ℕ) (out : List ℕ) (r : Answer) where
 pub reading_faulty : (r : FormReading) (p : ℕ) → FaultAt p ≡ scan_of r → refuses refusal.bad_form p ≡ read_conversion r
 unfolding scan_of read_conversion
 reading_faulty (stands_for bs) p e = clash (cc e)
-reading_faulty (fault_at_lem q) p e = ap (refuses refusal.bad_form) (let f : p ≡ q = cc e in f)
+reading_faulty (fault_at q) p e = ap (refuses refusal.bad_form) (let f : p ≡ q = cc e in f)
 
 pub reading_length : (r : FormReading) (k : ℕ) → Octets k ≡ scan_of r → k ≡ length (octets_of r)
 unfolding scan_of octets_of
 reading_length (stands_for bs) k e = let f : k ≡ length bs = cc e in f
-reading_length (fault_at_lem q) k e = clash (cc e)
+reading_length (fault_at q) k e = clash (cc e)
 
 pub reading_over : (r : FormReading) (k : ℕ) → Octets k ≡ scan_of r → limit.octets < k → refuses refusal.too_long 0 ≡ read_conversion r
 unfolding scan_of read_conversion
 reading_over (stands_for bs) k e h =
     on_lt limit.octets (length bs) (refuses refusal.too_long 0) _ _ (let f : k ≡ length bs = cc e in rw f at h) refl
-reading_over (fault_at_lem q) k e h = clash (cc e)
+reading_over (fault_at q) k e h = clash (cc e)
 
 pub reading_within : (r : FormReading) (k : ℕ) → Octets k ≡ scan_of r → k ≤ limit.octets → gives (octets_of r) ≡ read_conversion r
 unfolding scan_of octets_of read_conversion
 reading_within (stands_for bs) k e h = on_ge limit.octets (length bs) (gives bs) _ _ (let f : k ≡ length bs = cc e in rw f at h) refl
-reading_within (fault_at_lem q) k e h = clash (cc e)
+reading_within (fault_at q) k e h = clash (cc e)

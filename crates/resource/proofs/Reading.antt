@@ -14,7 +14,7 @@ use Rattle.base.proofs.Bools.{test, clash}
 use Rattle.base.proofs.Ladder.{from_octet, from_end, from_from, from_length}
 use Rattle.base.proofs.Stores.{stored_sets}
 use Rattle.resource_form.specs.Form.{backslash, octet_form, resource_form, form_escape, form_first}
-use Rattle.resource_form.specs.Form.{FormReading, stands_for, fault_at_lem, put_before, read_from, form_reading}
+use Rattle.resource_form.specs.Form.{FormReading, stands_for, fault_at, put_before, read_from, form_reading}
 use Rattle.resource_form.specs.declared.First.{First, TheVariants.Stands, TheVariants.Bad}
 use Rattle.resource_form.proofs.Readings.{first_of_form, first_few, escape_first_of, raw_first, bad_first, good_first}
 use Rattle.resource_form.proofs.Theorems.{form_of_read}
@@ -35,7 +35,7 @@ plus_none (FaultAt p) = refl
 plus_one : (n b : ℕ) (r : FormReading) → plus n (scan_of (put_before b r)) ≡ plus (n + 1) (scan_of r)
 unfolding scan_of
 plus_one n b (stands_for bs) = ap Octets (let e : n + suc (length bs) ≡ n + 1 + length bs = omega arith in e)
-plus_one n b (fault_at_lem p) = refl
+plus_one n b (fault_at p) = refl
 
 module _ (s : List ℕ) where
   pub record Looked (at count : ℕ) : Type 0 where
@@ -43,9 +43,9 @@ module _ (s : List ℕ) where
     pub less : count ≤ at
     pub is : plus count (scan_of (read_from (from at s) 0 at)) ≡ scan_of (form_reading s)
 
-  pub looked_first_lem : Looked 0 0
+  pub looked_first : Looked 0 0
   unfolding from
-  looked_first_lem = record { few = omega arith; less = omega arith; is = plus_none (scan_of (form_reading s)) }
+  looked_first = record { few = omega arith; less = omega arith; is = plus_none (scan_of (form_reading s)) }
 
   -- what stands first has one octet at least, and lies within the form
   pub first_within : (at b k : ℕ) (x : First) → at < length s → x ≡ form_first (from at s) → x ≡ Stands b k → (1 ≤ k) × (at + k ≤ length s)
@@ -74,7 +74,7 @@ module _ (s : List ℕ) where
   unfolding scan_of
   looked_bad at count x h is e l =
       let octet = from_octet s at h in
-      let bad : read_from (from at s) 0 at ≡ fault_at_lem at =
+      let bad : read_from (from at s) 0 at ≡ fault_at at =
       ap (λ (t : List ℕ). read_from t 0 at) octet ∙ bad_first (get_or s at 0) (from (at + 1) s) at (ap form_first (sym octet) ∙ sym is ∙ e) in
       ap (λ (r : FormReading). plus count (scan_of r)) (sym bad) ∙ l.is
 
@@ -171,4 +171,4 @@ form_of_octets t k e = go (form_reading t) refl e
   where
     go : (r : FormReading) → form_reading t ≡ r → Octets k ≡ scan_of r → t ≡ resource_form (octets_of r)
     go (stands_for bs) q f = form_of_read t bs q
-    go (fault_at_lem p) q f = clash (cc f)
+    go (fault_at p) q f = clash (cc f)

@@ -1,14 +1,14 @@
 -- A form looked over, in the terms of its reading: for the functions of this crate among themselves.
 use Rattle.std.specs.Prelude.{ℕ, List, [], length}
-use Rattle.resource_form.specs.Form.{FormReading, stands_for, fault_at_lem}
+use Rattle.resource_form.specs.Form.{FormReading, stands_for, fault_at}
 use Rattle.resource.specs.declared.read.Scan.{Scan, TheVariants.Octets, TheVariants.FaultAt}
 
 -- how many octets a form stands for, or the place of its first fault
 unfoldable pub scan_of : FormReading → Scan
 scan_of (stands_for bs) = Octets (length bs)
-scan_of (fault_at_lem p) = FaultAt p
+scan_of (fault_at p) = FaultAt p
 
 -- the octets that a form stands for
 unfoldable pub octets_of : FormReading → List ℕ
 octets_of (stands_for bs) = bs
-octets_of (fault_at_lem p) = []
+octets_of (fault_at p) = []

@@ -15,7 +15,7 @@ use Rattle.base.specs.Output.{stored_in}
 use Rattle.base.specs.Refusal as refusal
 use Rattle.base.proofs.Bools.{test, clash, pick_by}
 use Rattle.base.proofs.Ladder.{on_lt, on_ge}
-use Rattle.resource_form.specs.Form.{resource_form, FormReading, stands_for, fault_at_lem, form_reading}
+use Rattle.resource_form.specs.Form.{resource_form, FormReading, stands_for, fault_at, form_reading}
 use Rattle.resource_form.specs.Conversion.{Conversion, refuses, gives, to_form, read_conversion, from_form}
 use Rattle.resource_form.specs.Conversion.{given_answer, conversion_answer, conversion_output}
 use Rattle.resource_form.proofs.Theorems.{read_of_form, form_of_read, form_length, FirstFault, fault_there}
@@ -67,7 +67,7 @@ given_octets t s e = test (ltb limit.form (length t)) (λ q. clash (cc (rw q at 
   where
     go : length t ≤ limit.form → (r : FormReading) → form_reading t ≡ r → read_conversion r ≡ gives s
         → (length t ≤ limit.form) × (form_reading t ≡ stands_for s) × (length s ≤ limit.octets)
-    go h (fault_at_lem p) q g = clash (cc g)
+    go h (fault_at p) q g = clash (cc g)
     go h (stands_for bs) q g =
         test (ltb limit.octets (length bs)) (λ k. clash (cc (rw k at g)))
         (λ k. let same : gives bs ≡ gives s = rw k at g in let is : bs ≡ s = cc same in
@@ -111,7 +111,7 @@ writer_answered s = pick_by Answered (ltb limit.octets (length s)) (λ _. too_lo
 
 of_reading_lem : (r : FormReading) → Answered (read_conversion r)
 unfolding read_conversion
-of_reading_lem (fault_at_lem p) = bad_form p
+of_reading_lem (fault_at p) = bad_form p
 of_reading_lem (stands_for bs) = pick_by Answered (ltb limit.octets (length bs)) (λ _. too_long) (λ _. octets_given bs)
 
 pub reader_answered : (t : List ℕ) → Answered (from_form t)

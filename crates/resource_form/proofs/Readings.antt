@@ -14,7 +14,7 @@ use borrow.Author.Tests.{eqb-true, eq-eqb, ne_eqb}
 use Rattle.base.specs.Choice.{pick}
 use Rattle.base.proofs.Bools.{test, clash}
 use Rattle.resource_form.specs.Form.{backslash, newline, nul, letter_n, digit_0, octet_form, resource_form, zero_first, form_zeros, form_escape, form_first}
-use Rattle.resource_form.specs.Form.{FormReading, stands_for, fault_at_lem, put_before, on_first, read_from}
+use Rattle.resource_form.specs.Form.{FormReading, stands_for, fault_at, put_before, on_first, read_from}
 use Rattle.resource_form.specs.declared.First.{First, TheVariants.Stands, TheVariants.Bad}
 
 -- what holds of the three octets that are escaped, and of any other, holds of every octet
@@ -100,7 +100,7 @@ first_few b k t e =
 pub data Reads (t : List ℕ) (at : ℕ) : FormReading → Type 0 where
   whole : (bs : List ℕ) → t ≡ resource_form bs → Reads t at (stands_for bs)
   faulty : (p : ℕ) (bs : List ℕ) (x : ℕ) (u : List ℕ) → t ≡ resource_form bs ++ (x ∷ u) → form_first (x ∷ u) ≡ Bad
-      → p ≡ at + length (resource_form bs) → Reads t at (fault_at_lem p)
+      → p ≡ at + length (resource_form bs) → Reads t at (fault_at p)
 
 -- the form of an octet before what is read
 reads_before : (b : ℕ) (t : List ℕ) (at : ℕ) (r : FormReading) → Reads t (at + length (octet_form b)) r → Reads (octet_form b ++ t) at (put_before b r)
@@ -145,7 +145,7 @@ passed (x ∷ t) (suc k) at h =
     passed t k (at + 1) (omega arith) ∙ ap (read_from (drop k t) 0) (let e : at + 1 + k ≡ at + suc k = omega arith in e)
 
 -- a reading by what stands first: a fault, or its octet before the reading of the rest
-pub bad_first : (x : ℕ) (t : List ℕ) (at : ℕ) → form_first (x ∷ t) ≡ Bad → read_from (x ∷ t) 0 at ≡ fault_at_lem at
+pub bad_first : (x : ℕ) (t : List ℕ) (at : ℕ) → form_first (x ∷ t) ≡ Bad → read_from (x ∷ t) 0 at ≡ fault_at at
 unfolding read_from on_first
 bad_first x t at e = ap (λ (f : First). on_first at f (λ k. read_from t k (at + 1))) e
 
@@ -170,7 +170,7 @@ pub befores_octets : (bs cs : List ℕ) → befores bs (stands_for cs) ≡ stand
 befores_octets [] cs = refl
 befores_octets (b ∷ bs) cs = ap (put_before b) (befores_octets bs cs)
 
-pub befores_fault : (bs : List ℕ) (p : ℕ) → befores bs (fault_at_lem p) ≡ fault_at_lem p
+pub befores_fault : (bs : List ℕ) (p : ℕ) → befores bs (fault_at p) ≡ fault_at p
 befores_fault [] p = refl
 befores_fault (b ∷ bs) p = ap (put_before b) (befores_fault bs p)
 

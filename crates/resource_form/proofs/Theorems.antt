@@ -12,7 +12,7 @@ use borrow.Author.Tests.{eqb-true, ne_eqb}
 use Rattle.base.specs.Choice.{pick}
 use Rattle.base.proofs.Bools.{test, clash}
 use Rattle.resource_form.specs.Form.{backslash, newline, nul, octet_form, resource_form, form_first}
-use Rattle.resource_form.specs.Form.{FormReading, stands_for, fault_at_lem, read_from, form_reading}
+use Rattle.resource_form.specs.Form.{FormReading, stands_for, fault_at, read_from, form_reading}
 use Rattle.resource_form.specs.declared.First.{TheVariants.Bad}
 use Rattle.resource_form.proofs.Readings.{octet_form_few, Reads, whole, faulty, reads}
 use Rattle.resource_form.proofs.Readings.{bad_first, befores, befores_octets, befores_fault, form_before}
@@ -57,23 +57,23 @@ pub record FirstFault (t : List ℕ) (p : ℕ) : Type 0 where
   pub place : p ≡ length (resource_form before)
   pub bad : form_first (octet ∷ after) ≡ Bad
 
-pub fault_first : (t : List ℕ) (p : ℕ) → form_reading t ≡ fault_at_lem p → FirstFault t p
+pub fault_first : (t : List ℕ) (p : ℕ) → form_reading t ≡ fault_at p → FirstFault t p
 fault_first t p e = go (subst (Reads t 0) e (reads t 0 0 (omega arith))) refl
   where
-    go : {r : FormReading} → Reads t 0 r → r ≡ fault_at_lem p → FirstFault t p
+    go : {r : FormReading} → Reads t 0 r → r ≡ fault_at p → FirstFault t p
     go (whole cs f) g = clash (cc g)
     go (faulty q cs x u f h k) g =
         let same : q ≡ p = cc g in
         record { before = cs; octet = x; after = u; is = f; place = omega (arith, k); bad = h }
 
-pub fault_there : (t : List ℕ) (p : ℕ) → FirstFault t p → form_reading t ≡ fault_at_lem p
+pub fault_there : (t : List ℕ) (p : ℕ) → FirstFault t p → form_reading t ≡ fault_at p
 fault_there t p f =
     let at = 0 + length (resource_form f.before) in
     let there : at ≡ p = omega (arith, f.place) in
     ap form_reading f.is
     ∙ form_before f.before (f.octet ∷ f.after) 0
     ∙ ap (befores f.before) (bad_first f.octet f.after at f.bad)
-    ∙ befores_fault f.before at ∙ ap fault_at_lem there
+    ∙ befores_fault f.before at ∙ ap fault_at there
 
 -- it stands at a backslash, a newline or 00
 pub fault_octet : (x : ℕ) (t : List ℕ) → form_first (x ∷ t) ≡ Bad → (x ≡ backslash) ⊎ ((x ≡ newline) ⊎ (x ≡ nul))

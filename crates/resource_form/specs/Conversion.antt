@@ -6,7 +6,7 @@ use Rattle.base.specs.Limit as limit
 use Rattle.base.specs.Refusal as refusal
 use Rattle.base.specs.Output.{stored_in}
 use Rattle.base.specs.declared.Answer.{Answer}
-use Rattle.resource_form.specs.Form.{resource_form, FormReading, stands_for, fault_at_lem, form_reading}
+use Rattle.resource_form.specs.Form.{resource_form, FormReading, stands_for, fault_at, form_reading}
 
 -- what an input is converted to: a refusal with its number and place, or octets (rule F4)
 pub data Conversion : Type 0 where
@@ -19,7 +19,7 @@ to_form s = pick (ltb limit.octets (length s)) (refuses refusal.too_long 0) (giv
 
 -- of a form that was read: its fault first, and then whether the octets are at most 65,535 (rules J1, F4)
 unfoldable pub read_conversion : FormReading → Conversion
-read_conversion (fault_at_lem p) = refuses refusal.bad_form p
+read_conversion (fault_at p) = refuses refusal.bad_form p
 read_conversion (stands_for bs) = pick (ltb limit.octets (length bs)) (refuses refusal.too_long 0) (gives bs)
 
 -- a form to its string: at most 262,140 octets are read (rules J4, F4)

@@ -57,17 +57,17 @@ form_first (b ∷ t) =
 -- what a form reads as: the octets that it stands for, or the place of its first fault (rules F2, F3)
 pub data FormReading : Type 0 where
   stands_for : List ℕ → FormReading
-  fault_at_lem : ℕ → FormReading
+  fault_at : ℕ → FormReading
 
 -- an octet before what the rest reads as (rule F2)
 abbrev pub put_before : ℕ → FormReading → FormReading
 put_before b (stands_for bs) = stands_for (b ∷ bs)
-put_before b (fault_at_lem p) = fault_at_lem p
+put_before b (fault_at p) = fault_at p
 
 -- the reading at a place by what stands there: its octet before what f reads after so many further octets, or a fault there (rules F2, F3)
 unfoldable pub on_first : ℕ → First → (ℕ → FormReading) → FormReading
 on_first at (Stands b k) f = put_before b (f (k - 1))
-on_first at Bad f = fault_at_lem at
+on_first at Bad f = fault_at at
 
 -- the reading of octets that start at a place, of which k belong to the escape before and are passed (rule F2)
 unfoldable pub read_from : List ℕ → ℕ → ℕ → FormReading

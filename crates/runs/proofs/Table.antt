@@ -68,8 +68,8 @@ expected [] = []
 expected (r ∷ rs) = r.given ∷ expected rs
 
 pub table : found rows ≡ expected rows
-unfolding pick may_use form_of fits_of find set_of put next graphic_of second_octet_of name_octet_of name_of text_width_of whole_of content_of body_of lengths_of extended_of
-    begin_of csi_of designates_of designation_of multi_octet_of escape_of written_of deeper_of begun_of reverted_of step_of in_force_of used_in character_start
-    left_start start_of begun_by shape_of stepped_of directed_of onward elements answer_of check_of side_kind_of piece_kind_of piece_of same_run_of joined pieces_from
-    pieces_of set_in runs_in runs_of width_of shown_of nth_run_of run_at
+unfolding pick may_use form_of fits_of find set_of put next graphic_of second_octet_of name_octet_of name_of text_width_of whole_of content_of body_of
+    lengths_of extended_of begin_of csi_of designates_of designation_of multi_octet_of escape_of written_of deeper_of begun_of reverted_of step_of
+    in_force_of used_in character_start left_start start_of begun_by shape_of stepped_of directed_of onward elements answer_of check_of side_kind_of
+    piece_kind_of piece_of same_run_of joined pieces_from pieces_of set_in runs_in runs_of width_of shown_of nth_run_of run_at
 table = refl

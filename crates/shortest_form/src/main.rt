@@ -3,10 +3,9 @@
 // standard error.
 #![tactic(auto)]
 
-ghost use Rattle.std.specs.Prelude.{◌≤◌, ◌≡◌, length};
-ghost use Rattle.io.specs.Counts.{IsPrefixLen};
+ghost use Rattle.std.specs.Prelude.{◌≤◌, ◌≡◌, length, take};
 
-use libc::{STDERR_FILENO, STDIN_FILENO, STDOUT_FILENO};
+use std::io::{Read, Stdin};
 
 // The octets that were read, and whether a read failed.
 #[derive(Clone, Copy)]
@@ -16,23 +15,28 @@ struct Input {
 }
 
 // Reads once: 0 octets and no failure is the input's end.
-fn read_some(part: &mut [u8]) -> Input
+fn read_some(stdin: &mut Stdin, part: &mut [u8]) -> Input
     ensures { (result.octets ≤ length part.new) × (length part.new ≡ length part.old) }
 {
-    let got = libc::read(STDIN_FILENO, part);
-    Input {
-        octets: io::count(got, part),
-        failed: got < 0,
+    match stdin.read(part) {
+        Ok(octets) => Input {
+            octets: octets,
+            failed: false,
+        },
+        Err(_) => Input {
+            octets: 0,
+            failed: true,
+        },
     }
 }
 
 // Reads until the room is full, the input ends or a read fails.
-fn read_input(room: &mut [u8]) -> Input
-    ensures { IsPrefixLen result.octets room.new }
+fn read_input(stdin: &mut Stdin, room: &mut [u8]) -> Input
+    ensures { (result.octets ≤ length room.new) × (result.octets ≡ length (take result.octets room.new)) }
 {
     let mut n: usize = 0;
     while n < room.len() {
-        let some = read_some(&mut room[n..]);
+        let some = read_some(stdin, &mut room[n..]);
         if some.octets == 0 {
             return Input {
                 octets: n,
@@ -47,17 +51,18 @@ fn read_input(room: &mut [u8]) -> Input
     }
 }
 
-fn main() {
+fn main(rt: HostRuntime) {
+    let mut stdin = rt.stdin();
     let mut room = program::input_room();
-    let input = read_input(&mut room);
+    let input = read_input(&mut stdin, &mut room);
     if input.failed {
-        io::write_all(STDERR_FILENO, b"ctext: the input cannot be read\n");
+        let _ = rt.eprintln("ctext: the input cannot be read");
         return;
     }
     let mut out = program::output_room();
     let printed = program::print_input(&room, input.octets, &mut out);
     let m = printed.length;
-    if !io::write_all(STDOUT_FILENO, &out[..m]) {
-        io::write_all(STDERR_FILENO, b"ctext: the output cannot be written\n");
+    if rt.write_all(&out[..m]).is_err() {
+        let _ = rt.eprintln("ctext: the output cannot be written");
     }
 }

@@ -14,7 +14,8 @@ use Rattle.element.specs.Start.{start_of, begun_by}
 use Rattle.element.proofs.Sizes.{found}
 use Rattle.grammar.proofs.Places.{at_passed}
 use Rattle.units.specs.Next.{outcome_of, next_of}
-use Rattle.cursor.specs.Cursor.{state_in, placed_at, turn, outcome_turn, element_turn, mark_of, marked_turn, text_octet, set_at, kind_at, if_graphic, one_of, double_of}
+use Rattle.cursor.specs.Cursor.{state_in, placed_at, turn, outcome_turn, element_turn, mark_of, marked_turn, text_octet, set_at, kind_at, if_graphic, one_of}
+use Rattle.cursor.specs.Cursor.{double_of}
 use Rattle.cursor.specs.Cursor.{octet_of, quick_of, text_turn, advance_at, advance_of}
 use Rattle.cursor.specs.declared.Cursor.{Cursor}
 use Rattle.cursor.specs.declared.Turn.{Turn}

@@ -7,7 +7,7 @@ use Rattle.walks.proofs.Names.{◌≡◌, refl, true, false, List, ℕ, Ura, Mod
 use Rattle.walks.proofs.Names.{Item, prop, runs, ◌$◌, branches, Stays, Walks, Clauses}
 use mathlib.Core.Bool.{Bool, not}
 use lib.Dec.{T}
-use mir.Syntax.{Name, Opd as Operand, Body, Fn, skip, seq, cond, exit}
+use mir.Syntax.{Callee, Opd as Operand, Body, Fn, skip, seq, cond, exit}
 use mir.Val.{vbool}
 use prog.Routine.{Env as REnv}
 use prog.Wp.{exits, Closed}
@@ -47,7 +47,7 @@ module _ {M : Type 1} {𝓤 : Ura M} (𝓛 : Logic 𝓤) (𝓜 : Model 𝓤 𝓛
   abbrev pub 𝓣of : REnv → Tables 𝓤 H
   𝓣of env = tables_of 𝓤 H 𝓜 (tables 𝓤 H 𝓜 𝓡 env)
 
-  module _ (env : REnv) (key : Name) where
+  module _ (env : REnv) (key : Callee) where
     -- the routine of a name is the function, and meets clauses
     abbrev pub Defined : Fn → Type 2
     Defined f = Closed 𝓤 H (tables 𝓤 H 𝓜 𝓡 env).C (tables 𝓤 H 𝓜 𝓡 env).Λ key f

@@ -3,9 +3,9 @@
 --     gave_some, gave-value   what the call leaves, where its contract gives the result whole: with something said of the last values of
 --                             what it was lent for good, or with those values
 --     gave_one                the same, where its `ensures` is a fact of the result and of one of the last values
---     calls-ends              a call whose contract gives its result whole, as a value x, and says something of some last values of what it was
+--     calls_ends              a call whose contract gives its result whole, as a value x, and says something of some last values of what it was
 --                             lent for good: what lands is the machine value of x
---     calls-whole             a call that is passed all that the function was: of the machine value that comes back it is known that it is of
+--     calls_whole             a call that is passed all that the function was: of the machine value that comes back it is known that it is of
 --                             the result's type
 --     Open                    what the holder of a `&mut` slice has while that is lent to a call, for a lifetime that ends with the call: the
 --                             loan, and its own borrow, open, with its ghost name at the old list; `into-loan`, `out-of-loan`
@@ -27,14 +27,14 @@ use Rattle.walks.proofs.Names.{fst∗, snd∗, Fml, ftrue, Lft, GName, Share, fs
 use Rattle.walks.proofs.Names.{sem, FmC, fm_of, fact, Item, ‵, raw, ◌⊛◌, given, some, later, prop, runs, Sq, ◌$◌, ◌∵◌, !, qed}
 use Rattle.walks.proofs.Names.{move, let_go, use1, split, learn, pick, check, rewrite, await, show, done, use3, fsplit, fjoin, frame, ⋆, by, use2}
 use Rattle.walks.proofs.Names.{join, suffices, RattleType, owns, Is, shows, only, peeks, heard, nothing, Contract, Triple, triple_of, Clauses, Lasts}
-use Rattle.walks.proofs.Names.{lasts, ℕ, length, full_share, cells, Arr, pure_i, mem, RefT, slice_val, MutSlice, heres, Room, finally, at-slice}
+use Rattle.walks.proofs.Names.{lasts, ℕ, length, full_share, cells, Arr, pure_i, mem, slice_val, MutSlice, heres, Room, finally}
 use Rattle.walks.proofs.Names.{coded_holeys, Held, lends_slice, slice_back, row, opens_slice, closes_slice, lft_new, lft_end, Stays, walk_of, ends_at}
-use mir.Syntax.{Name, Place, Opd as Operand, Body, seq, call, Lifetime}
+use mir.Syntax.{Callee, Place, Opd as Operand, Body, seq, call, Lifetime}
 use mir.Val.{WT, has_ty}
 use base.Logic.{comm∗, assoc∗, assoc', mono∗, mono_l, mono_r, emp∗, ex_i}
 use base.Fml.{fdead}
 use contract.Monad.{top}
-use types.Kit.{Post, lands, Seq, regoal, updating, mean, nth, del, push, pop, unpull, aim, use0, as.now at_once}
+use types.Kit.{Post, lands, Seq, regoal, updating, mean, nth, del, push, pop, unpull, aim, use0, now as at_once}
 use types.Run.{Opds}
 use denote.Laws.{Tells, Typed, Lawful}
 use denote.Signature.{type_at, types_at, Signature}
@@ -194,7 +194,7 @@ gave_value 𝓛 D c y x Q w vals tl u =
     await ! tt $ pick ! (λ _. learn ! (λ e. at_once ! $ check ! e.0 $ split ! $ done !))
 
 module _ {M : Type 1} {𝓤 : Ura M} {𝓛 : Logic 𝓤} {K : Type 0} {Γ : List (Item 𝓤)} {E : Env 𝓤 𝓛.H}
-    {C : Calls 𝓤 𝓛.H} {Λ : Loops 𝓤 𝓛.H} {q : Post 𝓤 𝓛.H} {f : Name} {xs : List Operand} {d : Place} {rest : Body}
+    {C : Calls 𝓤 𝓛.H} {Λ : Loops 𝓤 𝓛.H} {q : Post 𝓤 𝓛.H} {f : Callee} {xs : List Operand} {d : Place} {rest : Body}
     (t : K) (fm : FmC 𝓤 𝓛.H 𝓛.laws C) (D : Ended) (c : Clauses 𝓤 D) (known : Triple 𝓤 (C f) (Meant 𝓛 D c)) (y : Binds 𝓛 D c) where
   -- a call that is given `&mut`s for good: its contract gives the result whole, and says something, φ, of some last values z, which Q z records
   pub calls_ends : (x : Result (calling 𝓛 D c y)) {Z : Type 0} (φ : Z → Type 0) (Q : Z → Fml) → let k = calling 𝓛 D c y in
@@ -343,7 +343,7 @@ module _ {M : Type 1} {𝓤 : Ura M} (𝓛 : Logic 𝓤) where
 
 -- ---- the call
 module _ {M : Type 1} {𝓤 : Ura M} {𝓛 : Logic 𝓤} {K : Type 0} {E : Env 𝓤 𝓛.H}
-    {q : Post 𝓤 𝓛.H} {f : Name} {xs : List Operand} {d : Place} {rest : Body} where
+    {q : Post 𝓤 𝓛.H} {f : Callee} {xs : List Operand} {d : Place} {rest : Body} where
   -- the operands are read in the context Γ, of which i is what the call takes, and Δ the frame
   open 𝓛 use {H}
 
@@ -428,7 +428,7 @@ pub record Loan {M : Type 1} {𝓤 : Ura M} {𝓛 : Logic 𝓤} (T P : SProp �
   pub picks : (ν : ℕ) (δ : GName) (ws : Ws (k ν δ)) → Sq 𝓛 (last (k ν δ) ws ∷ []) (prop (sem 𝓛 (finally R δ (left ν δ ws))))
 
 module _ {M : Type 1} {𝓤 : Ura M} {𝓛 : Logic 𝓤} {K : Type 0} {E : Env 𝓤 𝓛.H}
-    {q : Post 𝓤 𝓛.H} {f : Name} {xs : List Operand} {d : Place} {rest : Body} {Γ : List (Item 𝓤)} {T P : Item 𝓤} where
+    {q : Post 𝓤 𝓛.H} {f : Callee} {xs : List Operand} {d : Place} {rest : Body} {Γ : List (Item 𝓤)} {T P : Item 𝓤} where
   open 𝓛 use {H}
 
   pub lends : K → (𝓣 : Tables 𝓤 H) (R : RattleType) (holder : Lft) (share : Share) (γ : GName) (b o m : ℕ) (l : List R.Denot)
@@ -494,7 +494,7 @@ module _ {M : Type 1} {𝓤 : Ura M} {𝓛 : Logic 𝓤} {K : Type 0} {T P Q tok
 
 -- ---- a call that is passed all that the function was
 module _ {M : Type 1} {𝓤 : Ura M} {𝓛 : Logic 𝓤} {K : Type 0} {Γ : List (Item 𝓤)} {E : Env 𝓤 𝓛.H}
-    {C : Calls 𝓤 𝓛.H} {Λ : Loops 𝓤 𝓛.H} {q : Post 𝓤 𝓛.H} {f : Name} {xs : List Operand} {d : Place} {rest : Body} where
+    {C : Calls 𝓤 𝓛.H} {Λ : Loops 𝓤 𝓛.H} {q : Post 𝓤 𝓛.H} {f : Callee} {xs : List Operand} {d : Place} {rest : Body} where
   open 𝓛 use {H}
 
   pub calls_whole : K → FmC 𝓤 H 𝓛.laws C → (S : Signature) (c : Spec 𝓤 S) → let T = triple_of 𝓛 S c in Triple 𝓤 (C f) T

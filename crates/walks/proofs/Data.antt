@@ -9,7 +9,7 @@
 use types.Logic.{Logic}
 use denote.Slice.{shr_slice_vals, mut_slice_vals}
 use Rattle.walks.proofs.Names.{◌≡◌, List, [], ◌∷◌, ℕ, Ura, named, w8, w64, Val, vint, ftrue, RattleType, yes, Is, u8, usize}
-use Rattle.walks.proofs.Names.{only, uint_Tells, uint_Makes, slice-vals, shr_slice_Tells, shr_slice_Lawful, Slot, plain, Stays, stay_none}
+use Rattle.walks.proofs.Names.{only, uint_Tells, uint_Makes, shr_slice_Tells, shr_slice_Lawful, Slot, plain, Stays, stay_none}
 use Rattle.walks.proofs.Names.{stay_none_slice, Goes-none, Goes-none_slice}
 use lib.Dec.{T as Holds}
 use mir.Val.{vbool, WT, has_ty}

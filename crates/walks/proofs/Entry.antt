@@ -3,7 +3,7 @@
 --     Start      what the function is given; `bound` binds it in the contract
 --     End        what the contract asks at a return
 --     Walk       what is to be shown of the function's code: it runs from there, with the locals after it, to the end that the contract asks
---     walk-in    the function meets its contract, from that; `walk_with` where the contract asks something, φ
+--     walk_in    the function meets its contract, from that; `walk_with` where the contract asks something, φ
 --     cites      the entry of a function called meets the contract that the function meets
 --     Passes     and `pass_in`: the same of a function that passes its parameters on to one call, whole
 use Rattle.walks.proofs.Names.{◌≡◌, List, [], ◌∷◌, ℕ, suc, Ura, Val, SProp, ent, sep, emp, via, id⊢, flft, Model, Routine, WpFn}
@@ -11,7 +11,7 @@ use Rattle.walks.proofs.Names.{sem, fact, fact_i, Running, Item, ‵, ⋆, runs,
 use Rattle.walks.proofs.Names.{on_entry, triple_of, Contract, Triple, cited, Clauses, walk_of, walked}
 use mathlib.Core.List.{◌++◌}
 use Prim.Native.Nat.{zero}
-use mir.Syntax.{Name, Fn}
+use mir.Syntax.{Callee, Fn}
 use base.Logic.{mono∗, mono_r, wand, comm∗, mono_l, wand_i, apply∗}
 use prog.Routine.{Env as REnv}
 use types.Logic.{Logic, sem}
@@ -106,7 +106,7 @@ module _ {M : Type 1} {𝓤 : Ura M} (𝓛 : Logic 𝓤) (D : Ended) (ps : Param
 module _ {M : Type 1} {𝓤 : Ura M} (𝓛 : Logic 𝓤) (𝓜 : Model 𝓤 𝓛.H) (𝓡 : Running 𝓤 𝓛.H 𝓜) (env : REnv) where
   open 𝓛 use {H}
 
-  pub cites : {k : Name} {r : Routine} {c : Contract 𝓤} → env k ≡ r → Triple 𝓤 (𝓡.run r) c
+  pub cites : {k : Callee} {r : Routine} {c : Contract 𝓤} → env k ≡ r → Triple 𝓤 (𝓡.run r) c
       → Triple 𝓤 ((𝓣of 𝓛 𝓜 𝓡 env).C k) c
   unfolding tables_of
   cites {k} {r} {c} e t = cited 𝓤 H c 𝓜 𝓡 env k r e t
@@ -119,7 +119,7 @@ module _ {M : Type 1} {𝓤 : Ura M} (𝓛 : Logic 𝓤) (𝓜 : Model 𝓤 𝓛
         (runs (𝓣of 𝓛 𝓜 𝓡 env).C (𝓣of 𝓛 𝓜 𝓡 env).Λ (env_of f.locals bs) f.body
         (at_ret (env_of f.locals bs) (End 𝓛 D ps c y)))
 
-    module _ (key : Name) (closed : Defined 𝓛 𝓜 𝓡 env key f) (fits : Fitting 𝓤 D ps c f) where
+    module _ (key : Callee) (closed : Defined 𝓛 𝓜 𝓡 env key f) (fits : Fitting 𝓤 D ps c f) where
       pub walk_with : (φ : Start 𝓤 D ps c → Type 0) → ((z : Start 𝓤 D ps c) → ent 𝓤 ((c z.κs z.a).requires z.g) (fact 𝓤 (φ z)))
           → ((z : Start 𝓤 D ps c) → φ z → Walk (bound 𝓛 D ps c z)) → Met 𝓛 𝓜 𝓡 env key D c
       walk_with φ asks walk =
@@ -157,7 +157,7 @@ module _ {M : Type 1} {𝓤 : Ura M} (𝓛 : Logic 𝓤) (𝓜 : Model 𝓤 𝓛
       (runs (𝓣of 𝓛 𝓜 𝓡 env).C (𝓣of 𝓛 𝓜 𝓡 env).Λ (env_of f.locals bs) f.body
       (at_ret (env_of f.locals bs) (Whole.post (bound 𝓛 D ps c z))))
 
-  pub pass_in : (key : Name) → Defined 𝓛 𝓜 𝓡 env key f → Fitting 𝓤 D ps c f → ((z : Start 𝓤 D ps c) → Passes z)
+  pub pass_in : (key : Callee) → Defined 𝓛 𝓜 𝓡 env key f → Fitting 𝓤 D ps c f → ((z : Start 𝓤 D ps c) → Passes z)
       → Met 𝓛 𝓜 𝓡 env key D c
   unfolding tables_of
   pass_in key closed fits k =

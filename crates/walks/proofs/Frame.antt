@@ -8,13 +8,13 @@ use mathlib.Core.Path.{◌≡◌, refl, sym, ◌∙◌, ap, subst}
 use Prim.Native.Nat.{ℕ, zero, suc}
 use mathlib.Core.List.{List, [], ◌∷◌, ◌++◌}
 use seplogic.Ra.Ura.{Ura}
-use seplogic.Ra.TreeShare.{full_share}
+use base.Fraction.{full_share}
 use lib.Dec.{T}
 use mir.Syntax.{Ty, Local, local, Fn}
 use mir.Val.{Val, WT, has_ty}
 use base.Logic.{SProp, ent, sep, via, id⊢, comm∗, mono∗, mono_r, assoc'}
 use base.Fml.{Share, Fml, ftrue, ffalse, feq, flt, fsep, fand, for, fwand, fex, fall, fupd, fat, froom, fdies, flft, fdead, fobs, fauth, fres, fbor, fobor}
-use base.Fml.{flent, fshr_bor}
+use base.Fml.{flent, fshr_bor, fhide, fleft, fown, finv, fnamed, ftok, fkid, fme, fsent}
 use prog.Wp.{Calls, Loops, WpFn, release}
 use types.Logic.{Logic}
 use types.Kit.{Item, ‵, raw, ◌⊛◌, some, given, later, mean, ⋆, nth, del, put, pull, push, pop, ++⊢, ⊢++, Goal, prop, runs, at_ret, allocs}
@@ -192,6 +192,15 @@ module _ {M : Type 1} {𝓤 : Ura M} where
       cleared (fobor κ q P) = stays (‵ (fobor κ q P))
       cleared (flent κ P) = stays (‵ (flent κ P))
       cleared (fshr_bor κ F) = stays (‵ (fshr_bor κ F))
+      cleared (fhide P) = stays (‵ (fhide P))
+      cleared (fleft q τ τs b o) = stays (‵ (fleft q τ τs b o))
+      cleared (fown R γ x) = stays (‵ (fown R γ x))
+      cleared (finv P) = stays (‵ (finv P))
+      cleared (fnamed n P) = stays (‵ (fnamed n P))
+      cleared (ftok m) = stays (‵ (ftok m))
+      cleared (fkid h a) = stays (‵ (fkid h a))
+      cleared (fme h) = stays (‵ (fme h))
+      cleared (fsent h) = stays (‵ (fsent h))
 
       abbrev clear : (i : Item 𝓤) → Cleared i
       clear (‵ P) = cleared P

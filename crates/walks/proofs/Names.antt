@@ -5,19 +5,20 @@ pub use mathlib.Core.Bool.{true, false}
 pub use mathlib.Core.List.{List, [], ◌∷◌}
 pub use lib.ListN.{length, get_or, set, take, drop, replicate}
 pub use seplogic.Ra.Ura.{Ura}
-pub use seplogic.Ra.TreeShare.{full_share}
+pub use base.Fraction.{full_share}
 pub use mir.Syntax.{named, erased, w8, w64, ty_array}
 pub use mir.Val.{Val, vint, vptr}
 pub use base.Logic.{SProp, ent, emp, sep, ex, guard, via, fst∗, snd∗, id⊢}
 pub use base.Fml.{Lft, Share, GName, Fml, ftrue, fsep, fat, fdies, flft, flent, fobs, fauth, fbor, fobor}
 pub use prog.Routine.{Routine}
 pub use prog.Wp.{Heap, Env, Calls, Loops, WpFn, Tables}
-pub use ghost.Atoms.{Atoms, sem}
+pub use types.Logic.{sem}
+pub use ghost.Atoms.{Atoms}
 pub use contract.Monad.{fact}
 pub use prog.Model.{Model}
-pub use contract.Running.{GhostRules, Running, given_of}
+pub use contract.Running.{Running}
 pub use contract.Monad.{fact_i, fact_mono}
-pub use types.Kit.{drop as let_go, Given, Item, ‵, raw, given, some, later, ◌⊛◌, ⋆, prop, runs, at_ret, Sq, ◌$◌, ◌∵◌, !, qed, by, move, keep}
+pub use types.Kit.{drop as let_go, Item, ‵, raw, given, some, later, ◌⊛◌, ⋆, prop, runs, at_ret, Sq, ◌$◌, ◌∵◌, !, qed, by, move, keep}
 pub use types.Kit.{use1, use2, use3, split, join, pick, learn, rewrite, fsplit, fsplit3, fjoin, fjoin3, feq_l, feq_i, check, show, suffices, frame, await}
 pub use types.Kit.{done}
 pub use types.Run.{look, look_raw, init, store, store_raw, forget, stop, hop, fld, from, load, lit, false_lit, of_opd, bin, addr}
@@ -34,7 +35,8 @@ pub use denote.Laws.{Is, shows}
 pub use denote.Plain.{uint_Makes, uint_Tells}
 pub use denote.Builtin.{u8, usize}
 pub use denote.Ref.{Bor, MutBor, NamedLft, MutRef, shr_vals, mut_vals, mut_Tells, mut_Lawful}
-pub use denote.Slice.{slice_val, ShrSlice, MutSlice, Room, finally, heres, coded_holeys, shr_slice_at, mut_slice_at, shr_slice_vals, mut_slice_vals, shr_slice_Tells}
+pub use denote.Slice.{slice_val, ShrSlice, MutSlice, Room, finally, heres, coded_holeys, shr_slice_at, mut_slice_at, shr_slice_vals, mut_slice_vals}
+pub use denote.Slice.{shr_slice_Tells}
 pub use denote.Slice.{shr_slice_Lawful, shr_slice_copy}
 pub use denote.Lend.{Held, lends_slice, slice_back}
 pub use denote.Index.{row, place_is, elem_out, elem_back, elem_put, opens_slice, closes_slice, looks_slice, shuts_slice}

@@ -3,7 +3,7 @@
 --     part              the value of a field of a local
 --     large             a large constant
 --     sets, resets      a local that is empty, or that holds something, is assigned to; `resets_last` where the assignment ends a turn
---     lands-in          what a call answers is stored to a local that is empty; `lands_over`, to one that holds something
+--     lands_in          what a call answers is stored to a local that is empty; `lands_over`, to one that holds something
 --     recasts           what a cell holds, written another way
 --     behind, resliced  a slice that a local holds is borrowed again, as for a call
 --     in64, sliced      a number of 64 bits, and a slice of so many elements, are values of their types
@@ -14,10 +14,11 @@
 --     past, front       of formulas under ∗: the first is let go, or all but the first
 use types.Logic.{Logic, sem}
 use denote.Ref.{Bor}
+use denote.RattleType.{RowLaws}
 use Rattle.walks.proofs.Names.{◌≡◌, refl, sym, ◌∙◌, ap, subst, ℕ, suc, ◌<◌, ◌^◌, true, List, [], ◌∷◌, Ura, full_share, get_or, w64, Val, vint}
 use Rattle.walks.proofs.Names.{vptr, id⊢, Lft, Fml, fsep, fat, Env, Calls, Loops, sem, join, Item, ‵, prop, runs, ◌$◌, ◌⊛◌}
 use Rattle.walks.proofs.Names.{move, let_go as drop, use1, split, rewrite, fsplit, fjoin, look, init, store, stop, hop, fld, from, load, addr}
-use Rattle.walks.proofs.Names.{and_then, no_more, assigns, assigns_last, agg, whole, sub, look_in, RattleType, usize, uint_Makes, Is, RefT, slice_val}
+use Rattle.walks.proofs.Names.{and_then, no_more, assigns, assigns_last, agg, whole, sub, look_in, RattleType, usize, uint_Makes, Is, slice_val}
 use Rattle.walks.proofs.Names.{ShrSlice, shr_slice_copy, owned, via}
 use Prim.Native.Nat.{zero}
 use mathlib.Core.Option.{some}
@@ -135,10 +136,10 @@ module _ {M : Type 1} {𝓤 : Ura M} {𝓛 : Logic 𝓤} {K : Type 0} {Γ : List
     pub front : K → {P Q : Fml} → Step K 𝓛 (‵ P ∷ Γ) G (‵ (fsep P Q) ∷ Γ) G
     front t = step (λ s. fsplit t $ move t (1 ∷ []) $ drop t $ s)
 
-    pub copies : K → (ℓ : Lifetime) (κ : Lft) (R : RattleType) (s : Bor (List R.Denot)) (vs : List Val)
+    pub copies : K → (ℓ : Lifetime) (κ : Lft) (R : RattleType) → RowLaws R → (s : Bor (List R.Denot)) (vs : List Val)
         → Step K 𝓛 (‵ ((ShrSlice ℓ κ R).own_val s vs) ∷ ‵ ((ShrSlice ℓ κ R).own_val s vs) ∷ Γ) G (‵ ((ShrSlice ℓ κ R).own_val s vs) ∷ Γ) G
-    copies t ℓ κ R s vs =
-        step (λ z. use1 𝓛 (‵ ((ShrSlice ℓ κ R).own_val s vs) ⊛ ‵ ((ShrSlice ℓ κ R).own_val s vs)) ((shr_slice_copy 𝓛 ℓ κ R).twice s vs) $
+    copies t ℓ κ R L s vs =
+        step (λ z. use1 𝓛 (‵ ((ShrSlice ℓ κ R).own_val s vs) ⊛ ‵ ((ShrSlice ℓ κ R).own_val s vs)) ((shr_slice_copy 𝓛 ℓ κ R L).twice s vs) $
         split t $ z)
 
     pub number : K → (n : ℕ) → n < 2 ^ 64 → {P : Fml} → Step K 𝓛 (‵ (fsep (usize.own_val n (vint w64 n ∷ [])) P) ∷ Γ) G (‵ P ∷ Γ) G

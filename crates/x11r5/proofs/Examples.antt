@@ -1,5 +1,6 @@
 -- The tables of strings and writings, proved at once: antt computes the definitions. And the count that is needed for the empty list.
-use Rattle.element.proofs.Names.{◌≡◌, refl, [], pick, may_use, allowed, form_of, set_of, put, written_of, deeper_of, begun_of, reverted_of, step_of, next, answer}
+use Rattle.element.proofs.Names.{◌≡◌, refl, [], pick, may_use, allowed, form_of, set_of, put, written_of, deeper_of, begun_of, reverted_of, step_of, next}
+use Rattle.element.proofs.Names.{answer}
 use Rattle.element.proofs.Names.{from}
 use Rattle.base.specs.Refusal as refusal
 use Rattle.charset.specs.Charsets.{fits_of, find}

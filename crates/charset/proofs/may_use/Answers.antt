@@ -1,5 +1,4 @@
 -- `charset::may_use` meets its contract: the sides stand in the set's row.
-use native.Mathlib.Omega.{arith}
 use Rattle.charset.specs.Charsets.{may_use, allowed, charset_of}
 use Rattle.charset.proofs.may_use.Goals as goal
 

@@ -1,5 +1,4 @@
 -- `charset::octets_of` meets its contract: the octets of a character stand in the set's row.
-use native.Mathlib.Omega.{arith}
 use Rattle.charset.specs.Charsets.{form_of, charset_of}
 use Rattle.charset.proofs.octets_of.Goals as goal
 

@@ -1,5 +1,4 @@
 -- `charset::set_of` meets its contract: it answers `found_of`, form by form on each side, which is what the search through the table finds.
-use native.Mathlib.Omega.{arith}
 use Rattle.base.proofs.Ladder.{ladder, after}
 use Rattle.charset.specs.Finals.{found_of}
 use Rattle.charset.proofs.Lookup.{found_is}

@@ -1,5 +1,4 @@
 -- `designation::by_final` meets its contract, by what `set_of` ensures.
-use Rattle.element.proofs.Names.{arith}
 use Rattle.designations.proofs.by_final.Goals as goal
 
 pub returns : goal.returns

@@ -1,5 +1,5 @@
 -- `designation::multi_octet` meets its contract, arm by arm.
-use Rattle.element.proofs.Names.{arith, ladder}
+use Rattle.element.proofs.Names.{ladder}
 use Rattle.designations.specs.Designation.{multi_octet_at}
 use Rattle.designations.proofs.multi_octet.Goals as goal
 

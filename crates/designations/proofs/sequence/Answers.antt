@@ -1,5 +1,5 @@
 -- `designation::sequence` meets its contract, arm by arm.
-use Rattle.element.proofs.Names.{arith, ladder}
+use Rattle.element.proofs.Names.{ladder}
 use Rattle.designations.specs.Designation.{sequence_of}
 use Rattle.designations.proofs.sequence.Goals as goal
 

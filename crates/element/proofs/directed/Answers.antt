@@ -1,5 +1,4 @@
 -- `element::directed` meets its contract, case by case; a unit's step is what `Directions::step` ensures.
-use native.Mathlib.Omega.{arith}
 use mathlib.Core.Path.{◌∙◌, ap}
 use Rattle.element.specs.Element.{stepped_of, directed_of}
 use Rattle.element.proofs.directed.Goals as goal

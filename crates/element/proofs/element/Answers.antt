@@ -1,5 +1,4 @@
 -- `element::element` meets its contract, by what it calls.
-use native.Mathlib.Omega.{arith}
 use Rattle.element.proofs.element.Goals as goal
 
 pub returns : goal.returns

@@ -1,5 +1,5 @@
 -- `element::shape` meets its contract, test by test.
-use Rattle.element.proofs.Names.{arith, ap, ◌∙◌}
+use Rattle.element.proofs.Names.{ap, ◌∙◌}
 use Rattle.control.specs.Escape.{escape_of}
 use Rattle.control.specs.Mark.{csi_of}
 use Rattle.element.proofs.Steps.{shaping, on_shape, on_delete, rest}

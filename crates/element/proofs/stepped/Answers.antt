@@ -1,5 +1,4 @@
 -- `element::stepped` meets its contract, case by case.
-use native.Mathlib.Omega.{arith}
 use Rattle.element.specs.Element.{stepped_of}
 use Rattle.element.proofs.stepped.Goals as goal
 

@@ -1,5 +1,4 @@
 -- `segment::extended` meets its contract, octet by octet and test by test.
-use native.Mathlib.Omega.{arith}
 use Rattle.segment.specs.Segment.{extended_of}
 use Rattle.state.proofs.Steps.{steps}
 use Rattle.segment.proofs.extended.Goals as goal

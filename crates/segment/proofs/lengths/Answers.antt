@@ -1,5 +1,4 @@
 -- `segment::lengths` meets its contract, octet by octet; the two lengths widen to numbers below 256 each, so n is at most 65,535.
-use native.Mathlib.Omega.{arith}
 use Rattle.segment.specs.Segment.{lengths_of}
 use Rattle.state.proofs.Steps.{steps}
 use Rattle.segment.proofs.lengths.Goals as goal

@@ -1,9 +1,7 @@
 -- `segment::name_end` meets its contract. The invariant: the name that the octets from `i` on have, `i` octets being passed, is
 -- that of all of them.
 use native.Mathlib.Omega.{arith}
-use Prim.Native.Nat.{◌≤◌, ◌-◌}
-use mathlib.Core.Path.{◌≡◌, refl}
-use lib.ListN.{length}
+use mathlib.Core.Path.{refl}
 use Rattle.base.specs.Choice.{from}
 use Rattle.base.proofs.Ladder.{after}
 use Rattle.segment.specs.Segment.{name_of}

@@ -1,13 +1,10 @@
 -- `segment::name_end` meets its contract. The invariant: the name that the octets from `i` on have, `i` octets being passed, is
 -- that of all of them.
-use native.Mathlib.Omega.{arith}
 use Prim.Native.Nat.{◌≤◌, ◌-◌}
-use mathlib.Core.Path.{◌≡◌, refl}
+use mathlib.Core.Path.{◌≡◌}
 use lib.ListN.{length}
 use Rattle.base.specs.Choice.{from}
-use Rattle.base.proofs.Ladder.{after}
 use Rattle.segment.specs.Segment.{name_of}
-use Rattle.segment.proofs.Steps.{named}
 use Rattle.segment.proofs.name_end.Given as goal
 
 abbrev pub invariant-loop-i : goal.invariant-loop-i

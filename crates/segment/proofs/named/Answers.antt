@@ -1,5 +1,4 @@
 -- `segment::named` meets its contract, by the test of the text's length.
-use native.Mathlib.Omega.{arith}
 use Rattle.base.proofs.Ladder.{ladder}
 use Rattle.segment.specs.Segment.{content_of}
 use Rattle.segment.proofs.named.Goals as goal

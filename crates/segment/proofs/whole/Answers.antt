@@ -1,5 +1,4 @@
 -- `segment::whole` meets its contract: a text's width is above 0.
-use native.Mathlib.Omega.{arith}
 use Rattle.segment.specs.Segment.{whole_of}
 use Rattle.segment.proofs.Steps.{width_pos}
 use Rattle.segment.proofs.whole.Goals as goal

@@ -1,5 +1,4 @@
 -- `approved::row_of` meets its contract: at a number that is known antt computes the row, and a number that is none of the fifteen has none.
-use native.Mathlib.Omega.{arith}
 use Rattle.base.specs.Choice.{pick}
 use Rattle.charset.specs.Charsets.{width_of_form, charset_of}
 use Rattle.charset.proofs.Laws.{known_row, no_row}

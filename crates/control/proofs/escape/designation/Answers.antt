@@ -1,5 +1,4 @@
 -- `escape::designation` meets its contract, octet by octet and test by test.
-use native.Mathlib.Omega.{arith}
 use Rattle.state.proofs.Steps.{steps}
 use Rattle.control.proofs.Steps.{on_final, on_no_final}
 use Rattle.control.specs.Escape.{designation_of}

@@ -1,5 +1,4 @@
 -- `escape::escape` meets its contract, octet by octet and test by test.
-use native.Mathlib.Omega.{arith}
 use Rattle.state.proofs.Steps.{steps}
 use Rattle.control.specs.Escape.{escape_of}
 use Rattle.control.proofs.escape.escape.Goals as goal

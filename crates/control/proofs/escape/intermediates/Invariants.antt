@@ -1,12 +1,9 @@
 -- `escape::intermediates` meets its contract. The invariant: the octets from `i` on are answered as those from `k` on are.
-use native.Mathlib.Omega.{arith}
 use Prim.Native.Nat.{◌-◌}
-use mathlib.Core.Path.{◌≡◌, refl}
+use mathlib.Core.Path.{◌≡◌}
 use lib.ListN.{length}
 use Rattle.base.specs.Choice.{from}
-use Rattle.base.proofs.Ladder.{after}
 use Rattle.control.specs.Escape.{intermediates_of}
-use Rattle.control.proofs.Steps.{passing}
 use Rattle.control.proofs.escape.intermediates.Given as goal
 
 abbrev pub invariant-loop-i : goal.invariant-loop-i

@@ -1,5 +1,4 @@
 -- `escape::multi_octet` meets its contract, octet by octet and test by test.
-use native.Mathlib.Omega.{arith}
 use Rattle.state.proofs.Steps.{steps}
 use Rattle.control.specs.Escape.{multi_octet_of}
 use Rattle.control.proofs.escape.multi_octet.Goals as goal

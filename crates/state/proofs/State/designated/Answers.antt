@@ -1,5 +1,4 @@
 -- `State::designated` meets its contract on each side.
-use native.Mathlib.Omega.{arith}
 use Rattle.state.specs.State.{put}
 use Rattle.state.proofs.State.designated.Goals as goal
 

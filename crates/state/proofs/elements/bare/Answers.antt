@@ -1,5 +1,4 @@
 -- `element::bare` meets its contract, by what `counts_as_text` ensures.
-use native.Mathlib.Omega.{arith}
 use Rattle.state.proofs.elements.bare.Goals as goal
 
 pub returns : goal.returns

@@ -1,0 +1,5 @@
+-- `archive::turns::one` meets its contract, by what it calls.
+use Rattle.archive.proofs.turns.one.Goals as goal
+
+pub returns : goal.returns
+returns c = rw (c.if_character.ensures, c.if_character-code.ensures)

@@ -1,0 +1,11 @@
+-- `r5_check::check` meets its contract: at each turn of the loop what is left answers what the whole string does (`Head`), and the turns are those
+-- of `Turn`.
+use Rattle.element.proofs.Names.{◌-◌, length}
+use Rattle.r5_check.proofs.Turn.{Head}
+use Rattle.r5_check.proofs.check.Given as goal
+
+abbrev pub invariant-loop-at : goal.invariant-loop-at
+invariant-loop-at l = Head l.s l.at l.count l.st
+
+abbrev pub decreases-loop-at : goal.decreases-loop-at
+decreases-loop-at l = length l.s - l.at

@@ -1,0 +1,20 @@
+-- `resource::write::needed` meets its contract. The invariant is `Counted`, and each turn is `count_next`.
+use native.Mathlib.Omega.{arith}
+use Rattle.resource.proofs.Writing.{count_first, count_next, count_last, count_few}
+use Rattle.resource.proofs.write.needed.Goals as goal
+
+pub loop-i-init : goal.loop-i-init
+loop-i-init c = count_first _
+
+pub overflow_add-n : goal.overflow_add-n
+overflow_add-n c = let next = count_next _ _ _ _ c.loop-i-test.true c.loop-i.invariant c.size.ensures in
+    omega (arith, count_few _ _ _ c.requires next)
+
+pub loop-i-preserved : goal.loop-i-preserved
+loop-i-preserved c = search count_next
+
+pub overflow_cast-result : goal.overflow_cast-result
+overflow_cast-result c = omega (arith, count_few _ _ _ c.requires c.loop-i.invariant)
+
+pub returns : goal.returns
+returns c = search count_last

@@ -1,0 +1,17 @@
+-- `run_lists::list_quickly` meets its contract, by what `list_text` ensures; and nothing is done where text would change the state.
+use Rattle.element.proofs.Names.{sym, ◌∙◌}
+use Rattle.run_lists.proofs.Lists.{on_first_lem}
+use Rattle.run_lists.proofs.list_quickly.Goals as goal
+
+pub list_text-requires : goal.list_text-requires
+list_text-requires c = let pre = c.requires in
+    (pre, sym c.settled.ensures ∙ c.if-settled.true, c.in_force.ensures)
+
+pub shape_of-out-then-settled : goal.shape_of-out-then-settled
+shape_of-out-then-settled c = c.list_text.ensures.long
+
+pub returns-then-settled : goal.returns-then-settled
+returns-then-settled c = c.list_text.ensures
+
+pub returns : goal.returns
+returns c = on_first_lem _ _ _
