@@ -257,7 +257,8 @@ pub record Tied (c : ℕ) : Type 0 where
 ties : ℕ → Bool
 ties c =
     (beq (ltb (get_or places_in_gl c 0) size.gl) (allowed GL c) && beq (ltb (get_or places_in_gr c 0) size.gr) (allowed GR c))
-    && (implies (allowed GL c) (eqb (get_or sets_in_gl (get_or places_in_gl c 0) 0) c) && implies (allowed GR c) (eqb (get_or sets_in_gr (get_or places_in_gr c 0) 0) c))
+    && (implies (allowed GL c) (eqb (get_or sets_in_gl (get_or places_in_gl c 0) 0) c)
+    && implies (allowed GR c) (eqb (get_or sets_in_gr (get_or places_in_gr c 0) 0) c))
     && eqb (price_of_class c) (cond (eqb (form_of c) form_94x94) 4 3)
 
 all_tied : up_to 15 ties ≡ true

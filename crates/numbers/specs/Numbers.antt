@@ -86,7 +86,8 @@ surcharge x k j = cond (eqb j k) 0 (price_of_class x)
 unfoldable pub change : ℕ → ℕ → Option Standing
 change k j =
     cond (eqb j k) none
-    (cond (eqb (j / size.columns) (k / size.columns)) (some (on GR (get_or sets_in_gr (j % size.columns) 0))) (some (on GL (get_or sets_in_gl (j / size.columns) 0))))
+    (cond (eqb (j / size.columns) (k / size.columns)) (some (on GR (get_or sets_in_gr (j % size.columns) 0)))
+    (some (on GL (get_or sets_in_gl (j / size.columns) 0))))
 
 -- the side on which a character of a set is written under number j
 unfoldable pub side_at : ℕ → ℕ → Side

@@ -85,7 +85,8 @@ module _ (x : ℕ) (next : List ℕ) (g q : ℕ) (hg : g < 5) (hq : q < 16) (sm 
         arith,
         col.each g hg,
         ap (λ (y : List ℕ). get_or y m 0) et,
-        eqb-true (get_or (surcharges p) m 0) (cond (eqb m 15) 0 p) (up_to_lem 32 (λ i. eqb (get_or (surcharges p) i 0) (cond (eqb i 15) 0 p)) t m (omega arith)),
+        eqb-true (get_or (surcharges p) m 0) (cond (eqb m 15) 0 p)
+            (up_to_lem 32 (λ i. eqb (get_or (surcharges p) i 0) (cond (eqb i 15) 0 p)) t m (omega arith)),
         way j (16 * g + r) p (eqb m 15) (z ∙ e) c (eqb_as m 15 (16 * g + r) k (λ y. omega arith) (λ y. omega arith)),
       )
 

@@ -10,7 +10,8 @@ use Rattle.base.specs.declared.Answer.{Answer}
 use Rattle.base.specs.declared.Unit.{Unit as UnitRecord}
 use Rattle.grammar.specs.Records.{unit_read}
 use Rattle.x11r5.specs.Records.{record_refusal}
-use Rattle.r5_units.specs.Unit.{text_set, text_code, stands_on, text_octets, control_octet, is_left, naming, width_of, designated_width, stored_to, stored_over}
+use Rattle.r5_units.specs.Unit.{text_set, text_code, stands_on, text_octets, control_octet, is_left, naming, width_of, designated_width, stored_to}
+use Rattle.r5_units.specs.Unit.{stored_over}
 use Rattle.r5_pen.specs.declared.Pen.{Pen}
 
 -- the octets counted or stored, the index of the next record, number and place of a refusal, the sets in GL and GR, and whether it stores

@@ -126,7 +126,8 @@ naming_count : (c : ℕ) → c < no_set → length (naming c) ≡ cond (leb firs
 unfolding designation
 naming_count c h =
     test (ltb c first_double)
-    (λ p. let l = ltb-true c first_double p in rw (lt-leb first_double c l) (lead_size (form_of c) (side_of (is_left c)) (row_of c).last false (narrow_form c l)))
+    (λ p. let l = ltb-true c first_double p in rw (lt-leb first_double c l)
+    (lead_size (form_of c) (side_of (is_left c)) (row_of c).last false (narrow_form c l)))
     (λ p. let l = ltb-false c first_double p in
     rw (le-leb first_double c l) (lead_size (form_of c) (side_of (is_left c)) (row_of c).last true (wide_form c l h)))
 

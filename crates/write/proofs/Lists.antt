@@ -1,5 +1,5 @@
 -- The check record by record is that of the whole list, and the rows of a list with no offending record hold its units.
-use Rattle.element.proofs.Names.{ℕ, zero, suc, ◌+◌, ◌*◌, ◌/◌, ◌≤◌, ◌<◌, arith, ◌≡◌, refl, sym, ap, ap₂, ◌∙◌, subst, Bool, true, false, List, []}
+use Rattle.element.proofs.Names.{ℕ, zero, suc, ◌+◌, ◌*◌, ◌/◌, ◌≤◌, ◌<◌, arith, ◌≡◌, refl, sym, ap, ap₂, ◌∙◌, subst, true, false, List, []}
 use Rattle.element.proofs.Names.{◌∷◌, ◌⊎◌, inl, inr, ⊎_elim, Option, none, some, Option·some-injective, ltb, leb, length, get_or, set, drop, length-set}
 use Rattle.element.proofs.Names.{sets, ltb-true, lt-ltb, pick, pick_by, test, tested, UnitRecord, undirected, Directions, Step, Goes, Stops}
 use mathlib.Core.Option.{none-ne-some}
@@ -85,7 +85,7 @@ length_with : (w : List ℕ) (i : ℕ) (r : UnitRecord) → length (with_record 
 unfolding with_record
 length_with w i r = pick_by (λ (v : List ℕ). length v ≡ length w) (ltb i (length w / 72)) (λ _. length-sets w (72 * i + 65) (seven_octets r)) (λ _. refl)
 
-pub length_room : (p : Progress) (r : UnitRecord) (i : ℕ) (w : List ℕ) → length (room_after p r i w) ≡ length w
+length_room : (p : Progress) (r : UnitRecord) (i : ℕ) (w : List ℕ) → length (room_after p r i w) ≡ length w
 unfolding room_after
 length_room (Fine d) r i w = length_with w i r
 length_room (Faulty n j) r i w = refl
@@ -202,9 +202,6 @@ unfolding quick_run
 run_most rs zero i = omega arith
 run_most rs (suc m) i =
     pick_by (λ k. k ≤ i + suc m) (plain_of (get_or rs i no_record)) (λ _. omega (arith, run_most rs m (suc i))) (λ _. omega arith)
-
-pub length_quick : (b : Bool) (r : UnitRecord) (i : ℕ) (w : List ℕ) → length (pick b (with_record w i r) w) ≡ length w
-length_quick b r i w = pick_by (λ (v : List ℕ). length v ≡ length w) b (λ _. length_with w i r) (λ _. refl)
 
 pub passed_none : (p : Progress) (rs : List UnitRecord) (i : ℕ) (w : List ℕ) → Passed p rs i i w w
 passed_none p rs i w = record { onwards = omega arith; same = refl; stays = λ o e. e; stowed = λ o room e s. s }

@@ -9,7 +9,8 @@ pub returns-then-work-n : goal.returns-then-work-n
 returns-then-work-n c = wrote_no_work _ _ _ _ c.if-n-gt-UNITS.false c.if-work-n.true c.refused-then-work-n.ensures
 
 pub returns-then-count-gt-OCTETS : goal.returns-then-count-gt-OCTETS
-returns-then-count-gt-OCTETS c = wrote_long _ _ _ _ c.if-n-gt-UNITS.false c.if-work-n.false _ _ c.plan-count.ensures c.if-count-gt-OCTETS.true c.refused-then-count-gt-OCTETS.ensures
+returns-then-count-gt-OCTETS c =
+    wrote_long _ _ _ _ c.if-n-gt-UNITS.false c.if-work-n.false _ _ c.plan-count.ensures c.if-count-gt-OCTETS.true c.refused-then-count-gt-OCTETS.ensures
 
 pub returns-then-out-count : goal.returns-then-out-count
 returns-then-out-count c = rw c.no_room.ensures
