@@ -33,9 +33,9 @@ static void print_answer(const char *what, ctext_answer a)
         printf("accepted, place %zu, count %zu\n", a.place, a.count);
     else if (a.number == CTEXT_NO_ROOM)
         printf("refused %d at %zu, %zu needed: %s\n", a.number, a.place, a.count,
-               ctext_refusal_text(a.number));
+               ctext_r5_refusal_text(a.number));
     else
-        printf("refused %d at %zu: %s\n", a.number, a.place, ctext_refusal_text(a.number));
+        printf("refused %d at %zu: %s\n", a.number, a.place, ctext_r5_refusal_text(a.number));
 }
 
 /* The direction in force after a unit is told where one is open. */

@@ -29,7 +29,7 @@
 #include <stddef.h>
 #include <stdint.h>
 
-#define CTEXT_VERSION "4.1"
+#define CTEXT_VERSION "4.0"
 
 /* The most octets of a string, units of a list, octets of an extended
    segment, and directions open at once. */
@@ -74,8 +74,8 @@ typedef struct ctext_answer {
 
 enum ctext_refusal {
     CTEXT_ACCEPTED = 0,
-    CTEXT_TOO_LONG = 1,             /* string, list or writing over 65,535, or resource form
-                                       over 262,140 */
+    CTEXT_TOO_LONG = 1,             /* string, list or shortest writing over 65,535, or
+                                       resource form over 262,140 */
     CTEXT_CUT = 2,                  /* end inside an element */
     CTEXT_UNUSED = 3,               /* octet not used there */
     CTEXT_UNKNOWN = 4,              /* unknown sequence */
@@ -128,7 +128,7 @@ static inline const char *ctext_refusal_text(unsigned number)
 {
     switch (number) {
     case CTEXT_ACCEPTED: return "accepted";
-    case CTEXT_TOO_LONG: return "string, list or writing over 65,535, or resource form over 262,140";
+    case CTEXT_TOO_LONG: return "string, list or shortest writing over 65,535, or resource form over 262,140";
     case CTEXT_CUT: return "end inside an element";
     case CTEXT_UNUSED: return "octet not used there";
     case CTEXT_UNKNOWN: return "unknown sequence";
@@ -141,9 +141,17 @@ static inline const char *ctext_refusal_text(unsigned number)
     case CTEXT_BAD_UNIT: return "bad unit, or no such run or reader";
     case CTEXT_NO_WORK_ROOM: return "work room too short";
     case CTEXT_BAD_FORM: return "bad escape, raw newline or raw 00 in a resource form";
+    default: return "no number of refusal";
+    }
+}
+
+/* The same with the numbers that the functions for X11R5 alone give. */
+static inline const char *ctext_r5_refusal_text(unsigned number)
+{
+    switch (number) {
     case CTEXT_NOT_ENDED: return "no 00 ends the string for X11R5";
     case CTEXT_NOT_IN_X11R5: return "direction mark or extended segment, which X11R5 does not have";
-    default: return "no number of refusal";
+    default: return ctext_refusal_text(number);
     }
 }
 

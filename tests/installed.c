@@ -43,10 +43,14 @@ static void try_names(void)
     same("none", ctext_direction_text(0), "no direction");
     same("not a direction", ctext_direction_text(3), "not a direction");
     same("a refusal", ctext_refusal_text(CTEXT_CUT), "end inside an element");
-    same("a refusal of X11R5", ctext_refusal_text(CTEXT_NOT_ENDED), "no 00 ends the string for X11R5");
-    same("the last refusal", ctext_refusal_text(CTEXT_NOT_IN_X11R5),
+    same("the last refusal", ctext_refusal_text(CTEXT_BAD_FORM),
+         "bad escape, raw newline or raw 00 in a resource form");
+    same("no refusal", ctext_refusal_text(14), "no number of refusal");
+    same("a refusal of X11R5", ctext_r5_refusal_text(CTEXT_NOT_ENDED), "no 00 ends the string for X11R5");
+    same("the last refusal of X11R5", ctext_r5_refusal_text(CTEXT_NOT_IN_X11R5),
          "direction mark or extended segment, which X11R5 does not have");
-    same("no refusal", ctext_refusal_text(16), "no number of refusal");
+    same("a refusal of both", ctext_r5_refusal_text(CTEXT_CUT), "end inside an element");
+    same("no refusal of X11R5", ctext_r5_refusal_text(16), "no number of refusal");
     same("the version", ctext_version(), CTEXT_VERSION);
 }
 

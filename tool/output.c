@@ -104,7 +104,7 @@ void out_name(const note *n, const char *after)
 
 void out_refusal(ctext_answer a)
 {
-    out_format("refused %d at %zu: %s\n", a.number, a.place, ctext_refusal_text(a.number));
+    out_format("refused %d at %zu: %s\n", a.number, a.place, ctext_r5_refusal_text(a.number));
 }
 
 int out_made(const note *n, ctext_answer a, const uint8_t *octets)
@@ -131,7 +131,7 @@ int complain_refusal(const note *n, ctext_answer a)
 {
     char words[128];
     snprintf(words, sizeof words, "refused %d at %zu: %s", a.number, a.place,
-             ctext_refusal_text(a.number));
+             ctext_r5_refusal_text(a.number));
     complain(n->name, words);
     return STATUS_REFUSED;
 }

@@ -26,8 +26,7 @@ static const struct {
     { CTEXT_UNKNOWN, "\x1B\x24\x40", 3, "1B 24 40 is a form of ISO-2022-JP; here it is 1B 24 28 42" },
     { CTEXT_UNKNOWN, "\x1B\x24\x42", 3, "1B 24 42 is a form of ISO-2022-JP; here it is 1B 24 28 42" },
     { CTEXT_UNUSED, "\x00", 1,
-      "a property may hold several notes with 00 between them: each is one of its own;\n"
-      "one from an X11R5 console ends with 00, and ctext from-r5 reads it" },
+      "a property may hold several notes with 00 between them: each is one of its own" },
     { CTEXT_UNUSED, "\x20", 1, "before a space 1B 28 42 puts ASCII into GL" },
     { CTEXT_BAD_DIRECTION, "\x9B\x31", 2, LATE_MARK },
     { CTEXT_BAD_DIRECTION, "\x9B\x32", 2, LATE_MARK },

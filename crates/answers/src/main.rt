@@ -5,7 +5,7 @@ ghost use Rattle.std.specs.Prelude.{◌<◌, ◌≡◌, ◌≤◌, length, take}
 
 use base::Answer;
 use std::io;
-use std::io::Read;
+use std::io::{Read, Stdin};
 
 // The value of a hexadecimal digit, 16 where it is none.
 fn digit(b: u8) -> u8 {
@@ -91,10 +91,35 @@ fn show_lines(rt: &impl Print, text: &[u8]) -> io::Result<()> {
     Ok(())
 }
 
-// Of the input the first 65,536 octets are read.
+// Reads once: no octets at the input's end, and where a read fails.
+fn read_some(stdin: &mut Stdin, part: &mut [u8]) -> usize
+    ensures { (result ≤ length part.new) × (length part.new ≡ length part.old) }
+{
+    match stdin.read(part) {
+        Ok(octets) => octets,
+        Err(_) => 0,
+    }
+}
+
+// Reads until the room is full or a read gives nothing.
+fn read_full(stdin: &mut Stdin, room: &mut [u8]) -> usize
+    ensures { result ≤ length room.new }
+{
+    let mut n: usize = 0;
+    while n < room.len() {
+        let some = read_some(stdin, &mut room[n..]);
+        if some == 0 {
+            return n;
+        }
+        n += some;
+    }
+    n
+}
+
 fn main(rt: HostRuntime) -> io::Result<()> {
-    let mut text = Vec::new(rt.alloc());
-    rt.stdin().take(65536).read_to_end(&mut text)?;
-    show_lines(&rt, text.as_slice())?;
+    let mut stdin = rt.stdin();
+    let mut space = [0u8; 65536];
+    let n = read_full(&mut stdin, &mut space);
+    show_lines(&rt, &space[..n])?;
     show_longest(&rt)
 }
