@@ -22,7 +22,8 @@ use Rattle.x11r5.specs.Writing.{home_need, home_choice, home_writing}
 pub checked_strings : answers_of strings ≡ answers_told strings
 unfolding pick from may_use form_of fits_of find set_of put written_of deeper_of begun_of reverted_of step_of next graphic_of second_octet_of lengths_of
     extended_of begin_of csi_of intermediates_of designates_of designation_of multi_octet_of escape_of used_in character_start left_start
-    start_of begun_by shape_of stepped_of directed_of onward elements answer_of before_null mark_by segment_by unsupported_at supported unended_check_of null_ended_check_of
+    start_of begun_by shape_of stepped_of directed_of onward elements answer_of before_null mark_by segment_by unsupported_at supported
+    unended_check_of null_ended_check_of
 checked_strings = refl
 
 pub checked_writings : strings_of writings ≡ strings_told writings
