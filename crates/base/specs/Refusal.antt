@@ -1,5 +1,8 @@
 -- The numbers of refusal (rule N10). `refusal.cut` and the like, where this module is used as `refusal`.
 use Rattle.std.specs.Prelude.{ℕ}
+use Rattle.base.specs.declared.refusal.Refusal.{Refusal}
+use Rattle.base.specs.declared.refusal.Refusal.TheVariants.{TooLong, Cut, Unused, Unknown, NotApproved, Version, BadSegment, Direction, TooDeep}
+use Rattle.base.specs.declared.refusal.Refusal.TheVariants.{NoRoom, BadUnit, NoWorkRoom, BadForm, NotEnded, Unsupported}
 
 -- no refusal
 abbrev pub accepted : ℕ
@@ -30,8 +33,8 @@ abbrev pub version : ℕ
 version = 6
 
 -- a bad extended segment
-abbrev pub bad_segment_lem : ℕ
-bad_segment_lem = 7
+abbrev pub bad_segment : ℕ
+bad_segment = 7
 
 -- the direction rule
 abbrev pub direction : ℕ
@@ -64,3 +67,21 @@ not_ended = 14
 -- what X11R5 does not have: a direction mark, an extended segment
 abbrev pub unsupported : ℕ
 unsupported = 15
+
+-- the number of a refusal as the code names it
+abbrev pub number_of : Refusal → ℕ
+number_of TooLong = too_long
+number_of Cut = cut
+number_of Unused = unused
+number_of Unknown = unknown
+number_of NotApproved = not_approved
+number_of Version = version
+number_of BadSegment = bad_segment
+number_of Direction = direction
+number_of TooDeep = too_deep
+number_of NoRoom = no_room
+number_of BadUnit = bad_unit
+number_of NoWorkRoom = no_work_room
+number_of BadForm = bad_form
+number_of NotEnded = not_ended
+number_of Unsupported = unsupported

@@ -3,12 +3,14 @@
 
 ghost use Rattle.std.specs.Prelude.{◌≡◌};
 ghost use Rattle.base.specs.Answers.{answer, refused_at};
-ghost use Rattle.base.specs.Refusal.{accepted, no_room};
+ghost use Rattle.base.specs.Refusal.{accepted, no_room, number_of};
 
 pub mod direction;
 pub mod kind;
 pub mod limit;
 pub mod refusal;
+
+pub use crate::refusal::Refusal;
 
 // An answer: the number of the refusal (0 for accepted), its place and its count.
 #[repr(C)]
@@ -24,8 +26,8 @@ impl Answer {
         ensures { result ≡ answer accepted place count }
     {
         Answer {
-            place: place,
-            count: count,
+            place,
+            count,
             number: refusal::ACCEPTED,
         }
     }
@@ -34,9 +36,9 @@ impl Answer {
         ensures { result ≡ refused_at number place }
     {
         Answer {
-            place: place,
+            place,
             count: 0,
-            number: number,
+            number,
         }
     }
 
@@ -47,8 +49,17 @@ impl Answer {
         Answer {
             place: 0,
             count: needed,
-            number: refusal::NO_ROOM,
+            number: Refusal::NoRoom.number(),
         }
+    }
+}
+
+impl Refusal {
+    // The answer of a refusal at a place.
+    pub fn at(self, place: usize) -> Answer
+        ensures { result ≡ refused_at (number_of self) place }
+    {
+        Answer::refused(self.number(), place)
     }
 }
 

@@ -1,34 +1,50 @@
-// The numbers of refusal.
+// Why something is refused, and the numbers of refusal.
+ghost use Rattle.std.specs.Prelude.{◌≡◌};
+ghost use Rattle.base.specs.Refusal.{number_of};
 
-// no refusal
+// The number of no refusal.
 pub const ACCEPTED: u8 = 0;
-// string, list, shortest writing or resource form over its limit
-pub const TOO_LONG: u8 = 1;
-// end inside an element
-pub const CUT: u8 = 2;
-// octet not used there
-pub const UNUSED: u8 = 3;
-// unknown sequence
-pub const UNKNOWN: u8 = 4;
-// set not approved for that form
-pub const NOT_APPROVED: u8 = 5;
-// version sequence
-pub const VERSION: u8 = 6;
-// bad extended segment
-pub const BAD_SEGMENT: u8 = 7;
-// direction rule
-pub const DIRECTION: u8 = 8;
-// too many directions open
-pub const TOO_DEEP: u8 = 9;
-// list or output too short
-pub const NO_ROOM: u8 = 10;
-// bad unit, no such run, no such reader
-pub const BAD_UNIT: u8 = 11;
-// work room too short
-pub const NO_WORK_ROOM: u8 = 12;
-// in a resource form: a backslash that begins no escape, a raw newline, a raw 00
-pub const BAD_FORM: u8 = 13;
-// an X11R5 string that no 00 ends
-pub const NOT_ENDED: u8 = 14;
-// what X11R5 does not have: a direction mark, an extended segment
-pub const UNSUPPORTED: u8 = 15;
+
+// Each refusal with its number.
+#[derive(Clone, Copy, PartialEq, Eq)]
+pub enum Refusal {
+    // string, list, shortest writing or resource form over its limit
+    TooLong = 1,
+    // end inside an element
+    Cut = 2,
+    // octet not used there
+    Unused = 3,
+    // unknown sequence
+    Unknown = 4,
+    // set not approved for that form
+    NotApproved = 5,
+    // version sequence
+    Version = 6,
+    // bad extended segment
+    BadSegment = 7,
+    // direction rule
+    Direction = 8,
+    // too many directions open
+    TooDeep = 9,
+    // list or output too short
+    NoRoom = 10,
+    // bad unit, no such run, no such reader
+    BadUnit = 11,
+    // work room too short
+    NoWorkRoom = 12,
+    // in a resource form: a backslash that begins no escape, a raw newline, a raw 00
+    BadForm = 13,
+    // an X11R5 string that no 00 ends
+    NotEnded = 14,
+    // what X11R5 does not have: a direction mark, an extended segment
+    Unsupported = 15,
+}
+
+impl Refusal {
+    // The number of the refusal.
+    pub fn number(self) -> u8
+        ensures { result ≡ number_of self }
+    {
+        self as u8
+    }
+}

@@ -4,8 +4,8 @@ use Rattle.base.specs.Choice.{pick}
 use Rattle.base.specs.Limit as limit
 use Rattle.base.specs.declared.Unit.{Unit as UnitRecord}
 use Rattle.state.specs.Directions.{undirected}
-use Rattle.state.specs.declared.directions.Step.{Step}
-use Rattle.state.specs.declared.directions.Step.TheVariants.{Goes, Stops}
+use Rattle.state.specs.Directions.{Step}
+use Rattle.state.specs.Directions.{Goes, Stops}
 use Rattle.grammar.specs.Records.{unit_read}
 use Rattle.shortest.specs.Records.{fault}
 use Rattle.rows.specs.Rows.{with_record}

@@ -9,7 +9,7 @@ use Rattle.grammar.specs.Reading.{size, elements_of, answer_of}
 use Rattle.grammar.proofs.Elements.{at_nothing}
 use Rattle.grammar.proofs.Places.{ahead, at_end, at_refused, at_passed, refused_within, step_passed}
 use Rattle.state.specs.State.{directed_to}
-use Rattle.state.specs.declared.elements.Shape.TheVariants.{Ends}
+use Rattle.state.specs.Elements.{Ends}
 use Rattle.stretch.specs.Characters.{stretch_at}
 use Rattle.designations.specs.Designation.{designation_at}
 use Rattle.stretch.specs.declared.characters.Stretch.{Stretch}

@@ -9,7 +9,7 @@ use Rattle.charset.specs.Charsets.{no_set, set_of}
 use Rattle.charset.specs.declared.Side.{Side}
 use Rattle.base.proofs.Ladder.{octet, ended, on_lt, on_ge}
 use Rattle.state.proofs.Steps.{steps}
-use Rattle.state.specs.declared.elements.Shape.{Shape, TheVariants.Refuses, TheVariants.Designates}
+use Rattle.state.specs.Elements.{Shape, Refuses, Designates}
 use Rattle.control.specs.Escape.{intermediates_of, designates_of, final_of}
 
 module _ (s : List ℕ) (at k : ℕ) (r : Shape) where

@@ -8,7 +8,7 @@ use Rattle.charset.specs.Charsets.{form_94, form_96, form_94x94, no_set, set_of}
 use Rattle.charset.specs.declared.Side.{Side, TheVariants.GL, TheVariants.GR}
 use Rattle.segment.specs.Segment.{extended_of}
 use Rattle.state.specs.Elements.{next}
-use Rattle.state.specs.declared.elements.Shape.{Shape, TheVariants.Refuses, TheVariants.Designates}
+use Rattle.state.specs.Elements.{Shape, Refuses, Designates}
 
 -- after the first intermediate: further ones 20 to 2F, and then a final, for which no set is approved (rule E1e)
 unfoldable pub intermediates_of : ℕ → List ℕ → Shape

@@ -4,7 +4,7 @@ use Rattle.base.specs.Choice.{pick}
 use Rattle.base.specs.Refusal as refusal
 use Rattle.base.specs.Kind as kind
 use Rattle.state.specs.Elements.{unit, next}
-use Rattle.state.specs.declared.elements.Shape.{Shape, TheVariants.Refuses}
+use Rattle.state.specs.Elements.{Shape, Refuses}
 
 -- after 9B 31 and 9B 32
 unfoldable pub begin_of : ℕ → List ℕ → Shape

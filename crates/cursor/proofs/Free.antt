@@ -4,7 +4,7 @@
 use Rattle.element.proofs.Names.{ℕ, ◌≡◌, refl, Bool, true, false, List, pick, directions, written_of, deeper_of, begun_of, reverted_of, step_of, State}
 use Rattle.element.proofs.Names.{Directions, Step, Goes, Stops, Part, Shape, Refuses, Designates, Gives, Element, End, Refused, Silent, Found}
 use Rattle.state.specs.State.{directed_to}
-use Rattle.state.specs.declared.elements.Shape.TheVariants.{Ends}
+use Rattle.state.specs.Elements.{Ends}
 use Rattle.element.specs.Element.{shape_of, stepped_of, directed_of, element_of}
 use Rattle.cursor.specs.Cursor.{flagged, kept}
 

@@ -7,7 +7,7 @@ use Rattle.base.specs.Limit as limit
 use Rattle.base.specs.declared.Unit.{Unit as UnitRecord}
 use Rattle.state.specs.Directions.{directions, step_of, in_force_of}
 use Rattle.state.specs.State.{sets, state, fresh, designated_of, directed_to}
-use Rattle.state.specs.declared.directions.Step.{Step, TheVariants.Goes, TheVariants.Stops}
+use Rattle.state.specs.Directions.{Step, Goes, Stops}
 use Rattle.state.specs.declared.Sets.{Sets}
 use Rattle.state.specs.declared.State.{State}
 use Rattle.designations.specs.Designation.{designation_at}

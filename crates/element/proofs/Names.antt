@@ -32,10 +32,10 @@ unfoldable pub use Rattle.state.specs.State.{put}
 pub use Rattle.state.specs.declared.Sets.{Sets}
 pub use Rattle.state.specs.declared.State.{State}
 pub use Rattle.state.specs.declared.directions.Directions.{Directions}
-pub use Rattle.state.specs.declared.directions.Step.{Step}
-pub use Rattle.state.specs.declared.directions.Step.TheVariants.{Goes, Stops}
-pub use Rattle.state.specs.declared.elements.Element.{Element}
-pub use Rattle.state.specs.declared.elements.Element.TheVariants.{End, Found, Refused, Silent}
+pub use Rattle.state.specs.Directions.{Step}
+pub use Rattle.state.specs.Directions.{Goes, Stops}
+pub use Rattle.state.specs.Elements.{Element}
+pub use Rattle.state.specs.Elements.{End, Found, Refused, Silent}
 pub use Rattle.state.specs.declared.elements.Part.{Part}
-pub use Rattle.state.specs.declared.elements.Shape.{Shape}
-pub use Rattle.state.specs.declared.elements.Shape.TheVariants.{Designates, Gives, Refuses}
+pub use Rattle.state.specs.Elements.{Shape}
+pub use Rattle.state.specs.Elements.{Designates, Gives, Refuses}

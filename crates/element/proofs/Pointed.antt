@@ -13,17 +13,17 @@ use Rattle.text.specs.Text.{second_octet_of}
 use Rattle.control.specs.Escape.{intermediates_of, designates_of, designation_of, multi_octet_of, escape_of}
 use Rattle.control.specs.Mark.{begin_of, csi_of}
 use Rattle.segment.specs.Segment.{name_of, whole_of, segment_part, content_of, body_of, lengths_of, extended_of}
-use Rattle.segment.specs.declared.Name.{Name}
+use Rattle.segment.specs.Segment.{Name}
 use Rattle.segment.proofs.Steps.{Within, ends, bad, endless, name_within}
 use Rattle.element.specs.Start.{Start, start_in, begun_by}
 use Rattle.element.specs.Start as start
 use Rattle.element.specs.Element.{shape_of, stepped_of, directed_of, element_of}
 use Rattle.element.proofs.Sizes.{Fair, goes, stops, fair, Passed, silent, found}
-use Rattle.state.specs.declared.elements.Shape.TheVariants.{Ends}
+use Rattle.state.specs.Elements.{Ends}
 
 -- a number of refusal that points at an octet: 3 to 7
 abbrev pub Octet : ℕ → Type 0
-Octet n = (refusal.unused ≤ n) × (n ≤ refusal.bad_segment_lem)
+Octet n = (refusal.unused ≤ n) × (n ≤ refusal.bad_segment)
 
 -- the octets of a shape that is not refused
 abbrev pub octets_in : Shape → ℕ
@@ -180,12 +180,12 @@ module _ (d n : ℕ) (t : List ℕ) where
           sym (on_true _ _ _ _ (le-leb n (length (take i t)) z) (sym (ap (λ (xs : List ℕ). content_of d n (name_of xs 0)) (take-take n i t h) ∙ e)))
 
 -- the last of the n octets, or the L where n is 0
-at_last : (d n : ℕ) (t : List ℕ) → n ≤ length t → content_of d n (name_of (take n t) 0) ≡ Refuses refusal.bad_segment_lem (5 + n)
-    → After 5 (body_of d n) t (Refuses refusal.bad_segment_lem (5 + n))
-at_last d zero t h e = here {n = refusal.bad_segment_lem} (omega arith) (all_there d 0 t h e)
+at_last : (d n : ℕ) (t : List ℕ) → n ≤ length t → content_of d n (name_of (take n t) 0) ≡ Refuses refusal.bad_segment (5 + n)
+    → After 5 (body_of d n) t (Refuses refusal.bad_segment (5 + n))
+at_last d zero t h e = here {n = refusal.bad_segment} (omega arith) (all_there d 0 t h e)
 at_last d (suc m) t h e =
     let z : 6 + m ≡ 5 + suc m = omega arith in
-    later (points {n = refusal.bad_segment_lem} {o = 5 + suc m} m (suc m) (omega arith) (omega arith) (omega arith, λ v. absurd (omega (arith, v)))
+    later (points {n = refusal.bad_segment} {o = 5 + suc m} m (suc m) (omega arith) (omega arith) (omega arith, λ v. absurd (omega (arith, v)))
     (short d (suc m) t m (omega arith) (omega arith) ∙ ap (Refuses refusal.cut) z) (all_there d (suc m) t h e))
 
 module _ (d n : ℕ) (t : List ℕ) (all : n ≤ length t) where
@@ -198,7 +198,7 @@ module _ (d n : ℕ) (t : List ℕ) (all : n ≤ length t) where
       (all_there d n t all (ap (content_of d n) e ∙ sym (on_true _ _ _ _ w refl)))))
       (λ w. at_last d n t all (ap (content_of d n) e ∙ sym (on_false _ _ _ _ w refl)))
   content (bad {k} h) e =
-      later (points {n = refusal.bad_segment_lem} {o = 6 + k} k n (omega arith) refl (h, λ v. absurd (omega (arith, v))) (short d n t k h (omega arith))
+      later (points {n = refusal.bad_segment} {o = 6 + k} k n (omega arith) refl (h, λ v. absurd (omega (arith, v))) (short d n t k h (omega arith))
       (all_there d n t all (ap (content_of d n) e)))
   content endless e = at_last d n t all (ap (content_of d n) e)
 
@@ -213,10 +213,10 @@ lengths : (d : ℕ) (t : List ℕ) → Tells 4 (lengths_of d) t (lengths_of d t)
 unfolding lengths_of next
 lengths d t =
     onward 4 (lengths_of d) _ (record { at_end = refl; at_octet = λ m u. refl }) t
-    (λ m u. either _ (λ _. no refusal.bad_segment_lem (omega arith))
+    (λ m u. either _ (λ _. no refusal.bad_segment (omega arith))
     (λ _. later
     (onward 5 _ _ (record { at_end = refl; at_octet = λ l v. refl }) u
-    (λ l v. either _ (λ _. no refusal.bad_segment_lem (omega arith)) (λ _. body d _ v)))))
+    (λ l v. either _ (λ _. no refusal.bad_segment (omega arith)) (λ _. body d _ v)))))
 
 extended : (t : List ℕ) → Tells 2 extended_of t (extended_of t)
 unfolding extended_of next

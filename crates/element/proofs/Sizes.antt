@@ -18,8 +18,8 @@ use Rattle.element.specs.Meant.{Meant, with_set, with_none, with_code, MeantPart
 use Rattle.element.specs.Start.{Start, start_in, begun_by}
 use Rattle.element.specs.Start as start
 use Rattle.element.specs.Element.{shape_of, stepped_of, directed_of, element_of}
-use Rattle.state.specs.declared.elements.Shape.TheVariants.{Ends}
-use Rattle.segment.specs.declared.Name.{Name, TheVariants.Ends as NameEnds, TheVariants.Bad, TheVariants.Endless}
+use Rattle.state.specs.Elements.{Ends}
+use Rattle.segment.specs.Segment.{Name, Ends as NameEnds, Bad, Endless}
 
 -- ---- a shape
 

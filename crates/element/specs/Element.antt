@@ -5,10 +5,10 @@ use Rattle.state.specs.Directions.{step_of}
 use Rattle.state.specs.State.{designated_of, directed_to}
 use Rattle.state.specs.declared.Sets.{Sets}
 use Rattle.state.specs.declared.State.{State}
-use Rattle.state.specs.declared.directions.Step.{Step, TheVariants.Goes, TheVariants.Stops}
+use Rattle.state.specs.Directions.{Step, Goes, Stops}
 use Rattle.state.specs.declared.elements.Part.{Part}
-use Rattle.state.specs.declared.elements.Shape.{Shape, TheVariants.Ends, TheVariants.Refuses, TheVariants.Designates, TheVariants.Gives}
-use Rattle.state.specs.declared.elements.Element.{Element, TheVariants.End, TheVariants.Refused, TheVariants.Silent, TheVariants.Found}
+use Rattle.state.specs.Elements.{Shape, Ends, Refuses, Designates, Gives}
+use Rattle.state.specs.Elements.{Element, End, Refused, Silent, Found}
 use Rattle.element.specs.Start.{start_in, begun_by}
 
 -- its shape, by what its first octet starts

@@ -11,7 +11,7 @@ use Rattle.control.specs.Mark.{csi_of}
 use Rattle.state.specs.Elements.{unit}
 use Rattle.state.specs.State.{get}
 use Rattle.state.specs.declared.Sets.{Sets}
-use Rattle.state.specs.declared.elements.Shape.{Shape, TheVariants.Refuses}
+use Rattle.state.specs.Elements.{Shape, Refuses}
 use Rattle.text.specs.Text.{graphic_of, one_octet_of, second_octet_of, space_of}
 
 -- the classes: `one` and `two` are a character of one octet and the first octet of one of two, of the set on a side

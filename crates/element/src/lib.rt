@@ -1,74 +1,80 @@
 // A whole element: its shape, and then the direction rule.
 #![tactic(auto)]
 
-ghost use Rattle.std.specs.Prelude.{◌≡◌};
+ghost use Rattle.std.specs.Prelude.{◌≡◌, ◌<◌, length};
 ghost use Rattle.base.specs.Choice.{from};
+ghost use Rattle.state.specs.Directions.{step_seen};
+ghost use Rattle.state.specs.Elements.{shape_seen, shape_at_seen, found_seen, element_seen};
 ghost use Rattle.element.specs.Element.{shape_of, stepped_of, directed_of, element_of};
 
-use base::{kind, refusal};
-use state::directions::Step;
-use state::elements::{Element, Part, Shape, bare};
+use base::{Refusal, kind};
+use state::directions::Directions;
+use state::elements::{Element, Part, Refused, Shape, bare};
 use state::{Sets, State};
 
-// The shape of the element at a place.
-pub fn shape(s: &[u8], at: usize, sets: Sets) -> Shape
-    ensures { result ≡ shape_of (from at s.now) sets }
+// The shape of the element at a place before the string's end.
+#[tactic(auto, using(crate::proofs::Steps::shaping, crate::proofs::Steps::on_delete), unfolding(crate::specs::Element::shape_of, crate::specs::Start::start_of, crate::specs::Start::begun_by))]
+fn begun(s: &[u8], at: usize, sets: Sets) -> Result<Shape, Refused>
+    requires { at < length s.now }
+    ensures { shape_seen result ≡ shape_of (from at s.now) sets }
 {
-    if s.len() <= at {
-        return Shape::Ends;
-    }
     let b = s[at];
     match b {
         0x1B => control::escape::escape(&s[at..]),
         0x9B => control::mark::csi(&s[at..]),
-        0x09 => bare(kind::TAB, 1),
-        0x0A => bare(kind::NEWLINE, 1),
-        0x7F => Shape::Refuses(refusal::UNUSED, 0),
-        _ => {
-            if b < 0x20 {
-                return Shape::Refuses(refusal::UNUSED, 0);
-            }
-            if b < 0x80 {
-                return text::text(s, at + 1, b, sets);
-            }
-            if b < 0xA0 {
-                return Shape::Refuses(refusal::UNUSED, 0);
-            }
-            text::text(s, at + 1, b, sets)
-        }
+        0x09 => Ok(bare(kind::TAB, 1)),
+        0x0A => Ok(bare(kind::NEWLINE, 1)),
+        0x20..=0x7E | 0xA0..=0xFF => text::text(s, at + 1, b, sets),
+        _ => Err(Refused(Refusal::Unused, 0)),
     }
 }
 
+// The shape of the element at a place, where the string does not end there.
+#[tactic(auto, using(crate::proofs::Steps::on_shape_end), unfolding(crate::specs::Element::shape_of))]
+pub fn shape(s: &[u8], at: usize, sets: Sets) -> Result<Option<Shape>, Refused>
+    ensures { shape_at_seen result ≡ shape_of (from at s.now) sets }
+{
+    if s.len() <= at {
+        return Ok(None);
+    }
+    Ok(Some(begun(s, at, sets)?))
+}
+
 // A unit whose step by the direction rule is known.
-pub fn stepped(part: Part, st: State, step: Step) -> Element
-    ensures { result ≡ stepped_of part st step }
+#[tactic(auto, unfolding(crate::specs::Element::stepped_of))]
+pub fn stepped(part: Part, st: State, step: Result<Directions, Refusal>) -> Result<Element, Refused>
+    ensures { found_seen result ≡ stepped_of part st (step_seen step) }
 {
     match step {
-        Step::Goes(directions) => Element::Found(part, st.directed(directions)),
-        Step::Stops(number) => Element::Refused(number, 0),
+        Ok(directions) => Ok(Element::Found(part, st.directed(directions))),
+        Err(refusal) => Err(Refused(refusal, 0)),
     }
 }
 
 // A shape under a state: a designation changes the sets alone, and a unit, by the direction rule, the directions alone.
-pub fn directed(shape: Shape, st: State) -> Element
-    ensures { result ≡ directed_of shape st }
+#[tactic(auto, unfolding(crate::specs::Element::directed_of))]
+pub fn directed(
+    shape: Result<Option<Shape>, Refused>,
+    st: State,
+) -> Result<Option<Element>, Refused>
+    ensures { element_seen result ≡ directed_of (shape_at_seen shape) st }
 {
-    match shape {
-        Shape::Ends => Element::End,
-        Shape::Refuses(number, offset) => Element::Refused(number, offset),
-        Shape::Designates(octets, side, set) => Element::Silent(octets, st.designated(side, set)),
-        Shape::Gives(part) => {
-            let directions = st.directions;
-            let step = directions.step(part.text, part.kind);
-            stepped(part, st, step)
+    match shape? {
+        None => Ok(None),
+        Some(Shape::Designates(octets, side, set)) => Ok(Some(Element::Silent(
+            octets,
+            st.designated(side, set),
+        ))),
+        Some(Shape::Gives(part)) => {
+            let step = st.directions.step(part.text, part.kind);
+            Ok(Some(stepped(part, st, step)?))
         }
     }
 }
 
-// The element at a place, under a state.
-pub fn element(s: &[u8], at: usize, st: State) -> Element
-    ensures { result ≡ element_of (from at s.now) st }
+// The element at a place, under a state, where the string does not end there.
+pub fn element(s: &[u8], at: usize, st: State) -> Result<Option<Element>, Refused>
+    ensures { element_seen result ≡ element_of (from at s.now) st }
 {
-    let sets = st.sets;
-    directed(shape(s, at, sets), st)
+    directed(shape(s, at, st.sets), st)
 }

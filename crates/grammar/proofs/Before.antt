@@ -15,7 +15,7 @@ use Rattle.base.specs.Limit as limit
 use Rattle.base.specs.Refusal as refusal
 use Rattle.state.specs.Directions.{counts_as_text}
 use Rattle.state.specs.State.{state}
-use Rattle.state.specs.declared.elements.Shape.TheVariants.{Ends}
+use Rattle.state.specs.Elements.{Ends}
 use Rattle.element.specs.Element.{shape_of, stepped_of, directed_of}
 use Rattle.grammar.specs.Units.{TextUnit, char, ext, kind_of, text_octets, text_in, designation}
 use Rattle.grammar.specs.Grammar.{Legal}

@@ -9,7 +9,7 @@ use Rattle.base.specs.Limit as limit
 use Rattle.charset.specs.Charsets.{form_94, form_96, form_94x94}
 use Rattle.text.specs.Text.{second_octet_of}
 use Rattle.segment.specs.Segment.{name_of, whole_of, content_of, body_of, lengths_of, extended_of}
-use Rattle.segment.specs.declared.Name.{Name, TheVariants.Ends, TheVariants.Bad, TheVariants.Endless}
+use Rattle.segment.specs.Segment.{Name, Ends, Bad, Endless}
 use Rattle.control.specs.Escape.{intermediates_of, designates_of, designation_of, multi_octet_of, escape_of}
 use Rattle.control.specs.Mark.{begin_of, csi_of}
 use Rattle.element.specs.Start.{Start, start_in, begun_by}

@@ -3,13 +3,13 @@ use Rattle.element.proofs.Names.{ℕ, suc, ◌+◌, ◌-◌, ◌≤◌, arith, a
 use Rattle.element.proofs.Names.{true, false, ◌&&◌, leb, ◌%◌, Shape, Refuses, Gives}
 use Rattle.base.specs.Refusal as refusal
 use Rattle.segment.specs.Segment.{segment_part, name_octet_of, name_of, text_width_of, whole_of, content_of}
-use Rattle.segment.specs.declared.Name.TheVariants.{Ends}
+use Rattle.segment.specs.Segment.{Ends}
 use Rattle.grammar.specs.Units.{text_octets, segment}
 
 -- a segment of n octets with so many octets of text: the grammar has it, and the reader gives its unit; or neither, and the refusal has some place
 pub data Content (d n text : ℕ) : Bool → Shape → Type 0 where
   right : Content d n text true (Gives (segment_part d n text))
-  wrong : {o : ℕ} → Content d n text false (Refuses refusal.bad_segment_lem o)
+  wrong : {o : ℕ} → Content d n text false (Refuses refusal.bad_segment o)
 
 module _ (d n : ℕ) where
   -- the text after the name

@@ -15,12 +15,12 @@ use Rattle.charset.specs.Charsets.{form_94, form_96, form_94x94, no_set, set_of}
 use Rattle.charset.specs.declared.Side.{Side, TheVariants.GL, TheVariants.GR}
 use Rattle.text.specs.Text.{graphic_of, one_octet_of, two_octets_of, space_of}
 use Rattle.segment.specs.Segment.{name_octet_of, text_width_of, segment_part}
-use Rattle.segment.specs.declared.Name.{Name, TheVariants.Ends as NameEnds, TheVariants.Bad, TheVariants.Endless}
+use Rattle.segment.specs.Segment.{Name, Ends as NameEnds, Bad, Endless}
 use Rattle.state.specs.Elements.{unit}
 use Rattle.state.specs.State.{get, fresh}
 use Rattle.state.specs.declared.Sets.{Sets}
 use Rattle.state.specs.declared.State.{State}
-use Rattle.state.specs.declared.elements.Shape.{Shape, TheVariants.Refuses, TheVariants.Designates, TheVariants.Gives}
+use Rattle.state.specs.Elements.{Shape, Refuses, Designates, Gives}
 use Rattle.element.specs.Element.{directed_of}
 use Rattle.element.specs.Start.{Start, start_in}
 use Rattle.element.specs.Start as start
@@ -51,10 +51,10 @@ name (b ∷ t) k = pick (eqb b 2) (pick (eqb k 0) (Bad k) (NameEnds k)) (pick (n
 unfoldable pub content : ℕ → ℕ → Name → Shape
 content d n (NameEnds k) =
     pick (ltb k n)
-    (pick (eqb ((n - k - 1) % text_width_of d) 0) (Gives (segment_part d n (n - k - 1))) (refused refusal.bad_segment_lem))
-    (refused refusal.bad_segment_lem)
-content d n (Bad k) = refused refusal.bad_segment_lem
-content d n Endless = refused refusal.bad_segment_lem
+    (pick (eqb ((n - k - 1) % text_width_of d) 0) (Gives (segment_part d n (n - k - 1))) (refused refusal.bad_segment))
+    (refused refusal.bad_segment)
+content d n (Bad k) = refused refusal.bad_segment
+content d n Endless = refused refusal.bad_segment
 
 unfoldable pub body : ℕ → ℕ → List ℕ → Shape
 body d n t = pick (leb n (length t)) (content d n (name (take n t) 0)) (refused refusal.cut)
@@ -63,8 +63,8 @@ unfoldable pub lengths : ℕ → List ℕ → Shape
 lengths d t =
     next t
     (λ m u.
-    pick (ltb m 0x80) (refused refusal.bad_segment_lem)
-    (next u (λ l v. pick (ltb l 0x80) (refused refusal.bad_segment_lem) (body d ((m - 128) * 128 + (l - 128)) v))))
+    pick (ltb m 0x80) (refused refusal.bad_segment)
+    (next u (λ l v. pick (ltb l 0x80) (refused refusal.bad_segment) (body d ((m - 128) * 128 + (l - 128)) v))))
 
 unfoldable pub extended : List ℕ → Shape
 extended t =

@@ -11,9 +11,9 @@ use Rattle.state.specs.Directions.{step_of}
 use Rattle.state.specs.State.{fresh}
 use Rattle.state.specs.declared.State.{State}
 use Rattle.state.specs.declared.directions.Directions.{Directions}
-use Rattle.state.specs.declared.directions.Step.{Step}
+use Rattle.state.specs.Directions.{Step}
 use Rattle.state.specs.declared.elements.Part.{Part}
-use Rattle.state.specs.declared.elements.Element.{Element, TheVariants.End, TheVariants.Refused, TheVariants.Silent, TheVariants.Found}
+use Rattle.state.specs.Elements.{Element, End, Refused, Silent, Found}
 use Rattle.grammar.specs.Units.{TextUnit, kind_of, counts, unit_of}
 
 -- the octets of a unit's element: those before the unit's own, and its own

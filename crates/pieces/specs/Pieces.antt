@@ -5,7 +5,7 @@ use Rattle.base.specs.Kind as kind
 use Rattle.grammar.specs.Reading.{Elements, end_at, refused_at_lem, silent_at, found_at, size, elements_of}
 use Rattle.state.specs.State.{fresh}
 use Rattle.state.specs.declared.State.{State}
-use Rattle.state.specs.declared.elements.Element.{Element, TheVariants.End, TheVariants.Refused, TheVariants.Silent, TheVariants.Found}
+use Rattle.state.specs.Elements.{Element, End, Refused, Silent, Found}
 use Rattle.pieces.specs.PieceKind as piece_kind
 use Rattle.pieces.specs.declared.Piece.{Piece}
 

@@ -10,7 +10,7 @@ use Rattle.charset.specs.Charsets.{first_double, allowed}
 use Rattle.charset.specs.declared.Side.TheVariants.{GL}
 use Rattle.grammar.specs.Units.{top, designation}
 use Rattle.state.specs.State.{on}
-use Rattle.state.specs.declared.directions.Step.{Step, TheVariants.Goes, TheVariants.Stops}
+use Rattle.state.specs.Directions.{Step, Goes, Stops}
 use Rattle.unit_octets.specs.Octets.{side_of}
 
 -- ---- its refusal, by its kind and by what the base writer does of it where no direction is open

@@ -6,7 +6,7 @@ use Rattle.base.specs.Limit as limit
 use Rattle.base.specs.declared.Answer.{Answer}
 use Rattle.base.specs.declared.Unit.{Unit as UnitRecord}
 use Rattle.state.specs.State.{fresh}
-use Rattle.state.specs.declared.elements.Element.TheVariants.{Refused}
+use Rattle.state.specs.Elements.{Refused}
 use Rattle.element.specs.Element.{element_of}
 use Rattle.grammar.specs.Reading.{elements_of, stop_of}
 use Rattle.units.specs.Records.{records_of}

@@ -6,7 +6,7 @@ use Rattle.base.proofs.Bools.{◌&◌, each}
 use Rattle.base.proofs.Ladder.{on_le}
 use Rattle.base.specs.Kind as kind
 use Rattle.base.specs.Refusal as refusal
-use Rattle.segment.specs.declared.Name.{Name, TheVariants.Ends, TheVariants.Bad, TheVariants.Endless}
+use Rattle.segment.specs.Segment.{Name, Ends, Bad, Endless}
 use Rattle.segment.specs.Segment.{segment_part, name_of, whole_of, content_of}
 use Rattle.state.specs.Directions.{counts_as_text}
 use Rattle.grammar.specs.Units.{char, ext, unit_of, text_octets, code_used, segment, good}
@@ -81,7 +81,7 @@ module _ (o : List ℕ) (e s n : ℕ) (d : Directions) where
     part_high l h = inside _ (rw (le-leb 0x30 e l, lt-leb e 0x34 h))
 
     module _ (l : 0x30 ≤ e) (h : e ≤ 0x34) where
-      pub part_many : 16383 < n → Stops refusal.bad_segment_lem ≡ part_fault
+      pub part_many : 16383 < n → Stops refusal.bad_segment ≡ part_fault
       unfolding good
       part_many m = inside _ (rw (le-leb 0x30 e l, le-leb e 0x34 h, lt-leb (length part) 16383 (omega (arith, count))))
 
@@ -93,15 +93,15 @@ module _ (o : List ℕ) (e s n : ℕ) (d : Directions) where
             subst (λ (x : Name). Content e n (text_octets part) (segment e 0 part) (content_of e n x))
             (sym (is ∙ ap (λ (y : ℕ). name_of (take y (drop s o)) 0) back)) (content e n part 0 (omega (arith, count)))
 
-        judged : (b : Bool) → segment e 0 part ≡ b → cond b (direct d (ext e part)) (Stops refusal.bad_segment_lem) ≡ part_fault
+        judged : (b : Bool) → segment e 0 part ≡ b → cond b (direct d (ext e part)) (Stops refusal.bad_segment) ≡ part_fault
         unfolding good
         judged b q = inside _ (rw (le-leb 0x30 e l, le-leb e 0x34 h, le-leb (length part) 16383 (omega (arith, count)), q))
 
-        refused : (p : ℕ) → content_of e n name ≡ Refuses refusal.bad_segment_lem p → Stops refusal.bad_segment_lem ≡ part_fault
+        refused : (p : ℕ) → content_of e n name ≡ Refuses refusal.bad_segment p → Stops refusal.bad_segment ≡ part_fault
         refused p r = by by-content r refl
           where
-            by : {b : Bool} {x : Shape} → Content e n (text_octets part) b x → x ≡ Refuses refusal.bad_segment_lem p → segment e 0 part ≡ b
-                → Stops refusal.bad_segment_lem ≡ part_fault
+            by : {b : Bool} {x : Shape} → Content e n (text_octets part) b x → x ≡ Refuses refusal.bad_segment p → segment e 0 part ≡ b
+                → Stops refusal.bad_segment ≡ part_fault
             by right q g = clash (cc q)
             by wrong q g = judged false g
 
@@ -118,15 +118,15 @@ module _ (o : List ℕ) (e s n : ℕ) (d : Directions) where
                   ap (λ (y : Part). step_of y.text kind.segment d) f ∙ judged true g
               by wrong q g = clash (cc q)
 
-          pub part_ragged : whole_of e (n - k - 1) ≡ false → Stops refusal.bad_segment_lem ≡ part_fault
+          pub part_ragged : whole_of e (n - k - 1) ≡ false → Stops refusal.bad_segment ≡ part_fault
           unfolding content_of pick
           part_ragged w = refused (5 + n) (rw (i, w))
 
-        pub part_bad : ((k : ℕ) → name ≡ Ends k → ⊥) → Stops refusal.bad_segment_lem ≡ part_fault
+        pub part_bad : ((k : ℕ) → name ≡ Ends k → ⊥) → Stops refusal.bad_segment ≡ part_fault
         unfolding content_of
         part_bad never = by name refl
           where
-            by : (x : Name) → name ≡ x → Stops refusal.bad_segment_lem ≡ part_fault
+            by : (x : Name) → name ≡ x → Stops refusal.bad_segment ≡ part_fault
             by (Ends k) q = absurd (never k q)
             by (Bad k) q = refused (6 + k) (rw q)
             by Endless q = refused (5 + n) (rw q)

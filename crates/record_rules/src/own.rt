@@ -3,7 +3,7 @@ ghost use Rattle.std.specs.Prelude.{◌≡◌, ◌+◌, leb, length, take, drop}
 ghost use Rattle.std.proofs.Math.Option.{some};
 ghost use Rattle.base.specs.Choice.{pick};
 ghost use Rattle.base.specs.Refusal as refusals;
-ghost use Rattle.state.specs.declared.directions.Step.TheVariants.{Stops};
+ghost use Rattle.state.specs.Directions.{Stops};
 ghost use Rattle.text.specs.Text.{graphic_of};
 ghost use Rattle.grammar.specs.Units.{char, ext, code_used};
 ghost use Rattle.shortest.specs.Records.{fault};

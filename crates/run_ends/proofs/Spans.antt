@@ -11,7 +11,7 @@ use Rattle.element.proofs.Sizes.{kind_in, escape_kind, mark_kind}
 use Rattle.element.proofs.Starts.{On, wide_in, Starts, starts, graphic_low, graphic, used_graphic, graphic_used, all_used}
 use Rattle.element.proofs.Starts as start
 use Rattle.grammar.specs.Reading.{Octets}
-use Rattle.state.specs.declared.elements.Shape.TheVariants.{Ends}
+use Rattle.state.specs.Elements.{Ends}
 use Rattle.stretch.specs.Characters.{settled_of}
 use Rattle.stretch.proofs.Loops.{two_octets}
 use Rattle.stretch.proofs.Starts.{Written, number, one_start, left_start_lem, written_one, written_two, written_found}

@@ -9,8 +9,8 @@ use Rattle.base.specs.declared.Answer.{Answer}
 use Rattle.grammar.specs.Reading.{Elements, end_at, refused_at_lem, silent_at, found_at, elements, check_of}
 use Rattle.state.specs.State.{fresh}
 use Rattle.state.specs.declared.State.{State}
-use Rattle.state.specs.declared.elements.Element.{Element}
-use Rattle.state.specs.declared.elements.Element.TheVariants.{End, Refused, Silent, Found}
+use Rattle.state.specs.Elements.{Element}
+use Rattle.state.specs.Elements.{End, Refused, Silent, Found}
 use Rattle.pieces.specs.Pieces.{is_run, pieces_from, state_at}
 use Rattle.pieces.specs.declared.Piece.{Piece}
 use Rattle.reader.specs.Step.{may_stand}

@@ -14,9 +14,9 @@ use Rattle.base.specs.Refusal as refusal
 use Rattle.base.proofs.Bools.{pick_by}
 use Rattle.base.proofs.Ladder.{octet, ended, on_le, on_gt}
 use Rattle.state.proofs.Steps.{steps}
-use Rattle.state.specs.declared.elements.Shape.{Shape, TheVariants.Refuses}
+use Rattle.state.specs.Elements.{Shape, Refuses}
 use Rattle.segment.specs.Segment.{name_octet_of, name_of, text_width_of, content_of, body_of}
-use Rattle.segment.specs.declared.Name.{Name, TheVariants.Ends, TheVariants.Bad, TheVariants.Endless}
+use Rattle.segment.specs.Segment.{Name, Ends, Bad, Endless}
 
 module _ (s : List ℕ) (at : ℕ) where
   pub on_name : (k : ℕ) (r : Name) → at < length s → r ≡ name_of (get_or s at 0 ∷ from (at + 1) s) k → r ≡ name_of (from at s) k

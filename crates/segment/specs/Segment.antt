@@ -1,14 +1,27 @@
 -- Extended segments (rules E1f, E1g, E2, E4): functions of the octets that are left. An offset in an element counts the six octets
 -- `1B 25 2F d M L` as 0 to 5, and the n octets from 6 on; what is wrong is refused at the first octet that shows it (rule N2).
-use Rattle.std.specs.Prelude.{ℕ, ◌+◌, ◌*◌, ◌%◌, ◌-◌, Bool, true, false, List, [], ◌∷◌, length, take, eqb, leb, ltb}
+use Rattle.std.specs.Prelude.{ℕ, ◌+◌, ◌*◌, ◌%◌, ◌-◌, Bool, true, false, List, [], ◌∷◌, length, take, eqb, leb, ltb, Result, Ok, Err}
 use Rattle.base.specs.Choice.{pick}
 use Rattle.base.specs.Refusal as refusal
 use Rattle.base.specs.Kind as kind
 use Rattle.state.specs.Directions.{counts_as_text}
 use Rattle.state.specs.Elements.{part, next}
 use Rattle.state.specs.declared.elements.Part.{Part}
-use Rattle.state.specs.declared.elements.Shape.{Shape, TheVariants.Refuses, TheVariants.Gives}
-use Rattle.segment.specs.declared.Name.{Name, TheVariants.Ends, TheVariants.Bad, TheVariants.Endless}
+use Rattle.state.specs.Elements.{Shape, Refuses, Gives}
+use Rattle.segment.specs.declared.BadName.{BadName}
+use Rattle.segment.specs.declared.BadName.TheVariants.{Octet, Endless as CodeEndless}
+
+-- where a name ends: before the 02 at a place; it is bad by the octet at a place; or there is no 02, and each octet may be a name's
+pub data Name : Type 0 where
+  Ends : ℕ → Name
+  Bad : ℕ → Name
+  Endless : Name
+
+-- this as the code answers it
+abbrev pub name_seen : Result ℕ BadName → Name
+name_seen (Ok k) = Ends k
+name_seen (Err (Octet k)) = Bad k
+name_seen (Err CodeEndless) = Endless
 
 -- an octet that a name may have (rule E1g)
 unfoldable pub name_octet_of : ℕ → Bool
@@ -36,13 +49,13 @@ segment_part d n text = part kind.segment 0 d 6 n (counts_as_text kind.segment t
 
 -- what only the whole segment shows is refused at the last of its n octets, or at the L where n is 0 (rule N2)
 abbrev pub refused_at_end : ℕ → Shape
-refused_at_end n = Refuses refusal.bad_segment_lem (5 + n)
+refused_at_end n = Refuses refusal.bad_segment (5 + n)
 
 -- a segment of n octets, by its name: what follows the name and its 02 is the text, of which the length alone is looked at (rules E1g, E4). A bad octet
 -- of the name is refused where it stands, and a wrong length of the text and a missing 02 at the end (rule N2)
 unfoldable pub content_of : ℕ → ℕ → Name → Shape
 content_of d n (Ends k) = pick (whole_of d (n - k - 1)) (Gives (segment_part d n (n - k - 1))) (refused_at_end n)
-content_of d n (Bad k) = Refuses refusal.bad_segment_lem (6 + k)
+content_of d n (Bad k) = Refuses refusal.bad_segment (6 + k)
 content_of d n Endless = refused_at_end n
 
 -- the n octets have to be there before they are looked at; else the segment is cut, where the string ends (rules E1f, N2)
@@ -54,9 +67,9 @@ unfoldable pub lengths_of : ℕ → List ℕ → Shape
 lengths_of d t =
     next 4 t
     (λ m u.
-    pick (ltb m 0x80) (Refuses refusal.bad_segment_lem 4)
+    pick (ltb m 0x80) (Refuses refusal.bad_segment 4)
     (next 5 u
-    (λ l v. pick (ltb l 0x80) (Refuses refusal.bad_segment_lem 5) (body_of d ((m - 128) * 128 + (l - 128)) v))))
+    (λ l v. pick (ltb l 0x80) (Refuses refusal.bad_segment 5) (body_of d ((m - 128) * 128 + (l - 128)) v))))
 
 -- after 1B 25
 unfoldable pub extended_of : List ℕ → Shape

@@ -80,8 +80,8 @@ refusals =
     ∷ refused_string (0x9B ∷ 0x31 ∷ 0x5D ∷ 0x9B ∷ 0x5D ∷ 0x41 ∷ []) refusal.direction 5
     ∷ refused_string (segment_with_text ++ begin_mark) refusal.direction 10
     ∷ refused_string (begin_mark ++ revert_mark ++ segment_with_text) refusal.direction 5
-    ∷ refused_string (begin_mark ++ revert_mark ++ bad_segment) refusal.bad_segment_lem 14
-    ∷ refused_string bad_segment refusal.bad_segment_lem 9
+    ∷ refused_string (begin_mark ++ revert_mark ++ bad_segment) refusal.bad_segment 14
+    ∷ refused_string bad_segment refusal.bad_segment 9
     ∷ refused_string (0x1B ∷ 0x24 ∷ 0x42 ∷ []) refusal.unknown 2
     ∷ refused_string (0x1B ∷ 0x28 ∷ []) refusal.cut 2
     ∷ refused_string (0x1B ∷ 0x29 ∷ 0x42 ∷ []) refusal.not_approved 2
@@ -104,13 +104,13 @@ places =
     ∷ refused_string (0x9B ∷ 0x31 ∷ 0x31 ∷ []) refusal.unknown 2
     ∷ refused_string (0x1B ∷ 0x24 ∷ 0x29 ∷ 0x21 ∷ 0x20 ∷ 0x42 ∷ []) refusal.not_approved 5
     ∷ refused_string (0x41 ∷ 0x1B ∷ 0x23 ∷ []) refusal.version 2
-    ∷ refused_string (segment 0x31 (0x7F ∷ 0x7F ∷ [])) refusal.bad_segment_lem 4
-    ∷ refused_string (segment 0x31 (0x80 ∷ 0x7F ∷ [])) refusal.bad_segment_lem 5
-    ∷ refused_string (segment 0x31 (0x80 ∷ 0x80 ∷ [])) refusal.bad_segment_lem 5
-    ∷ refused_string (segment 0x31 (0x80 ∷ 0x82 ∷ 0x61 ∷ 0x61 ∷ 0x41 ∷ [])) refusal.bad_segment_lem 7
-    ∷ refused_string (segment 0x31 (0x80 ∷ 0x83 ∷ 0x61 ∷ 0x20 ∷ 0x61 ∷ [])) refusal.bad_segment_lem 7
-    ∷ refused_string (segment 0x32 (0x80 ∷ 0x84 ∷ 0x61 ∷ 0x20 ∷ 0x02 ∷ 0xFF ∷ [])) refusal.bad_segment_lem 7
-    ∷ refused_string (segment 0x32 (0x80 ∷ 0x82 ∷ 0x02 ∷ 0xFF ∷ [])) refusal.bad_segment_lem 6
+    ∷ refused_string (segment 0x31 (0x7F ∷ 0x7F ∷ [])) refusal.bad_segment 4
+    ∷ refused_string (segment 0x31 (0x80 ∷ 0x7F ∷ [])) refusal.bad_segment 5
+    ∷ refused_string (segment 0x31 (0x80 ∷ 0x80 ∷ [])) refusal.bad_segment 5
+    ∷ refused_string (segment 0x31 (0x80 ∷ 0x82 ∷ 0x61 ∷ 0x61 ∷ 0x41 ∷ [])) refusal.bad_segment 7
+    ∷ refused_string (segment 0x31 (0x80 ∷ 0x83 ∷ 0x61 ∷ 0x20 ∷ 0x61 ∷ [])) refusal.bad_segment 7
+    ∷ refused_string (segment 0x32 (0x80 ∷ 0x84 ∷ 0x61 ∷ 0x20 ∷ 0x02 ∷ 0xFF ∷ [])) refusal.bad_segment 7
+    ∷ refused_string (segment 0x32 (0x80 ∷ 0x82 ∷ 0x02 ∷ 0xFF ∷ [])) refusal.bad_segment 6
     ∷ refused_string (segment 0x31 (0x80 ∷ 0x84 ∷ 0x20 ∷ 0x02 ∷ [])) refusal.cut 8
     ∷ []
 

@@ -5,7 +5,7 @@ use Rattle.base.specs.Kind as kind
 use Rattle.base.specs.Refusal as refusal
 use Rattle.base.specs.declared.Unit.{Unit as UnitRecord}
 use Rattle.state.specs.declared.directions.Directions.{Directions}
-use Rattle.state.specs.declared.directions.Step.{Step, TheVariants.Goes, TheVariants.Stops}
+use Rattle.state.specs.Directions.{Step, Goes, Stops}
 use Rattle.state.specs.Directions.{undirected}
 use Rattle.state.specs.State.{fresh}
 use Rattle.charset.specs.Charsets.{no_set, form_of}
@@ -63,8 +63,8 @@ pub data Bad (o : List ℕ) (r : UnitRecord) : ℕ → Type 0 where
   bad_code : r.kind ≡ kind.character → code_used (form_of r.set) r.code ≡ false → Bad o r refusal.bad_unit
   bad_part : r.kind ≡ kind.segment → length o < r.start + r.length → Bad o r refusal.bad_unit
   bad_d : r.kind ≡ kind.segment → (r.code < 0x30) ⊎ (0x34 < r.code) → Bad o r refusal.bad_unit
-  bad_length : Placed o r → most_of_segment < r.length → Bad o r refusal.bad_segment_lem
-  bad_content : Placed o r → segment r.code 0 (take r.length (drop r.start o)) ≡ false → Bad o r refusal.bad_segment_lem
+  bad_length : Placed o r → most_of_segment < r.length → Bad o r refusal.bad_segment
+  bad_content : Placed o r → segment r.code 0 (take r.length (drop r.start o)) ≡ false → Bad o r refusal.bad_segment
 
 -- a string of octets that is of the grammar and reads as the units, its length aside (rule N8)
 pub record Grammatical (t : List ℕ) (us : List TextUnit) : Type 0 where
@@ -74,7 +74,7 @@ pub record Grammatical (t : List ℕ) (us : List TextUnit) : Type 0 where
 
 -- the numbers that refuse a unit (rule N2)
 abbrev pub Number : ℕ → Type 0
-Number n = (n ≡ refusal.bad_unit) ⊎ (n ≡ refusal.bad_segment_lem) ⊎ (n ≡ refusal.direction) ⊎ (n ≡ refusal.too_deep)
+Number n = (n ≡ refusal.bad_unit) ⊎ (n ≡ refusal.bad_segment) ⊎ (n ≡ refusal.direction) ⊎ (n ≡ refusal.too_deep)
 
 -- the records are of a reading that some string of the grammar has (rule N8)
 abbrev pub SomeString : List ℕ → List UnitRecord → Type 0

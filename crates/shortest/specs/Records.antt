@@ -8,7 +8,7 @@ use Rattle.base.specs.declared.Answer.{Answer}
 use Rattle.base.specs.declared.Unit.{Unit as UnitRecord}
 use Rattle.state.specs.Directions.{undirected}
 use Rattle.state.specs.declared.directions.Directions.{Directions}
-use Rattle.state.specs.declared.directions.Step.{Step, TheVariants.Goes, TheVariants.Stops}
+use Rattle.state.specs.Directions.{Step, Goes, Stops}
 use Rattle.grammar.specs.Units.{TextUnit, char, space, control, ext, good}
 use Rattle.grammar.specs.Reading.{direct}
 use Rattle.grammar.specs.Records.{unit_read, list_reading}
@@ -19,7 +19,7 @@ abbrev pub own : TextUnit → ℕ
 own (char c k) = refusal.bad_unit
 own space = refusal.bad_unit
 own (control x) = refusal.bad_unit
-own (ext e xs) = cond (leb 0x30 e && leb e 0x34) refusal.bad_segment_lem refusal.bad_unit
+own (ext e xs) = cond (leb 0x30 e && leb e 0x34) refusal.bad_segment refusal.bad_unit
 
 -- what a record does: 11 where it stands for no unit, its own refusal, or its step by the direction rule (rule N6)
 abbrev pub fault : Option TextUnit → Directions → Step

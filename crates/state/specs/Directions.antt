@@ -1,12 +1,22 @@
 -- The direction rule, unit by unit (rules E5 to E9, E12).
-use Rattle.std.specs.Prelude.{ℕ, ◌+◌, ◌*◌, ◌%◌, ◌/◌, ◌-◌, ◌^◌, Bool, true, false, ◌||◌, ◌&&◌, eqb, ltb}
+use Rattle.std.specs.Prelude.{ℕ, ◌+◌, ◌*◌, ◌%◌, ◌/◌, ◌-◌, ◌^◌, Bool, true, false, ◌||◌, ◌&&◌, eqb, ltb, Result, Ok, Err}
 use Rattle.base.specs.Choice.{pick}
 use Rattle.base.specs.Refusal as refusal
+use Rattle.base.specs.declared.refusal.Refusal.{Refusal}
 use Rattle.base.specs.Kind as kind
 use Rattle.base.specs.Limit as limit
 use Rattle.base.specs.Direction as direction
 use Rattle.state.specs.declared.directions.Directions.{Directions}
-use Rattle.state.specs.declared.directions.Step.{Step, TheVariants.Goes, TheVariants.Stops}
+
+-- what a unit does to the directions, or the number of its refusal
+pub data Step : Type 0 where
+  Goes : Directions → Step
+  Stops : ℕ → Step
+
+-- a step as the code answers it
+abbrev pub step_seen : Result Directions Refusal → Step
+step_seen (Ok d) = Goes d
+step_seen (Err r) = Stops (refusal.number_of r)
 
 -- how many directions are open; their ways, a binary digit for each, the last opened lowest; whether a mark was read, and whether text
 abbrev pub directions : ℕ → ℕ → Bool → Bool → Directions

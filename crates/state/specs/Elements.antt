@@ -1,9 +1,56 @@
 -- The parts of a shape's definition that text, segments and control sequences share.
-use Rattle.std.specs.Prelude.{ℕ, Bool, List, [], ◌∷◌}
+use Rattle.std.specs.Prelude.{ℕ, Bool, List, [], ◌∷◌, Option, None, Some, Result, Ok, Err}
 use Rattle.base.specs.Refusal as refusal
+use Rattle.base.specs.declared.refusal.Refusal.{TheVariants.Cut}
+use Rattle.charset.specs.declared.Side.{Side}
 use Rattle.state.specs.Directions.{counts_as_text}
 use Rattle.state.specs.declared.elements.Part.{Part}
-use Rattle.state.specs.declared.elements.Shape.{Shape, TheVariants.Refuses, TheVariants.Gives}
+use Rattle.state.specs.declared.State.{State}
+use Rattle.state.specs.declared.elements.Refused.{Refused as CodeRefused}
+use Rattle.state.specs.declared.elements.Shape.{Shape as CodeShape}
+use Rattle.state.specs.declared.elements.Shape.TheVariants.{Designates as CodeDesignates, Gives as CodeGives}
+use Rattle.state.specs.declared.elements.Element.{Element as CodeElement}
+use Rattle.state.specs.declared.elements.Element.TheVariants.{Silent as CodeSilent, Found as CodeFound}
+
+-- What stands at a place before the direction rule is asked: nothing; a refusal, by its number and by how far its octet is from the start of the element
+-- (rule N2); a designation, by its octets, and the set that it puts on a side; or a unit.
+pub data Shape : Type 0 where
+  Ends : Shape
+  Refuses : ℕ → ℕ → Shape
+  Designates : ℕ → Side → ℕ → Shape
+  Gives : Part → Shape
+
+-- An element: none; a refusal likewise; one that gives no unit, by its octets and the state after it; or a unit and the state after it.
+pub data Element : Type 0 where
+  End : Element
+  Refused : ℕ → ℕ → Element
+  Silent : ℕ → State → Element
+  Found : Part → State → Element
+
+-- These as the code answers them, where there is an element, and where the string may have ended.
+abbrev pub shape_seen : Result CodeShape CodeRefused → Shape
+shape_seen (Ok (CodeDesignates k d c)) = Designates k d c
+shape_seen (Ok (CodeGives p)) = Gives p
+shape_seen (Err e) = Refuses (refusal.number_of e.0) e.1
+
+abbrev pub shape_at_seen : Result (Option CodeShape) CodeRefused → Shape
+shape_at_seen (Ok None) = Ends
+shape_at_seen (Ok (Some x)) = shape_seen (Ok x)
+shape_at_seen (Err e) = Refuses (refusal.number_of e.0) e.1
+
+abbrev pub found_seen : Result CodeElement CodeRefused → Element
+found_seen (Ok (CodeSilent k st)) = Silent k st
+found_seen (Ok (CodeFound p st)) = Found p st
+found_seen (Err e) = Refused (refusal.number_of e.0) e.1
+
+abbrev pub element_seen : Result (Option CodeElement) CodeRefused → Element
+element_seen (Ok None) = End
+element_seen (Ok (Some x)) = found_seen (Ok x)
+element_seen (Err e) = Refused (refusal.number_of e.0) e.1
+
+-- a cut after so many octets
+abbrev pub cut_after : ℕ → CodeRefused
+cut_after k = record { 0 = Cut; 1 = k }
 
 -- kind, set, code, octets before the unit's own, the unit's octets, whether it is text for the direction rule
 abbrev pub part : ℕ → ℕ → ℕ → ℕ → ℕ → Bool → Part
@@ -13,8 +60,6 @@ part kind set code skip octets text =
 -- a unit whose octets are the whole element
 abbrev pub unit : ℕ → ℕ → ℕ → ℕ → Shape
 unit kind set code octets = Gives (part kind set code 0 octets (counts_as_text kind 0))
-
--- `Refuses n o` is a refusal: its number, and how far its octet is from the start of the element (rule N2)
 
 -- the octet of an element that stands after k others, and those after it; where there is none the element is cut, and the place is that of the
 -- missing octet, which is the string's length (rules E1j, N2)

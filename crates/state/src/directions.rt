@@ -1,8 +1,8 @@
 // The direction rule, as steps of the open directions.
 ghost use Rattle.std.specs.Prelude.{◌≡◌};
-ghost use Rattle.state.specs.Directions.{counts_as_text, written_of, deeper_of, begun_of, reverted_of, step_of, in_force_of};
+ghost use Rattle.state.specs.Directions.{counts_as_text, written_of, deeper_of, begun_of, reverted_of, step_of, step_seen, in_force_of};
 
-use base::{direction, kind, limit, refusal};
+use base::{Refusal, direction, kind, limit};
 
 // The open directions, one binary digit for each, the last opened lowest and 1 for right-to-left; how many are open; whether a
 // direction mark was read, and whether text was.
@@ -12,13 +12,6 @@ pub struct Directions {
     pub depth: u8,
     pub marked: bool,
     pub texted: bool,
-}
-
-// What a unit does to the directions, or the number of its refusal.
-#[derive(Clone, Copy)]
-pub enum Step {
-    Goes(Directions),
-    Stops(u8),
 }
 
 // Whether a unit counts as text for the direction rule, by its kind and the octets of an extended segment's text: a character, a space, a segment
@@ -38,64 +31,64 @@ impl Directions {
     };
 
     // Text.
-    pub fn written(self) -> Step
-        ensures { result ≡ written_of self }
+    pub fn written(self) -> Result<Directions, Refusal>
+        ensures { step_seen result ≡ written_of self }
     {
-        let mut next = self;
-        next.texted = true;
-        if self.marked {
-            if self.depth == 0 {
-                return Step::Stops(refusal::DIRECTION);
-            }
-            return Step::Goes(next);
+        if self.marked && self.depth == 0 {
+            return Err(Refusal::Direction);
         }
-        Step::Goes(next)
+        Ok(Directions {
+            texted: true,
+            ..self
+        })
     }
 
     // One more direction, 0 left-to-right and 1 right-to-left.
-    pub fn deeper(self, way: u64) -> Step
-        ensures { result ≡ deeper_of way self }
+    pub fn deeper(self, way: u64) -> Result<Directions, Refusal>
+        ensures { step_seen result ≡ deeper_of way self }
     {
         if self.depth < limit::DEPTH {
-            let mut next = self;
-            next.depth = self.depth + 1;
-            next.levels = self.levels % 0x8000_0000_0000_0000 * 2 + way % 2;
-            next.marked = true;
-            return Step::Goes(next);
+            return Ok(Directions {
+                depth: self.depth + 1,
+                levels: self.levels % 0x8000_0000_0000_0000 * 2 + way % 2,
+                marked: true,
+                ..self
+            });
         }
-        Step::Stops(refusal::TOO_DEEP)
+        Err(Refusal::TooDeep)
     }
 
     // A mark that begins a direction.
-    pub fn begun(self, way: u64) -> Step
-        ensures { result ≡ begun_of way self }
+    pub fn begun(self, way: u64) -> Result<Directions, Refusal>
+        ensures { step_seen result ≡ begun_of way self }
     {
         if self.marked {
             return self.deeper(way);
         }
         if self.texted {
-            return Step::Stops(refusal::DIRECTION);
+            return Err(Refusal::Direction);
         }
         self.deeper(way)
     }
 
     // A mark that reverts.
-    pub fn reverted(self) -> Step
-        ensures { result ≡ reverted_of self }
+    pub fn reverted(self) -> Result<Directions, Refusal>
+        ensures { step_seen result ≡ reverted_of self }
     {
         if self.depth == 0 {
-            return Step::Stops(refusal::DIRECTION);
+            return Err(Refusal::Direction);
         }
-        let mut next = self;
-        next.depth = self.depth - 1;
-        next.levels = self.levels / 2;
-        next.marked = true;
-        Step::Goes(next)
+        Ok(Directions {
+            depth: self.depth - 1,
+            levels: self.levels / 2,
+            marked: true,
+            ..self
+        })
     }
 
     // A unit of a kind; text says whether it counts as text.
-    pub fn step(self, text: bool, kind: u8) -> Step
-        ensures { result ≡ step_of text kind self }
+    pub fn step(self, text: bool, kind: u8) -> Result<Directions, Refusal>
+        ensures { step_seen result ≡ step_of text kind self }
     {
         if text {
             return self.written();
@@ -104,7 +97,7 @@ impl Directions {
             kind::LEFT_TO_RIGHT => self.begun(0),
             kind::RIGHT_TO_LEFT => self.begun(1),
             kind::REVERT => self.reverted(),
-            _ => Step::Goes(self),
+            _ => Ok(self),
         }
     }
 

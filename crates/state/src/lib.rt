@@ -2,7 +2,7 @@
 #![tactic(auto)]
 
 ghost use Rattle.std.specs.Prelude.{◌≡◌};
-ghost use Rattle.state.specs.State.{designated_of, directed_to};
+ghost use Rattle.state.specs.State.{on, put, designated_of, directed_to};
 
 use charset::Side;
 
@@ -16,6 +16,18 @@ use crate::directions::Directions;
 pub struct Sets {
     pub gl: u8,
     pub gr: u8,
+}
+
+impl Sets {
+    // The sets once a set stands on a side.
+    pub fn with(self, side: Side, set: u8) -> Sets
+        ensures { result ≡ put (on side set) self }
+    {
+        match side {
+            Side::GL => Sets { gl: set, ..self },
+            Side::GR => Sets { gr: set, ..self },
+        }
+    }
 }
 
 #[derive(Clone, Copy)]
@@ -35,23 +47,9 @@ impl State {
     pub fn designated(self, side: Side, set: u8) -> State
         ensures { result ≡ designated_of side set self }
     {
-        let mut sets = self.sets;
-        let directions = self.directions;
-        match side {
-            Side::GL => {
-                sets.gl = set;
-                State {
-                    directions: directions,
-                    sets: sets,
-                }
-            }
-            Side::GR => {
-                sets.gr = set;
-                State {
-                    directions: directions,
-                    sets: sets,
-                }
-            }
+        State {
+            sets: self.sets.with(side, set),
+            ..self
         }
     }
 
@@ -59,10 +57,6 @@ impl State {
     pub fn directed(self, directions: Directions) -> State
         ensures { result ≡ directed_to directions self }
     {
-        let sets = self.sets;
-        State {
-            directions: directions,
-            sets: sets,
-        }
+        State { directions, ..self }
     }
 }

@@ -5,7 +5,7 @@ use Rattle.base.specs.Choice.{pick}
 use Rattle.base.specs.Refusal as refusal
 use Rattle.charset.specs.Charsets.{form_96, form_94x94, form_of}
 use Rattle.state.specs.declared.Sets.{Sets}
-use Rattle.state.specs.declared.elements.Shape.{Shape, TheVariants.Refuses}
+use Rattle.state.specs.Elements.{Shape, Refuses}
 use Rattle.text.specs.Text.{graphic_of, one_octet_of, space_of, second_octet_of}
 
 -- a character that begins with b, of the set on the side of b

@@ -4,7 +4,7 @@ use Rattle.base.specs.Choice.{pick}
 use Rattle.base.specs.Refusal as refusal
 use Rattle.base.specs.Kind as kind
 use Rattle.state.specs.Elements.{unit, next}
-use Rattle.state.specs.declared.elements.Shape.{Shape, TheVariants.Refuses}
+use Rattle.state.specs.Elements.{Shape, Refuses}
 
 -- an octet less its top bit that a set of 94 uses, and either octet of a set of 94 by 94: 21 to 7E (rules E1b, E1c)
 unfoldable pub graphic_of : ℕ → Bool

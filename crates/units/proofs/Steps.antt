@@ -4,12 +4,12 @@
 use Rattle.element.proofs.Names.{ℕ, ◌+◌, ◌-◌, ◌≡◌, refl, Bool, List, [], ◌∷◌, pick, pick_by, step_of, Side, next, part, Sets, State, Part, Step, Goes}
 use Rattle.element.proofs.Names.{Stops, Shape, Refuses, Designates, Gives, Element, End, Refused, Silent, Found}
 use Rattle.state.specs.Directions.{counts_as_text}
-use Rattle.state.specs.declared.elements.Shape.TheVariants.{Ends}
+use Rattle.state.specs.Elements.{Ends}
 use Rattle.text.specs.Text.{second_octet_of}
 use Rattle.control.specs.Escape.{intermediates_of, designates_of, designation_of, multi_octet_of, escape_of}
 use Rattle.control.specs.Mark.{begin_of, csi_of}
 use Rattle.segment.specs.Segment.{content_of, body_of, lengths_of, extended_of}
-use Rattle.segment.specs.declared.Name.{Name, TheVariants.Ends as NameEnds, TheVariants.Bad, TheVariants.Endless}
+use Rattle.segment.specs.Segment.{Name, Ends as NameEnds, Bad, Endless}
 use Rattle.element.specs.Start.{Start, start_in, begun_by}
 use Rattle.element.specs.Start as start
 use Rattle.element.specs.Element.{shape_of, stepped_of, directed_of, element_of}

@@ -45,7 +45,7 @@ module _ (rs : List UnitRecord) (o before after out : List ℕ) where
         let z = ne_eqb n 0 (number (offence_number o rs n i ((offence o rs n i).0 e))) in
         record { answers = rw (l, e); output = rw (l, e, z) }
       where
-        number : (n ≡ refusal.bad_unit) ⊎ (n ≡ refusal.bad_segment_lem) ⊎ (n ≡ refusal.direction) ⊎ (n ≡ refusal.too_deep) → n ≡ 0 → ⊥
+        number : (n ≡ refusal.bad_unit) ⊎ (n ≡ refusal.bad_segment) ⊎ (n ≡ refusal.direction) ⊎ (n ≡ refusal.too_deep) → n ≡ 0 → ⊥
         number (inl q) k = omega arith
         number (inr (inl q)) k = omega arith
         number (inr (inr (inl q))) k = omega arith

@@ -31,12 +31,12 @@ ruled u d n = go (fair d (counts u) (kind_of u))
     go (stops {n = m} h) e = subst Ruled (let z : m ≡ n = cc in z) h
 
 -- the refusal of a unit that is not good
-own_place : (u : TextUnit) → cond (eqb (own u) refusal.bad_segment_lem) refusal.unsupported refusal.bad_unit ≡ in_place_of (own u)
+own_place : (u : TextUnit) → cond (eqb (own u) refusal.bad_segment) refusal.unsupported refusal.bad_unit ≡ in_place_of (own u)
 own_place (char c k) = refl
 own_place space = refl
 own_place (control x) = refl
 own_place (ext e xs) =
-    cond_by (λ (n : ℕ). cond (eqb n refusal.bad_segment_lem) refusal.unsupported refusal.bad_unit ≡ in_place_of n) (leb 0x30 e && leb e 0x34)
+    cond_by (λ (n : ℕ). cond (eqb n refusal.bad_segment) refusal.unsupported refusal.bad_unit ≡ in_place_of n) (leb 0x30 e && leb e 0x34)
     (λ _. refl) (λ _. refl)
 
 -- 11 and 7, of any record

@@ -26,7 +26,7 @@ record_verdict none = refuses (inl refl)
 record_verdict (some u) =
     cond_by (Verdict (some u)) (good u)
     (λ g. cond_by (Verdict (some u)) (unsupported_unit u) (λ _. refuses (inr refl)) (λ n. serves g n))
-    (λ _. cond_by (Verdict (some u)) (eqb (own u) refusal.bad_segment_lem) (λ _. refuses (inr refl)) (λ _. refuses (inl refl)))
+    (λ _. cond_by (Verdict (some u)) (eqb (own u) refusal.bad_segment) (λ _. refuses (inr refl)) (λ _. refuses (inl refl)))
 
 -- a number that refuses is not 0
 pub not_zero : {n : ℕ} → (n ≡ refusal.bad_unit) ⊎ (n ≡ refusal.unsupported) → n ≡ refusal.accepted → ⊥

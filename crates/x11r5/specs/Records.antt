@@ -18,7 +18,7 @@ unfoldable pub record_refusal : Option TextUnit → ℕ
 record_refusal none = refusal.bad_unit
 record_refusal (some u) =
     cond (good u) (cond (unsupported_unit u) refusal.unsupported refusal.accepted)
-    (cond (eqb (own u) refusal.bad_segment_lem) refusal.unsupported refusal.bad_unit)
+    (cond (eqb (own u) refusal.bad_segment) refusal.unsupported refusal.bad_unit)
 
 abbrev pub on_refusal : ℕ → ℕ → Finding → Finding
 on_refusal n i f = cond (eqb n refusal.accepted) f (faulty n i)

@@ -1,14 +1,8 @@
--- `segment::name_end` meets its contract. The invariant: the name that the octets from `i` on have, `i` octets being passed, is
--- that of all of them.
-use Prim.Native.Nat.{◌≤◌, ◌-◌}
+-- `segment::name_end` meets its contract. The invariant: the name that the octets from `i` on have, `i` octets being passed, is that of all of them.
 use mathlib.Core.Path.{◌≡◌}
-use lib.ListN.{length}
 use Rattle.base.specs.Choice.{from}
 use Rattle.segment.specs.Segment.{name_of}
 use Rattle.segment.proofs.name_end.Given as goal
 
 abbrev pub invariant-loop-i : goal.invariant-loop-i
-invariant-loop-i l = (l.i ≤ length l.s) × (name_of (from l.i l.s) l.i ≡ name_of l.s 0)
-
-abbrev pub decreases-loop-i : goal.decreases-loop-i
-decreases-loop-i l = length l.s - l.i
+invariant-loop-i l = name_of (from l.i l.s) l.i ≡ name_of l.s 0

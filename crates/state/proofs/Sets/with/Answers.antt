@@ -1,6 +1,6 @@
--- `State::designated` meets its contract on each side.
+-- `Sets::with` meets its contract, on each side.
 use Rattle.state.specs.State.{put}
-use Rattle.state.proofs.State.designated.Goals as goal
+use Rattle.state.proofs.Sets.with.Goals as goal
 
 pub returns-in-GL : goal.returns-in-GL
 unfolding put
