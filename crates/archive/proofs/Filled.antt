@@ -2,7 +2,7 @@
 -- stored is one from which a unit is next (`ready`): the laws of `read` on any way to read the unit at a cursor, for the unit of the elements.
 use Rattle.element.proofs.Names.{ℕ, ◌<◌, arith, ◌≡◌, refl, ap, sym, ◌∙◌, List, length, UnitRecord, State}
 use Rattle.units.specs.Next.{next_of}
-use Rattle.units.specs.declared.Outcome.{Outcome}
+use Rattle.units.specs.Next.{Outcome}
 use Rattle.walks.proofs.Filling.{length_fill}
 use Rattle.cursor.specs.Cursor.{cursor, first, state_in, element_turn}
 use Rattle.cursor.specs.declared.Cursor.{Cursor}

@@ -24,8 +24,8 @@ use Rattle.designations.specs.declared.Designation.{Designation}
 use Rattle.designations.proofs.Designations.{designation_silent, on_four, on_few, told_set}
 use Rattle.units.specs.Records.{record_of}
 use Rattle.units.specs.Next.{next_of}
-use Rattle.units.specs.declared.Outcome.{Outcome}
-use Rattle.units.specs.declared.Outcome.TheVariants.{Gives, Stops}
+use Rattle.units.specs.Next.{Outcome}
+use Rattle.units.specs.Next.{Gives, Stops}
 use Rattle.units.proofs.Turn.{outcome, gives_end, gives_refused, gives_silent, gives_found}
 use Rattle.cursor.specs.Cursor.{flagged, cursor, state_in, outcome_turn, element_turn, marked_turn, placed_of, passed_of}
 use Rattle.cursor.specs.declared.Cursor.{Cursor}

@@ -11,7 +11,7 @@ use Rattle.state.specs.Directions.{in_force_of}
 use Rattle.state.specs.State.{sets}
 use Rattle.state.specs.declared.State.{State}
 use Rattle.units.specs.Next.{next_of}
-use Rattle.units.specs.declared.Outcome.TheVariants.{Gives}
+use Rattle.units.specs.Next.{Gives}
 use Rattle.archive.specs.declared.turns.RowCursor.{RowCursor}
 use Rattle.archive.specs.declared.turns.RowTurn.{RowTurn}
 

@@ -13,7 +13,7 @@ use Rattle.state.specs.State.{directed_to}
 use Rattle.element.specs.Element.{shape_of, stepped_of, directed_of, element_of}
 use Rattle.element.specs.Start.{start_of, begun_by}
 use Rattle.units.specs.Next.{next_of}
-use Rattle.units.specs.declared.Outcome.TheVariants.{Gives, Stops}
+use Rattle.units.specs.Next.{Gives, Stops}
 use Rattle.units.proofs.Turn.{outcome, gives_refused, gives_found}
 use Rattle.cursor.specs.Cursor.{state_in, outcome_turn, element_turn, step_turn, mark_turn, after_csi, mark_of, marked_turn}
 use Rattle.cursor.specs.declared.Cursor.{Cursor}

@@ -16,8 +16,8 @@ use Rattle.designations.specs.declared.Designation.{Designation}
 use Rattle.designations.proofs.Designations.{designation_silent}
 use Rattle.units.specs.Records.{record_of, records_from}
 use Rattle.units.specs.Next.{outcome_of, next_of}
-use Rattle.units.specs.declared.Outcome.{Outcome}
-use Rattle.units.specs.declared.Outcome.TheVariants.{Gives}
+use Rattle.units.specs.Next.{Outcome}
+use Rattle.units.specs.Next.{Gives}
 use Rattle.cursor.specs.Cursor.{flagged, kept, cursor, turn, outcome_turn, element_turn, marked_turn, placed_of, passed_of, text_turn, advance_at}
 use Rattle.cursor.specs.Cursor.{advance_of}
 use Rattle.cursor.specs.declared.Cursor.{Cursor}

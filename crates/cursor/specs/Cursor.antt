@@ -15,8 +15,8 @@ use Rattle.designations.specs.declared.Designation.{Designation}
 use Rattle.charset.specs.Charsets.{no_set, first_double}
 use Rattle.units.specs.Records.{blank}
 use Rattle.units.specs.Next.{next_of}
-use Rattle.units.specs.declared.Outcome.{Outcome}
-use Rattle.units.specs.declared.Outcome.TheVariants.{Gives, Stops}
+use Rattle.units.specs.Next.{Outcome}
+use Rattle.units.specs.Next.{Gives, Stops}
 use Rattle.cursor.specs.declared.Cursor.{Cursor}
 use Rattle.cursor.specs.declared.Turn.{Turn}
 

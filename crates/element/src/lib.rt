@@ -4,7 +4,7 @@
 ghost use Rattle.std.specs.Prelude.{◌≡◌, ◌<◌, length};
 ghost use Rattle.base.specs.Choice.{from};
 ghost use Rattle.state.specs.Directions.{step_seen};
-ghost use Rattle.state.specs.Elements.{shape_seen, shape_at_seen, found_seen, element_seen};
+ghost use Rattle.state.specs.Elements.{shape_seen, element_seen};
 ghost use Rattle.element.specs.Element.{shape_of, stepped_of, directed_of, element_of};
 
 use base::{Refusal, kind};
@@ -29,21 +29,21 @@ fn begun(s: &[u8], at: usize, sets: Sets) -> Result<Shape, Refused>
     }
 }
 
-// The shape of the element at a place, where the string does not end there.
+// The shape of the element at a place.
 #[tactic(auto, using(crate::proofs::Steps::on_shape_end), unfolding(crate::specs::Element::shape_of))]
-pub fn shape(s: &[u8], at: usize, sets: Sets) -> Result<Option<Shape>, Refused>
-    ensures { shape_at_seen result ≡ shape_of (from at s.now) sets }
+pub fn shape(s: &[u8], at: usize, sets: Sets) -> Result<Shape, Refused>
+    ensures { shape_seen result ≡ shape_of (from at s.now) sets }
 {
     if s.len() <= at {
-        return Ok(None);
+        return Ok(Shape::Ends);
     }
-    Ok(Some(begun(s, at, sets)?))
+    begun(s, at, sets)
 }
 
 // A unit whose step by the direction rule is known.
 #[tactic(auto, unfolding(crate::specs::Element::stepped_of))]
 pub fn stepped(part: Part, st: State, step: Result<Directions, Refusal>) -> Result<Element, Refused>
-    ensures { found_seen result ≡ stepped_of part st (step_seen step) }
+    ensures { element_seen result ≡ stepped_of part st (step_seen step) }
 {
     match step {
         Ok(directions) => Ok(Element::Found(part, st.directed(directions))),
@@ -54,26 +54,23 @@ pub fn stepped(part: Part, st: State, step: Result<Directions, Refusal>) -> Resu
 // A shape under a state: a designation changes the sets alone, and a unit, by the direction rule, the directions alone.
 #[tactic(auto, unfolding(crate::specs::Element::directed_of))]
 pub fn directed(
-    shape: Result<Option<Shape>, Refused>,
+    shape: Result<Shape, Refused>,
     st: State,
-) -> Result<Option<Element>, Refused>
-    ensures { element_seen result ≡ directed_of (shape_at_seen shape) st }
+) -> Result<Element, Refused>
+    ensures { element_seen result ≡ directed_of (shape_seen shape) st }
 {
     match shape? {
-        None => Ok(None),
-        Some(Shape::Designates(octets, side, set)) => Ok(Some(Element::Silent(
-            octets,
-            st.designated(side, set),
-        ))),
-        Some(Shape::Gives(part)) => {
+        Shape::Ends => Ok(Element::End),
+        Shape::Designates(octets, side, set) => Ok(Element::Silent(octets, st.designated(side, set))),
+        Shape::Gives(part) => {
             let step = st.directions.step(part.text, part.kind);
-            Ok(Some(stepped(part, st, step)?))
+            stepped(part, st, step)
         }
     }
 }
 
-// The element at a place, under a state, where the string does not end there.
-pub fn element(s: &[u8], at: usize, st: State) -> Result<Option<Element>, Refused>
+// The element at a place, under a state.
+pub fn element(s: &[u8], at: usize, st: State) -> Result<Element, Refused>
     ensures { element_seen result ≡ element_of (from at s.now) st }
 {
     directed(shape(s, at, st.sets), st)

@@ -15,7 +15,7 @@ use Rattle.grammar.specs.Grammar.{Reads, done, designate, show, Accepted, Legal}
 use Rattle.base.specs.Limit as limit
 use Rattle.base.specs.Refusal as refusal
 use Rattle.grammar.proofs.Rule.{directed, passes as goes_on, direction_rule}
-use Rattle.grammar.specs.Reading.{Elements, end_at, refused_at_lem, silent_at, found_at, direct, size, onward, elements, elements_of, answer_of, check_of}
+use Rattle.grammar.specs.Reading.{Elements, end_at, stopped_at, silent_at, found_at, direct, size, onward, elements, elements_of, answer_of, check_of}
 use Rattle.grammar.specs.Reading.{none_refused, unit_at, units_of, reading_of, Octets, ReadAs}
 use Rattle.grammar.proofs.Elements.{next_at, at_nothing, none_passed, elements_passed}
 use Rattle.grammar.proofs.Places.{Ahead, ends, stops, passes, reads, from_start}
@@ -171,7 +171,7 @@ zero_none s count (reads t m e a) z = zero_none s (count + 1) a z
 by_refusal : (count : ℕ) (es : Elements) → ((answer_of count es).number ≡ 0) ⊎ ((none_refused es ≡ false) × ((answer_of count es).count ≡ 0))
 unfolding answer_of none_refused
 by_refusal count (end_at at) = inl refl
-by_refusal count (refused_at_lem at n o) = inr (refl, refl)
+by_refusal count (stopped_at at n o) = inr (refl, refl)
 by_refusal count (silent_at at k st es) = by_refusal count es
 by_refusal count (found_at at p st es) = by_refusal (count + 1) es
 

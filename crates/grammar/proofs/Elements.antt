@@ -3,12 +3,12 @@ use Rattle.element.proofs.Names.{ℕ, zero, suc, ◌+◌, ◌-◌, ◌≤◌, ar
 use Rattle.element.proofs.Names.{State, Element, End, Refused, Silent, Found}
 use Rattle.element.specs.Element.{element_of, shape_of, directed_of}
 use Rattle.element.proofs.Sizes.{Passed, silent, found, element_size, of_passed}
-use Rattle.grammar.specs.Reading.{Elements, end_at, refused_at_lem, silent_at, found_at, onward, elements}
+use Rattle.grammar.specs.Reading.{Elements, end_at, stopped_at, silent_at, found_at, onward, elements}
 
 -- the element at a place before those after it
 abbrev pub next_at : ℕ → Element → Elements → Elements
 next_at at End es = end_at at
-next_at at (Refused n o) es = refused_at_lem at n o
+next_at at (Refused n o) es = stopped_at at n o
 next_at at (Silent k st) es = silent_at at k st es
 next_at at (Found p st) es = found_at at p st es
 
@@ -48,7 +48,7 @@ module _ (at : ℕ) (st : State) where
   elements_end [] e = refl
   elements_end (b ∷ t) e = rw e
 
-  pub elements_refused : (t : List ℕ) {n o : ℕ} → element_of t st ≡ Refused n o → elements t 0 at st ≡ refused_at_lem at n o
+  pub elements_refused : (t : List ℕ) {n o : ℕ} → element_of t st ≡ Refused n o → elements t 0 at st ≡ stopped_at at n o
   unfolding elements onward
   elements_refused [] e = clash (cc (at_nothing st))
   elements_refused (b ∷ t) e = rw e

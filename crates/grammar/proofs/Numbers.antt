@@ -15,7 +15,7 @@ use Rattle.control.specs.Mark.{begin_of, csi_of}
 use Rattle.element.specs.Start.{Start, start_in, begun_by}
 use Rattle.element.specs.Start as start
 use Rattle.element.specs.Element.{shape_of, stepped_of, directed_of}
-use Rattle.grammar.specs.Reading.{Elements, end_at, refused_at_lem, silent_at, found_at, onward, elements, elements_of, answer_of, check_of, stop_of}
+use Rattle.grammar.specs.Reading.{Elements, end_at, stopped_at, silent_at, found_at, onward, elements, elements_of, answer_of, check_of, stop_of}
 use Rattle.grammar.proofs.Unplaced as unplaced
 
 -- ---- shapes
@@ -160,7 +160,7 @@ directed st (gives {p}) = stepped p st (step_of p.text p.kind st.directions)
 -- the elements of a string, and the same without the offset of a refusal
 data Match : Elements → Elements → Type 0 where
   ends : {at : ℕ} → Match (end_at at) (end_at at)
-  stops : {at n o : ℕ} → Match (refused_at_lem at n o) (refused_at_lem at n 0)
+  stops : {at n o : ℕ} → Match (stopped_at at n o) (stopped_at at n 0)
   passes : {at k : ℕ} {st : State} {es fs : Elements} → Match es fs → Match (silent_at at k st es) (silent_at at k st fs)
   reads : {at : ℕ} {p : Part} {st : State} {es fs : Elements} → Match es fs → Match (found_at at p st es) (found_at at p st fs)
 

@@ -8,7 +8,7 @@ use Rattle.element.specs.Element.{element_of}
 use Rattle.element.specs.Meant.{MeantPart}
 use Rattle.element.proofs.Sizes.{Sized, Fit, Passed, silent, found, element_size, of_refused, of_passed, of_meant}
 use Rattle.element.proofs.Pointed.{Pointed, element_pointed, of_place}
-use Rattle.grammar.specs.Reading.{Elements, end_at, refused_at_lem, silent_at, found_at, size, elements, elements_of}
+use Rattle.grammar.specs.Reading.{Elements, end_at, stopped_at, silent_at, found_at, size, elements, elements_of}
 use Rattle.grammar.proofs.Elements.{next_at, at_nothing, elements_end, elements_refused, elements_passed}
 
 -- the elements from a place on, under a state
@@ -30,7 +30,7 @@ module _ (s : List ℕ) (at : ℕ) (st : State) (e : Element) (is : e ≡ elemen
   pub at_end : e ≡ End → ahead s at st ≡ end_at at
   at_end k = elements_end at st (from at s) (sym is ∙ k)
 
-  pub at_refused : {n o : ℕ} → e ≡ Refused n o → ahead s at st ≡ refused_at_lem at n o
+  pub at_refused : {n o : ℕ} → e ≡ Refused n o → ahead s at st ≡ stopped_at at n o
   at_refused k = elements_refused at st (from at s) (sym is ∙ k)
 
   -- the place of a refusal
@@ -57,7 +57,7 @@ module _ (s : List ℕ) (at : ℕ) (st : State) (e : Element) (is : e ≡ elemen
 
 pub data Ahead (s : List ℕ) : ℕ → State → Elements → Type 0 where
   ends : {at : ℕ} {st : State} → ahead s at st ≡ end_at at → Ahead s at st (end_at at)
-  stops : {at : ℕ} {st : State} {n o : ℕ} → 1 ≤ n → ahead s at st ≡ refused_at_lem at n o → Ahead s at st (refused_at_lem at n o)
+  stops : {at : ℕ} {st : State} {n o : ℕ} → 1 ≤ n → ahead s at st ≡ stopped_at at n o → Ahead s at st (stopped_at at n o)
   passes : {at : ℕ} {st : State} {k : ℕ} {next : State} {es : Elements} → Step s at st (Silent k next) k next
       → ahead s at st ≡ silent_at at k next es → Ahead s (at + k) next es → Ahead s at st (silent_at at k next es)
   reads : {at : ℕ} {st : State} {p : Part} {next : State} {es : Elements} → Step s at st (Found p next) (size p) next → MeantPart p

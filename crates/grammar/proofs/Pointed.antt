@@ -11,7 +11,7 @@ use Rattle.base.specs.Refusal as refusal
 use Rattle.element.specs.Element.{element_of}
 use Rattle.element.proofs.Sizes.{Passed, silent, found}
 use Rattle.element.proofs.Pointed.{Octet, Pointed, element_pointed, of_passed, of_before, of_cut, of_direction, of_extent}
-use Rattle.grammar.specs.Reading.{Elements, refused_at_lem, elements, elements_of, answer_of, check_of, Stop, stop, stop_of}
+use Rattle.grammar.specs.Reading.{Elements, stopped_at, elements, elements_of, answer_of, check_of, Stop, stop, stop_of}
 use Rattle.grammar.proofs.Elements.{next_at, elements_refused}
 use Rattle.grammar.proofs.Places.{ahead, Ahead, ends, stops, passes, reads, Step, at_end, at_refused, at_passed, refused_within, from_start}
 
@@ -101,7 +101,7 @@ module _ (s : List ℕ) where
         }
 
   -- the element at the place where the elements stop
-  refused_is : (at : ℕ) (st : State) {n o : ℕ} → ahead s at st ≡ refused_at_lem at n o → element_of (from at s) st ≡ Refused n o
+  refused_is : (at : ℕ) (st : State) {n o : ℕ} → ahead s at st ≡ stopped_at at n o → element_of (from at s) st ≡ Refused n o
   refused_is at st {n} {o} h = by (element_of (from at s) st) refl
     where
       by : (e : Element) → e ≡ element_of (from at s) st → e ≡ Refused n o

@@ -23,14 +23,14 @@ size p = p.skip + p.octets
 -- the elements of a string one after the other, each with the place where it starts; the last is the end or a refusal
 pub data Elements : Type 0 where
   end_at : ℕ → Elements
-  refused_at_lem : ℕ → ℕ → ℕ → Elements
+  stopped_at : ℕ → ℕ → ℕ → Elements
   silent_at : ℕ → ℕ → State → Elements → Elements
   found_at : ℕ → Part → State → Elements → Elements
 
 -- the element at a place, and what follows: f gives the elements after so many further octets
 unfoldable pub onward : ℕ → Element → (ℕ → State → Elements) → Elements
 onward at End f = end_at at
-onward at (Refused n o) f = refused_at_lem at n o
+onward at (Refused n o) f = stopped_at at n o
 onward at (Silent k st) f = silent_at at k st (f (k - 1) st)
 onward at (Found p st) f = found_at at p st (f (size p - 1) st)
 
@@ -48,7 +48,7 @@ elements_of s = elements s 0 0 fresh
 -- what elements answer after so many units: of the end 0, the length and the units, of a refusal its number and place (rules N1, N2)
 unfoldable pub answer_of : ℕ → Elements → Answer
 answer_of count (end_at at) = answer refusal.accepted at count
-answer_of count (refused_at_lem at n o) = refused_at n (at + o)
+answer_of count (stopped_at at n o) = refused_at n (at + o)
 answer_of count (silent_at at k st es) = answer_of count es
 answer_of count (found_at at p st es) = answer_of (count + 1) es
 
@@ -67,14 +67,14 @@ stop at st = record { place = at; state = st }
 -- elements under a state stop at their end, or at the start of the refused one
 unfoldable pub stop_of : State → Elements → Stop
 stop_of st (end_at at) = stop at st
-stop_of st (refused_at_lem at n o) = stop at st
+stop_of st (stopped_at at n o) = stop at st
 stop_of st (silent_at at k next es) = stop_of next es
 stop_of st (found_at at p next es) = stop_of next es
 
 -- no element is refused
 unfoldable pub none_refused : Elements → Bool
 none_refused (end_at at) = true
-none_refused (refused_at_lem at n o) = false
+none_refused (stopped_at at n o) = false
 none_refused (silent_at at k st es) = none_refused es
 none_refused (found_at at p st es) = none_refused es
 
@@ -85,7 +85,7 @@ unit_at p t = unit_of p.kind p.set p.code (take p.octets (drop p.skip t))
 -- the units of elements that start the octets t
 unfoldable pub units_of : List ℕ → Elements → List TextUnit
 units_of t (end_at at) = []
-units_of t (refused_at_lem at n o) = []
+units_of t (stopped_at at n o) = []
 units_of t (silent_at at k st es) = units_of (drop k t) es
 units_of t (found_at at p st es) = unit_at p t ∷ units_of (drop (size p) t) es
 

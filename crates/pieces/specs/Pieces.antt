@@ -2,7 +2,7 @@
 use Rattle.std.specs.Prelude.{ℕ, ◌+◌, Bool, false, List, [], ◌∷◌, eqb, leb, ltb, get_or}
 use Rattle.base.specs.Choice.{pick}
 use Rattle.base.specs.Kind as kind
-use Rattle.grammar.specs.Reading.{Elements, end_at, refused_at_lem, silent_at, found_at, size, elements_of}
+use Rattle.grammar.specs.Reading.{Elements, end_at, stopped_at, silent_at, found_at, size, elements_of}
 use Rattle.state.specs.State.{fresh}
 use Rattle.state.specs.declared.State.{State}
 use Rattle.state.specs.Elements.{Element, End, Refused, Silent, Found}
@@ -58,7 +58,7 @@ joined p (q ∷ qs) = pick (same_run_of p.kind q.kind) (longer p q ∷ qs) (p �
 unfoldable pub pieces_from : List ℕ → Elements → List Piece
 unfolding piece_of
 pieces_from s (end_at at) = []
-pieces_from s (refused_at_lem at n o) = []
+pieces_from s (stopped_at at n o) = []
 pieces_from s (silent_at at k st es) = joined (piece_of s at (Silent k st)) (pieces_from s es)
 pieces_from s (found_at at p st es) = joined (piece_of s at (Found p st)) (pieces_from s es)
 
@@ -80,6 +80,6 @@ set_in p = pick (eqb p.kind piece_kind.gl_run) p.state.sets.gl p.state.sets.gr
 -- the state in which the octet at a place i is read, of elements that start with a state: that before its element
 unfoldable pub state_at : State → Elements → ℕ → State
 state_at st (end_at at) i = st
-state_at st (refused_at_lem at n o) i = st
+state_at st (stopped_at at n o) i = st
 state_at st (silent_at at k next es) i = pick (ltb i (at + k)) st (state_at next es i)
 state_at st (found_at at p next es) i = pick (ltb i (at + size p)) st (state_at next es i)

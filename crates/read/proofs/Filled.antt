@@ -10,7 +10,7 @@ use Rattle.grammar.specs.Reading.{Elements, size, elements_of, answer_of, check_
 use Rattle.grammar.proofs.Places.{Ahead, ends, stops, passes, reads, from_start}
 use Rattle.units.specs.Records.{record_of, records_from, records_of}
 use Rattle.units.specs.Next.{outcome_of}
-use Rattle.units.specs.declared.Outcome.TheVariants.{Gives}
+use Rattle.units.specs.Next.{Gives}
 use Rattle.walks.proofs.Filling.{iter, fill_from}
 use Rattle.cursor.specs.declared.Cursor.{Cursor}
 use Rattle.cursor.specs.declared.Turn.{Turn}

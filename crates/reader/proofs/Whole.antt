@@ -11,8 +11,8 @@ use Rattle.grammar.specs.Reading.{Elements, size, elements_of, answer_of, check_
 use Rattle.grammar.proofs.Places.{Ahead, ends, stops, passes, reads, from_start}
 use Rattle.units.specs.Records.{records_from, records_of}
 use Rattle.units.specs.Next.{outcome_of, next_of}
-use Rattle.units.specs.declared.Outcome.{Outcome}
-use Rattle.units.specs.declared.Outcome.TheVariants.{Gives, Stops}
+use Rattle.units.specs.Next.{Outcome}
+use Rattle.units.specs.Next.{Gives, Stops}
 use Rattle.units.proofs.Records.{next_ahead, few_records}
 use Rattle.reader.specs.Step.{stepped, may_stand, largest, counted_of, ended_of, after_of, step_at}
 use Rattle.reader.specs.Reader.{opened, reader_step, item_at, moved, reader_after, at_stop, units_before, item_of}

@@ -12,8 +12,8 @@ use Rattle.charset.specs.declared.Side.TheVariants.{GL, GR}
 use Rattle.charset.specs.Charsets.{allowed}
 use Rattle.state.specs.declared.State.{State}
 use Rattle.units.specs.Next.{next_of}
-use Rattle.units.specs.declared.Outcome.{Outcome}
-use Rattle.units.specs.declared.Outcome.TheVariants.{Gives, Stops}
+use Rattle.units.specs.Next.{Outcome}
+use Rattle.units.specs.Next.{Gives, Stops}
 use Rattle.reader.specs.declared.Item.{Item}
 use Rattle.reader.specs.declared.Item.TheVariants.{Given, Ended}
 use Rattle.reader.specs.declared.Stepped.{Stepped}

@@ -6,8 +6,8 @@ use Rattle.grammar.specs.Reading.{Elements, size, elements_of}
 use Rattle.grammar.proofs.Places.{Ahead, ends, stops, passes, reads, from_start}
 use Rattle.units.specs.Next.{outcome_of, next_of}
 use Rattle.units.specs.Records.{record_of, records_from, records_of}
-use Rattle.units.specs.declared.Outcome.{Outcome}
-use Rattle.units.specs.declared.Outcome.TheVariants.{Gives}
+use Rattle.units.specs.Next.{Outcome}
+use Rattle.units.specs.Next.{Gives}
 use Rattle.units.proofs.Records.{next_ahead}
 
 -- the units that come from a place and a state on are those of a list

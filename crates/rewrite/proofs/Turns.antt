@@ -9,8 +9,8 @@ use Rattle.rows.specs.Rows.{with_record}
 use Rattle.rows.specs.Stowable.{stowable_of}
 use Rattle.units.specs.Next.{next_of}
 use Rattle.units.specs.Records.{records_of}
-use Rattle.units.specs.declared.Outcome.{Outcome}
-use Rattle.units.specs.declared.Outcome.TheVariants.{Gives}
+use Rattle.units.specs.Next.{Outcome}
+use Rattle.units.specs.Next.{Gives}
 use Rattle.write.specs.Stowed.{reached, Stowed}
 use Rattle.shortest.specs.Offence.{no_record}
 use Rattle.write.proofs.Lists.{stowed_none, stowed_next}

@@ -6,7 +6,7 @@ use Rattle.base.specs.Choice.{pick, from}
 use Rattle.base.specs.Limit as limit
 use Rattle.base.specs.Refusal as refusal
 use Rattle.base.specs.declared.Answer.{Answer}
-use Rattle.grammar.specs.Reading.{Elements, end_at, refused_at_lem, silent_at, found_at, elements, check_of}
+use Rattle.grammar.specs.Reading.{Elements, end_at, stopped_at, silent_at, found_at, elements, check_of}
 use Rattle.state.specs.State.{fresh}
 use Rattle.state.specs.declared.State.{State}
 use Rattle.state.specs.Elements.{Element}
@@ -48,7 +48,7 @@ stop_at at st (Found p next) = run_step_to at st (no_run (refused_at refusal.bad
 -- no run is left among elements under a state: the position is then at their end, or before the refused element
 unfoldable pub last_of : State → Elements → RunStep
 last_of st (end_at at) = stop_at at st End
-last_of st (refused_at_lem at n o) = stop_at at st (Refused n o)
+last_of st (stopped_at at n o) = stop_at at st (Refused n o)
 last_of st (silent_at at k next es) = last_of next es
 last_of st (found_at at p next es) = last_of next es
 

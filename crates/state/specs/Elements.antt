@@ -1,5 +1,5 @@
 -- The parts of a shape's definition that text, segments and control sequences share.
-use Rattle.std.specs.Prelude.{ℕ, Bool, List, [], ◌∷◌, Option, None, Some, Result, Ok, Err}
+use Rattle.std.specs.Prelude.{ℕ, Bool, List, [], ◌∷◌, Result, Ok, Err}
 use Rattle.base.specs.Refusal as refusal
 use Rattle.base.specs.declared.refusal.Refusal.{TheVariants.Cut}
 use Rattle.charset.specs.declared.Side.{Side}
@@ -8,9 +8,9 @@ use Rattle.state.specs.declared.elements.Part.{Part}
 use Rattle.state.specs.declared.State.{State}
 use Rattle.state.specs.declared.elements.Refused.{Refused as CodeRefused}
 use Rattle.state.specs.declared.elements.Shape.{Shape as CodeShape}
-use Rattle.state.specs.declared.elements.Shape.TheVariants.{Designates as CodeDesignates, Gives as CodeGives}
+use Rattle.state.specs.declared.elements.Shape.TheVariants.{Ends as CodeEnds, Designates as CodeDesignates, Gives as CodeGives}
 use Rattle.state.specs.declared.elements.Element.{Element as CodeElement}
-use Rattle.state.specs.declared.elements.Element.TheVariants.{Silent as CodeSilent, Found as CodeFound}
+use Rattle.state.specs.declared.elements.Element.TheVariants.{End as CodeEnd, Silent as CodeSilent, Found as CodeFound}
 
 -- What stands at a place before the direction rule is asked: nothing; a refusal, by its number and by how far its octet is from the start of the element
 -- (rule N2); a designation, by its octets, and the set that it puts on a side; or a unit.
@@ -27,25 +27,17 @@ pub data Element : Type 0 where
   Silent : ℕ → State → Element
   Found : Part → State → Element
 
--- These as the code answers them, where there is an element, and where the string may have ended.
+-- these as the code answers them
 abbrev pub shape_seen : Result CodeShape CodeRefused → Shape
+shape_seen (Ok CodeEnds) = Ends
 shape_seen (Ok (CodeDesignates k d c)) = Designates k d c
 shape_seen (Ok (CodeGives p)) = Gives p
 shape_seen (Err e) = Refuses (refusal.number_of e.0) e.1
 
-abbrev pub shape_at_seen : Result (Option CodeShape) CodeRefused → Shape
-shape_at_seen (Ok None) = Ends
-shape_at_seen (Ok (Some x)) = shape_seen (Ok x)
-shape_at_seen (Err e) = Refuses (refusal.number_of e.0) e.1
-
-abbrev pub found_seen : Result CodeElement CodeRefused → Element
-found_seen (Ok (CodeSilent k st)) = Silent k st
-found_seen (Ok (CodeFound p st)) = Found p st
-found_seen (Err e) = Refused (refusal.number_of e.0) e.1
-
-abbrev pub element_seen : Result (Option CodeElement) CodeRefused → Element
-element_seen (Ok None) = End
-element_seen (Ok (Some x)) = found_seen (Ok x)
+abbrev pub element_seen : Result CodeElement CodeRefused → Element
+element_seen (Ok CodeEnd) = End
+element_seen (Ok (CodeSilent k st)) = Silent k st
+element_seen (Ok (CodeFound p st)) = Found p st
 element_seen (Err e) = Refused (refusal.number_of e.0) e.1
 
 -- a cut after so many octets

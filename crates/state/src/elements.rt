@@ -26,6 +26,8 @@ pub struct Refused(pub Refusal, pub usize);
 // What stands at a place before the direction rule is asked: it neither knows nor changes the directions.
 #[derive(Clone, Copy)]
 pub enum Shape {
+    // nothing is left
+    Ends,
     // a designation: how many octets it has, and the set that it puts on a side
     Designates(usize, Side, u8),
     // a unit
@@ -34,6 +36,8 @@ pub enum Shape {
 
 #[derive(Clone, Copy)]
 pub enum Element {
+    // nothing is left
+    End,
     // an element that gives no unit, how many octets it has, and the state after it
     Silent(usize, State),
     // a unit, and the state after it

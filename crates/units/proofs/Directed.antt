@@ -14,7 +14,7 @@ use Rattle.units.specs.Directed.{open_after, in_front, Directed, none_left, one_
 use Rattle.units.specs.Directed.{Between}
 use Rattle.units.specs.Next.{outcome_of, next_of}
 use Rattle.units.specs.Records.{record_of, records_from, records_of}
-use Rattle.units.specs.declared.Outcome.{TheVariants.Gives}
+use Rattle.units.specs.Next.{Gives}
 use Rattle.units.proofs.Open.{force_is, depth_is, none_open, kept_open, Turned, Turns, goes, turns}
 use Rattle.units.proofs.Steps.{Leads, keeps, steps, element_leads}
 

@@ -7,7 +7,7 @@ use Rattle.grammar.specs.Reading.{size}
 use Rattle.grammar.proofs.Places.{ahead, at_end, at_refused, at_passed}
 use Rattle.units.specs.Records.{record_of}
 use Rattle.units.specs.Next.{outcome_of}
-use Rattle.units.specs.declared.Outcome.{Outcome, TheVariants.Gives, TheVariants.Stops}
+use Rattle.units.specs.Next.{Outcome, Gives, Stops}
 
 -- what the elements from a place on give
 abbrev pub outcome : List ℕ → ℕ → State → Outcome

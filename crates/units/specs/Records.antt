@@ -5,7 +5,7 @@ use Rattle.state.specs.Directions.{in_force_of}
 use Rattle.state.specs.declared.directions.Directions.{Directions}
 use Rattle.state.specs.declared.elements.Part.{Part}
 use Rattle.element.specs.Meant.{Meant}
-use Rattle.grammar.specs.Reading.{Elements, end_at, refused_at_lem, silent_at, found_at, elements_of}
+use Rattle.grammar.specs.Reading.{Elements, end_at, stopped_at, silent_at, found_at, elements_of}
 
 -- a record with nothing in it
 abbrev pub blank : UnitRecord
@@ -28,7 +28,7 @@ record_of p at d =
 -- the records of elements
 unfoldable pub records_from : Elements → List UnitRecord
 records_from (end_at at) = []
-records_from (refused_at_lem at n o) = []
+records_from (stopped_at at n o) = []
 records_from (silent_at at k st es) = records_from es
 records_from (found_at at p st es) = record_of p at st.directions ∷ records_from es
 

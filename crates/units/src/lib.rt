@@ -3,20 +3,29 @@
 
 ghost use Rattle.std.specs.Prelude.{◌≡◌, ◌+◌, ◌≤◌};
 ghost use Rattle.units.specs.Records.{record_of};
-ghost use Rattle.units.specs.Next.{next_of};
+ghost use Rattle.units.specs.Next.{next_of, outcome_seen};
 
-use base::{Unit, limit, refusal};
+use base::{Refusal, Unit, limit};
 use state::State;
 use state::directions::Directions;
-use state::elements::{Element, Part};
+use state::elements::{Element, Part, Refused};
 
+// A unit, and the place and the state after it.
 #[derive(Clone, Copy)]
-pub enum Outcome {
-    // a unit, and the place and the state after it
-    Gives(Unit, usize, State),
-    // no further unit: the number and the place of the end, or of the refusal; and where the reading stops, at the end or at the start of
-    // the refused element, with the state there
-    Stops(u8, usize, usize, State),
+pub struct Given {
+    pub unit: Unit,
+    pub place: usize,
+    pub state: State,
+}
+
+// No further unit: what is refused, which is nothing at the end, and its place; and where the reading stops, at the end or at the start of the refused
+// element, with the state there.
+#[derive(Clone, Copy)]
+pub struct Stopped {
+    pub refusal: Option<Refusal>,
+    pub place: usize,
+    pub start: usize,
+    pub state: State,
 }
 
 // The record of a unit whose element starts at a place, under the directions after it.
@@ -37,34 +46,49 @@ fn record(part: Part, at: usize, directions: Directions) -> Unit
 }
 
 // The next unit from a place and a state on.
-pub fn next_unit(s: &[u8], place: usize, state: State) -> Outcome
-    ensures { result ≡ next_of s.now place state }
+#[tactic(auto, using(base::proofs::Ladder::ladder, base::proofs::Ladder::after, crate::proofs::Turn::gives_end, crate::proofs::Turn::gives_refused,
+    crate::proofs::Turn::gives_silent, crate::proofs::Turn::gives_found), unfolding(crate::specs::Next::next_of))]
+pub fn next_unit(s: &[u8], place: usize, state: State) -> Result<Given, Stopped>
+    ensures { outcome_seen result ≡ next_of s.now place state }
 {
     if limit::OCTETS < s.len() {
-        return Outcome::Stops(refusal::TOO_LONG, 0, place, state);
+        return Err(Stopped {
+            refusal: Some(Refusal::TooLong),
+            place: 0,
+            start: place,
+            state,
+        });
     }
     let mut at = place;
     let mut st = state;
     loop {
-        let e = element::element(s, at, st);
-        match e {
-            Element::End => {
-                return Outcome::Stops(refusal::ACCEPTED, at, at, st);
+        match element::element(s, at, st) {
+            Ok(Element::End) => {
+                return Err(Stopped {
+                    refusal: None,
+                    place: at,
+                    start: at,
+                    state: st,
+                });
             }
-            Element::Refused(number, offset) => {
-                let stop = at + offset;
-                return Outcome::Stops(number, stop, at, st);
+            Err(Refused(refusal, offset)) => {
+                return Err(Stopped {
+                    refusal: Some(refusal),
+                    place: at + offset,
+                    start: at,
+                    state: st,
+                });
             }
-            Element::Silent(octets, next) => {
+            Ok(Element::Silent(octets, next)) => {
                 at += octets;
                 st = next;
             }
-            Element::Found(part, next) => {
-                let open = next.directions;
-                let unit = record(part, at, open);
-                let octets = part.skip + part.octets;
-                let after = at + octets;
-                return Outcome::Gives(unit, after, next);
+            Ok(Element::Found(part, next)) => {
+                return Ok(Given {
+                    unit: record(part, at, next.directions),
+                    place: at + (part.skip + part.octets),
+                    state: next,
+                });
             }
         }
     }

@@ -2,14 +2,14 @@
 -- of which is then refused by 15. That it is so is asked of each place, or of its octets (`plain`): no 9B, and no 1B before a 25.
 use Rattle.element.proofs.Names.{ℕ, ◌+◌, arith, ◌≡◌, refl, ap, false, List, eqb, get_or, eqb-true, ne_eqb, pick, from, test}
 use lib.Seq.{get_or-drop}
-use Rattle.grammar.specs.Reading.{Elements, end_at, refused_at_lem, silent_at, found_at, elements_of, check_of}
+use Rattle.grammar.specs.Reading.{Elements, end_at, stopped_at, silent_at, found_at, elements_of, check_of}
 use Rattle.x11r5.specs.Reading.{segment_by, unsupported_at, supported, supported_of, unended_check_of}
 
 module _ (t : List ℕ) (c : (i : ℕ) → unsupported_at (from i t) ≡ false) where
   clean_elements : (es : Elements) → supported t es ≡ es
   unfolding supported pick
   clean_elements (end_at at) = refl
-  clean_elements (refused_at_lem at n o) = rw (c at)
+  clean_elements (stopped_at at n o) = rw (c at)
   clean_elements (silent_at at k st es) = ap (silent_at at k st) (clean_elements es)
   clean_elements (found_at at p st es) = rw (c at) (ap (found_at at p st) (clean_elements es))
 

@@ -8,7 +8,7 @@ use Rattle.base.proofs.Ladder.{from_from}
 use Rattle.base.specs.Refusal as refusal
 use Rattle.element.specs.Element.{element_of}
 use Rattle.element.proofs.Sizes.{element_size, of_end, Fit, Passed, silent, found}
-use Rattle.grammar.specs.Reading.{Elements, end_at, refused_at_lem, silent_at, found_at, size, answer_of, none_refused, unit_at, units_of, Octets}
+use Rattle.grammar.specs.Reading.{Elements, end_at, stopped_at, silent_at, found_at, size, answer_of, none_refused, unit_at, units_of, Octets}
 use Rattle.grammar.proofs.Agrees.{Right, passed, read, right, octets_from}
 use Rattle.grammar.proofs.Elements.{at_nothing, none_passed}
 use Rattle.grammar.proofs.Places.{ahead, at_refused, at_passed, Ahead, ends, stops, passes, reads}
@@ -22,7 +22,7 @@ module _ (t : List ℕ) where
   pub same_elements : (c : ℕ) (es : Elements) → ((answer_of c (supported t es)).number ≡ refusal.unsupported → ⊥) → supported t es ≡ es
   unfolding supported answer_of pick
   same_elements c (end_at at) n = refl
-  same_elements c (refused_at_lem at m o) n = test (unsupported_at (from at t)) (λ e. absurd (n (rw e))) (λ e. rw e)
+  same_elements c (stopped_at at m o) n = test (unsupported_at (from at t)) (λ e. absurd (n (rw e))) (λ e. rw e)
   same_elements c (silent_at at k st es) n = ap (silent_at at k st) (same_elements c es n)
   same_elements c (found_at at p st es) n =
       test (unsupported_at (from at t)) (λ e. absurd (n (rw e))) (λ e. rw e (ap (found_at at p st) (same_elements (c + 1) es (rw e at n))))
@@ -32,7 +32,7 @@ module _ (t : List ℕ) where
       → (unsupported_at (from (answer_of c (supported t es)).place t) ≡ true) ⊎ (supported t es ≡ es)
   unfolding supported answer_of pick
   marked c (end_at at) n = inr refl
-  marked c (refused_at_lem at m o) n =
+  marked c (stopped_at at m o) n =
       let z : at + 0 ≡ at = omega arith in
       test (unsupported_at (from at t)) (λ e. inl (rw e (rw z e))) (λ e. inr (rw e))
   marked c (silent_at at k st es) n = again (marked c es n)
@@ -86,11 +86,11 @@ none_starts (b ∷ t) st e = absurd (omega (arith, of_end (rw e at (element_size
 
 -- where such a thing starts, the first element is refused by 15
 pub refused_first : (t : List ℕ) (at : ℕ) (st : State) → Octets t → Fit st → unsupported_at (from at t) ≡ true
-    → supported t (ahead t at st) ≡ refused_at_lem at refusal.unsupported 0
+    → supported t (ahead t at st) ≡ stopped_at at refusal.unsupported 0
 unfolding supported pick
 refused_first t at st o f u = go (element_of (from at t) st) refl
   where
-    go : (e : Element) → e ≡ element_of (from at t) st → supported t (ahead t at st) ≡ refused_at_lem at refusal.unsupported 0
+    go : (e : Element) → e ≡ element_of (from at t) st → supported t (ahead t at st) ≡ stopped_at at refusal.unsupported 0
     go End i = off (sym (none_starts (from at t) st (sym i)) ∙ u)
     go (Refused n k) i = ap (supported t) (at_refused t at st (Refused n k) i refl) ∙ rw u
     go (Silent k next) i = off (sym (starts_silent (from at t) st f (octets_from t o at) (sym i)) ∙ u)

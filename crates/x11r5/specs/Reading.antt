@@ -6,7 +6,7 @@ use Rattle.base.specs.Choice.{pick, from}
 use Rattle.base.specs.Limit as limit
 use Rattle.base.specs.Refusal as refusal
 use Rattle.base.specs.declared.Answer.{Answer}
-use Rattle.grammar.specs.Reading.{Elements, end_at, refused_at_lem, silent_at, found_at, elements_of, answer_of}
+use Rattle.grammar.specs.Reading.{Elements, end_at, stopped_at, silent_at, found_at, elements_of, answer_of}
 
 -- the octets before the first 00; all of them where there is none (rule X1)
 unfoldable pub before_null : List ℕ → List ℕ
@@ -31,10 +31,10 @@ unsupported_at t =
 -- is wrong in a segment after its d (rule X2)
 unfoldable pub supported : List ℕ → Elements → Elements
 supported s (end_at at) = end_at at
-supported s (refused_at_lem at n o) = pick (unsupported_at (from at s)) (refused_at_lem at refusal.unsupported 0) (refused_at_lem at n o)
+supported s (stopped_at at n o) = pick (unsupported_at (from at s)) (stopped_at at refusal.unsupported 0) (stopped_at at n o)
 supported s (silent_at at k st es) = silent_at at k st (supported s es)
 supported s (found_at at p st es) =
-    pick (unsupported_at (from at s)) (refused_at_lem at refusal.unsupported 0) (found_at at p st (supported s es))
+    pick (unsupported_at (from at s)) (stopped_at at refusal.unsupported 0) (found_at at p st (supported s es))
 
 abbrev pub supported_of : List ℕ → Elements
 supported_of t = supported t (elements_of t)

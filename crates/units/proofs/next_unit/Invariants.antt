@@ -4,8 +4,8 @@ use Rattle.element.proofs.Names.{◌-◌, ◌≡◌, length}
 use Rattle.units.proofs.Turn.{outcome}
 use Rattle.units.proofs.next_unit.Given as goal
 
-abbrev pub invariant-loop-number : goal.invariant-loop-number
-invariant-loop-number l = outcome l.s l.at l.st ≡ outcome l.s l.initial.at l.initial.st
+abbrev pub invariant-loop-octets : goal.invariant-loop-octets
+invariant-loop-octets l = outcome l.s l.at l.st ≡ outcome l.s l.initial.at l.initial.st
 
-abbrev pub decreases-loop-number : goal.decreases-loop-number
-decreases-loop-number l = length l.s - l.at
+abbrev pub decreases-loop-octets : goal.decreases-loop-octets
+decreases-loop-octets l = length l.s - l.at
