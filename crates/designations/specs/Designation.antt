@@ -16,8 +16,8 @@ abbrev pub absent : Designation
 absent = designation_with 0 GL no_set
 
 -- what the code answers: the designation where its set is one of the fifteen, and none elsewhere
-unfoldable pub found : Designation → Option Designation
-found d = pick (ltb d.set no_set) (Some d) None
+unfoldable pub if_named : Designation → Option Designation
+if_named d = pick (ltb d.set no_set) (Some d) None
 
 abbrev pub by_final_of : ℕ → ℕ → Side → ℕ → Designation
 by_final_of octets form side last = designation_with octets side (set_of form side last)

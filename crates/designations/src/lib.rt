@@ -3,7 +3,7 @@
 
 ghost use Rattle.std.specs.Prelude.{◌≡◌};
 ghost use Rattle.base.specs.Choice.{from, pick};
-ghost use Rattle.designations.specs.Designation.{found, by_final_of, multi_octet_at, sequence_of, designation_at, side_by, told_of, form_after};
+ghost use Rattle.designations.specs.Designation.{if_named, by_final_of, multi_octet_at, sequence_of, designation_at, side_by, told_of, form_after};
 
 use charset::{FORM_94, FORM_94X94, FORM_96, NO_SET, Side};
 
@@ -17,7 +17,7 @@ pub struct Designation {
 
 // The designation of a form and side, by its final octet.
 fn by_final(octets: usize, form: u8, side: Side, last: u8) -> Option<Designation>
-    ensures { result ≡ found (by_final_of octets form side last) }
+    ensures { result ≡ if_named (by_final_of octets form side last) }
 {
     let set = charset::set_of(form, side, last);
     if set < NO_SET {
@@ -29,7 +29,7 @@ fn by_final(octets: usize, form: u8, side: Side, last: u8) -> Option<Designation
 
 // The octets after 1B 24.
 fn multi_octet(b: u8, last: u8) -> Option<Designation>
-    ensures { result ≡ found (multi_octet_at b last) }
+    ensures { result ≡ if_named (multi_octet_at b last) }
 {
     match b {
         0x28 => by_final(4, FORM_94X94, Side::GL, last),
@@ -40,7 +40,7 @@ fn multi_octet(b: u8, last: u8) -> Option<Designation>
 
 // The designation that 1B and these three octets begin with.
 pub fn sequence(b: u8, c: u8, d: u8) -> Option<Designation>
-    ensures { result ≡ found (sequence_of b c d) }
+    ensures { result ≡ if_named (sequence_of b c d) }
 {
     match b {
         0x24 => multi_octet(c, d),
@@ -67,7 +67,7 @@ fn side_of(f: u8) -> Side
 
 // The same as `sequence`, with no branch by the form, which a processor foresees badly where forms change.
 pub fn told(b: u8, c: u8, d: u8) -> Option<Designation>
-    ensures { result ≡ found (told_of b c d) }
+    ensures { result ≡ if_named (told_of b c d) }
 {
     let four = b == 0x24;
     let f = either(four, c, b);
@@ -89,7 +89,7 @@ pub fn told(b: u8, c: u8, d: u8) -> Option<Designation>
 
 // The designation at a place, where it has four octets from there on.
 pub fn designation_at(s: &[u8], at: usize) -> Option<Designation>
-    ensures { result ≡ found (designation_at (from at s.now)) }
+    ensures { result ≡ if_named (designation_at (from at s.now)) }
 {
     if at < s.len() && 4 <= s.len() - at && s[at] == 0x1B {
         sequence(s[at + 1], s[at + 2], s[at + 3])

@@ -13,7 +13,7 @@ use state::directions::Directions;
 fn gl_octet(b: u8) -> bool
     ensures { result ≡ gl_octet b }
 {
-    0x20 <= b && b < 0x7F
+    (0x20..0x7F).contains(&b)
 }
 
 // An octet of a two-octet character on a side.
@@ -21,7 +21,7 @@ fn gl_octet(b: u8) -> bool
 fn graphic_on(side: Side, b: u8) -> bool
     ensures { result ≡ graphic_on (number side) b }
 {
-    b / 128 == side as u8 && 0x21 <= b % 128 && b % 128 <= 0x7E
+    b / 128 == side as u8 && (0x21..=0x7E).contains(&(b % 128))
 }
 
 // A GR octet that is a character by itself, where the set in GR is of this form.
@@ -50,7 +50,7 @@ fn single(left: u8, right: u8, b: u8) -> bool
 fn within(first: u8, last: u8, b: u8) -> bool
     ensures { result ≡ true → Within first last b }
 {
-    first <= b && b <= last
+    (first..=last).contains(&b)
 }
 
 // Whether the four octets at a place are of a span.

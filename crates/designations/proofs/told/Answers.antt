@@ -1,7 +1,7 @@
 -- `designations::told` meets its contract: it answers `told_by`, test by test, which is what the octets tell.
 use Rattle.element.proofs.Names.{arith, ladder, ap, ◌∙◌}
 use Rattle.base.proofs.Ladder.{after}
-use Rattle.designations.specs.Designation.{found, told_by, told_on}
+use Rattle.designations.specs.Designation.{if_named, told_by, told_on}
 use Rattle.designations.proofs.ByWord.{told_by_lem, few}
 use Rattle.designations.proofs.Found.{none_found, some_is}
 use Rattle.designations.proofs.told.Goals as goal
@@ -11,7 +11,7 @@ pub returns-then-f-lt40 : goal.returns-then-f-lt40
 unfolding told_by told_on
 returns-then-f-lt40 c =
     let is = told_by_lem _ c.args.c c.args.d _ _ (omega arith) (omega arith) c.either-f.ensures c.either-last.ensures in
-    none_found ∙ ap found (elim c.then-f-lt40.branch [
+    none_found ∙ ap if_named (elim c.then-f-lt40.branch [
       | then-f-lt40-via-then-f-lt40 w ↦ after is (search ladder depth 9)
       | then-f-lt40-via-else-f-lt40+then-f-gt47 w ↦ after is (search ladder depth 9)
     ])
@@ -27,7 +27,7 @@ overflow_shr-set c = omega (arith, few _ c.either.ensures)
 
 pub returns-then-set-eq15 : goal.returns-then-set-eq15
 unfolding told_by told_on
-returns-then-set-eq15 c = none_found ∙ ap found (after (told_by_lem _ c.args.c c.args.d _ _ (omega arith) (omega arith)
+returns-then-set-eq15 c = none_found ∙ ap if_named (after (told_by_lem _ c.args.c c.args.d _ _ (omega arith) (omega arith)
     c.either-f.ensures c.either-last.ensures)
     (rw (← c.named_by.ensures, ← c.either.ensures) (search ladder depth 9)))
 
