@@ -6,7 +6,6 @@ ghost use Rattle.grammar.specs.Reading.{check_of};
 ghost use Rattle.check_string.specs.Checked.{checked_of};
 
 use base::{Answer, limit, refusal};
-use charset::NO_SET;
 use designations::designation_at;
 use state::State;
 use state::directions::Step;
@@ -32,19 +31,15 @@ fn whole(s: &[u8]) -> Answer
     let mut st = State::FRESH;
     while at < s.len() {
         if s[at] == 0x1B {
-            let d = designation_at(s, at);
-            let set = d.set;
-            if set < NO_SET {
-                let side = d.side;
+            if let Some(d) = designation_at(s, at) {
                 at += d.octets;
-                st = st.designated(side, set);
+                st = st.designated(d.side, d.set);
                 continue;
             }
         } else {
             let run = stretch_at(s, at, st);
-            let octets = run.octets;
-            if 0 < octets {
-                at += octets;
+            if 0 < run.octets {
+                at += run.octets;
                 count += run.units;
                 continue;
             }
@@ -93,6 +88,5 @@ pub fn check(s: &[u8]) -> Checked
 pub fn answer(s: &[u8]) -> Answer
     ensures { result ≡ check_of s.now }
 {
-    let checked = check(s);
-    checked.answer
+    check(s).answer
 }

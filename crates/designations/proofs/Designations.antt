@@ -2,7 +2,7 @@
 -- table has, and the octets before it lead to its form. What `told` answers is the same where it names a set (`told_set`), and the set has the form
 -- that the first octet tells (`form_told`), by the rows of the table.
 use Rattle.element.proofs.Names.{ℕ, ◌+◌, ◌-◌, ◌<◌, ◌≤◌, arith, ◌≡◌, refl, ap, sym, ◌∙◌, subst, List, [], ◌∷◌, eqb, length, get_or, eqb-true, pick}
-use Rattle.element.proofs.Names.{pick_by, from, on_lt, on_ge, from_octet, from_length, form_96, form_94x94, no_set, form_of, set_of, Side, GL, GR}
+use Rattle.element.proofs.Names.{pick_by, from, on_eq, on_lt, on_ge, from_octet, from_length, form_96, form_94x94, no_set, form_of, set_of, Side, GL, GR}
 use Rattle.element.proofs.Names.{next, designated_of, Sets, State, Shape, Designates, Silent}
 use Rattle.charset.specs.Charsets.{form_94}
 use Rattle.charset.proofs.Laws.{final_range, set_form}
@@ -29,6 +29,14 @@ module _ (s : List ℕ) (at : ℕ) where
       → r ≡ quick.designation_at (from at s)
   unfolding quick.designation_at
   on_four r i h e = rw (four i h) e
+
+  pub on_four_octets : (r : Designation) → at < length s → 4 ≤ length s - at → get_or s at 0 ≡ 0x1B
+      → r ≡ quick.sequence_of (get_or s (at + 1) 0) (get_or s (at + 2) 0) (get_or s (at + 3) 0)
+      → r ≡ quick.designation_at (from at s)
+  on_four_octets r i h b e =
+      let two : at + 2 ≡ at + 1 + 1 = omega arith in
+      let three : at + 3 ≡ at + 1 + 1 + 1 = omega arith in
+      on_four r i h (on_eq _ _ _ _ _ b (rw (two, three) at e))
 
   few : (t : List ℕ) → length t < 4 → quick.absent ≡ quick.designation_at t
   unfolding quick.designation_at

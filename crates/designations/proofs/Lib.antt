@@ -1,2 +1,3 @@
 pub mod Designations
 pub mod ByWord
+pub mod Found

@@ -3,11 +3,11 @@
 
 ghost use Rattle.std.specs.Prelude.{◌≡◌};
 ghost use Rattle.base.specs.Choice.{from, pick};
-ghost use Rattle.designations.specs.Designation.{absent, by_final_of, multi_octet_at, sequence_of, designation_at, side_by, told_of, form_after};
+ghost use Rattle.designations.specs.Designation.{if_named, by_final_of, multi_octet_at, sequence_of, designation_at, side_by, told_of, form_after};
 
 use charset::{FORM_94, FORM_94X94, FORM_96, NO_SET, Side};
 
-// A designation: its octets, its side and its set, which is none where there is no designation.
+// A designation: its octets, its side and its set.
 #[derive(Clone, Copy)]
 pub struct Designation {
     pub octets: usize,
@@ -15,120 +15,99 @@ pub struct Designation {
     pub set: u8,
 }
 
-fn none() -> Designation
-    ensures { result ≡ absent }
-{
-    Designation {
-        octets: 0,
-        side: Side::GL,
-        set: NO_SET,
-    }
-}
-
 // The designation of a form and side, by its final octet.
-fn by_final(octets: usize, form: u8, side: Side, last: u8) -> Designation
-    ensures { result ≡ by_final_of octets form side last }
+fn by_final(octets: usize, form: u8, side: Side, last: u8) -> Option<Designation>
+    ensures { result ≡ if_named (by_final_of octets form side last) }
 {
     let set = charset::set_of(form, side, last);
-    Designation {
-        octets: octets,
-        side: side,
-        set: set,
+    if set < NO_SET {
+        Some(Designation { octets, side, set })
+    } else {
+        None
     }
 }
 
 // The octets after 1B 24.
-fn multi_octet(b: u8, last: u8) -> Designation
-    ensures { result ≡ multi_octet_at b last }
+fn multi_octet(b: u8, last: u8) -> Option<Designation>
+    ensures { result ≡ if_named (multi_octet_at b last) }
 {
     match b {
         0x28 => by_final(4, FORM_94X94, Side::GL, last),
         0x29 => by_final(4, FORM_94X94, Side::GR, last),
-        _ => none(),
+        _ => None,
     }
 }
 
 // The designation that 1B and these three octets begin with.
-pub fn sequence(b: u8, c: u8, d: u8) -> Designation
-    ensures { result ≡ sequence_of b c d }
+pub fn sequence(b: u8, c: u8, d: u8) -> Option<Designation>
+    ensures { result ≡ if_named (sequence_of b c d) }
 {
     match b {
         0x24 => multi_octet(c, d),
         0x28 => by_final(3, FORM_94, Side::GL, c),
         0x29 => by_final(3, FORM_94, Side::GR, c),
         0x2D => by_final(3, FORM_96, Side::GR, c),
-        _ => none(),
+        _ => None,
     }
 }
 
+#[tactic(auto, using(base::proofs::Ladder::ladder))]
 fn either(four: bool, m: u8, n: u8) -> u8
     ensures { result ≡ pick four m n }
 {
-    if four {
-        return m;
-    }
-    n
+    if four { m } else { n }
 }
 
+#[tactic(auto, using(base::proofs::Ladder::ladder), unfolding(crate::specs::Designation::side_by))]
 fn side_of(f: u8) -> Side
     ensures { result ≡ side_by f }
 {
-    if f == 0x28 {
-        return Side::GL;
-    }
-    Side::GR
+    if f == 0x28 { Side::GL } else { Side::GR }
 }
 
-// What `sequence` tells of octets that name a set, and nothing of others; no branch by the form, which a processor foresees badly where forms change.
-pub fn told(b: u8, c: u8, d: u8) -> Designation
-    ensures { result ≡ told_of b c d }
+// The same as `sequence`, with no branch by the form, which a processor foresees badly where forms change.
+pub fn told(b: u8, c: u8, d: u8) -> Option<Designation>
+    ensures { result ≡ if_named (told_of b c d) }
 {
     let four = b == 0x24;
     let f = either(four, c, b);
     let last = either(four, d, c);
-    if f < 0x28 {
-        return none();
-    }
-    if 0x2F < f {
-        return none();
+    if f < 0x28 || 0x2F < f {
+        return None;
     }
     let place = f - 0x28 + either(four, 8, 0);
     let set = (charset::named_by(last) >> (4 * place)) % 16;
     if set == 15 {
-        return none();
+        return None;
     }
-    Designation {
+    Some(Designation {
         octets: 3 + either(four, 1, 0) as usize,
         side: side_of(f),
         set: set as u8,
-    }
+    })
 }
 
 // The designation at a place, where it has four octets from there on.
-pub fn designation_at(s: &[u8], at: usize) -> Designation
-    ensures { result ≡ designation_at (from at s.now) }
+pub fn designation_at(s: &[u8], at: usize) -> Option<Designation>
+    ensures { result ≡ if_named (designation_at (from at s.now)) }
 {
-    if s.len() <= at {
-        return none();
+    if at < s.len() && 4 <= s.len() - at && s[at] == 0x1B {
+        sequence(s[at + 1], s[at + 2], s[at + 3])
+    } else {
+        None
     }
-    if s.len() - at < 4 {
-        return none();
-    }
-    if s[at] == 0x1B {
-        return sequence(s[at + 1], s[at + 1 + 1], s[at + 1 + 1 + 1]);
-    }
-    none()
 }
 
 // The form of the set that a designation names, by its first octet after 1B: known before the set is.
+#[tactic(auto, using(base::proofs::Ladder::ladder), unfolding(crate::specs::Designation::form_after))]
 pub fn form_after(b: u8) -> u8
     ensures { result ≡ form_after b }
 {
     if b == 0x24 {
-        return FORM_94X94;
+        FORM_94X94
+    } else if b == 0x2D {
+        FORM_96
+    } else {
+        FORM_94
     }
-    if b == 0x2D {
-        return FORM_96;
-    }
-    FORM_94
 }

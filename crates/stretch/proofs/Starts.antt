@@ -14,6 +14,7 @@ use Rattle.element.specs.Start as start
 use Rattle.element.proofs.Starts.{On, wide_in, graphic_low, graphic, graphic_used, all_used, starts_one, starts_two}
 use Rattle.grammar.specs.Reading.{size}
 use Rattle.text.specs.Text.{graphic_of, second_octet_of}
+pub use Rattle.stretch.specs.Characters.{number}
 use Rattle.stretch.specs.Characters.{gl_octet, graphic_on, gr_octet, single_of, one_at, two_at, settled_of}
 use Rattle.stretch.proofs.Law.{One}
 
@@ -97,11 +98,6 @@ module _ (s : Sets) (b : ℕ) where
       (λ x. text (right_start x.1))
       (which (ltb b 0x0B) _ _ k.1))
       (which (gl_octet b) _ _ e)
-
--- the sides by number
-abbrev pub number : Side → ℕ
-number GL = 0
-number GR = 1
 
 pair_start : (d : Side) (b : ℕ) → graphic_on (number d) b ≡ true → On d b
 pair_start GL b e =

@@ -3,10 +3,17 @@
 use Rattle.std.specs.Prelude.{ℕ, zero, suc, ◌+◌, ◌*◌, ◌-◌, ◌%◌, ◌/◌, ◌≤◌, ◌≡◌, Bool, true, false, List, [], ◌∷◌, eqb, leb, ltb, length, get_or}
 use Rattle.base.specs.Choice.{pick, from}
 use Rattle.charset.specs.Charsets.{form_94, form_96, form_94x94, form_of}
+use Rattle.charset.specs.declared.Side.{Side}
+use Rattle.charset.specs.declared.Side.TheVariants.{GL, GR}
 use Rattle.state.specs.declared.State.{State}
 use Rattle.state.specs.declared.directions.Directions.{Directions}
 use Rattle.text.specs.Text.{graphic_of}
 use Rattle.stretch.specs.declared.characters.Stretch.{Stretch}
+
+-- the half of the octets that a side has: 0 those below 128
+abbrev pub number : Side → ℕ
+number GL = 0
+number GR = 1
 
 -- an octet of a two-octet character on a side, 0 for GL and 1 for GR
 unfoldable pub graphic_on : ℕ → ℕ → Bool

@@ -4,4 +4,4 @@ use Rattle.check_string.specs.declared.Checked.{Checked}
 use Rattle.check_string.proofs.answer.Goals as goal
 
 pub returns : goal.returns
-returns c = ap (λ (x : Checked). x.answer) c.check-checked.ensures
+returns c = ap (λ (x : Checked). x.answer) c.check.ensures

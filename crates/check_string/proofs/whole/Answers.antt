@@ -2,7 +2,7 @@
 -- those of `Turn`.
 use Rattle.element.proofs.Names.{arith, ◌∙◌, on_lt, on_ge}
 use Rattle.grammar.specs.Reading.{check_of}
-use Rattle.check_string.proofs.Turn.{head_first, turn_done, turn_designation, turn_stretch, turn_ends, turn_short, turn_refuses}
+use Rattle.check_string.proofs.Turn.{head_first, turn_done, turn_designated, turn_stretch, turn_ends, turn_short, turn_refuses}
 use Rattle.check_string.proofs.Turn.{turn_designates, turn_stops, turn_goes}
 use Rattle.check_string.proofs.whole.Goals as goal
 
@@ -17,37 +17,37 @@ loop-at-init c = head_first _
 pub overflow_add-at : goal.overflow_add-at
 unfolding check_of
 overflow_add-at c = let head = c.loop-at.invariant in
-    let h = turn_designation _ _ _ _ head _ c.designation_at-d.ensures c.if-set-lt-NO_SET.true in omega (arith, h.fits)
+    let h = turn_designated _ _ _ _ head _ _ c.designation_at.ensures c.in-Some.is in omega (arith, h.fits)
 
-pub loop-at-smaller-then-set-lt-NO_SET : goal.loop-at-smaller-then-set-lt-NO_SET
-loop-at-smaller-then-set-lt-NO_SET c = let head = c.loop-at.invariant in
-    let h = turn_designation _ _ _ _ head _ c.designation_at-d.ensures c.if-set-lt-NO_SET.true in
+pub loop-at-smaller-in-Some : goal.loop-at-smaller-in-Some
+loop-at-smaller-in-Some c = let head = c.loop-at.invariant in
+    let h = turn_designated _ _ _ _ head _ _ c.designation_at.ensures c.in-Some.is in
     omega (arith, h.fits, h.some)
 
-pub loop-at-preserved-then-set-lt-NO_SET : goal.loop-at-preserved-then-set-lt-NO_SET
-loop-at-preserved-then-set-lt-NO_SET c = let head = c.loop-at.invariant in
-    let h = turn_designation _ _ _ _ head _ c.designation_at-d.ensures c.if-set-lt-NO_SET.true in
+pub loop-at-preserved-in-Some : goal.loop-at-preserved-in-Some
+loop-at-preserved-in-Some c = let head = c.loop-at.invariant in
+    let h = turn_designated _ _ _ _ head _ _ c.designation_at.ensures c.in-Some.is in
     rw c.designated-st.ensures h.head
 
-pub overflow_add-at-then-octets-gt0 : goal.overflow_add-at-then-octets-gt0
+pub overflow_add-at-then-run-gt0 : goal.overflow_add-at-then-run-gt0
 unfolding check_of
-overflow_add-at-then-octets-gt0 c = let head = c.loop-at.invariant in
-    let h = turn_stretch _ _ _ _ head _ c.stretch_at-run.ensures c.if-octets-gt0.true in omega (arith, h.fits)
+overflow_add-at-then-run-gt0 c = let head = c.loop-at.invariant in
+    let h = turn_stretch _ _ _ _ head _ c.stretch_at-run.ensures c.if-run-gt0.true in omega (arith, h.fits)
 
 pub overflow_add-count : goal.overflow_add-count
 unfolding check_of
 overflow_add-count c = let head = c.loop-at.invariant in
-    let h = turn_stretch _ _ _ _ head _ c.stretch_at-run.ensures c.if-octets-gt0.true in omega (arith, h.head.few, h.fits)
+    let h = turn_stretch _ _ _ _ head _ c.stretch_at-run.ensures c.if-run-gt0.true in omega (arith, h.head.few, h.fits)
 
-pub loop-at-smaller-then-octets-gt0 : goal.loop-at-smaller-then-octets-gt0
+pub loop-at-smaller-then-run-gt0 : goal.loop-at-smaller-then-run-gt0
 unfolding check_of
-loop-at-smaller-then-octets-gt0 c = let head = c.loop-at.invariant in
-    let h = turn_stretch _ _ _ _ head _ c.stretch_at-run.ensures c.if-octets-gt0.true in omega (arith, h.fits, h.some)
+loop-at-smaller-then-run-gt0 c = let head = c.loop-at.invariant in
+    let h = turn_stretch _ _ _ _ head _ c.stretch_at-run.ensures c.if-run-gt0.true in omega (arith, h.fits, h.some)
 
-pub loop-at-preserved-then-octets-gt0 : goal.loop-at-preserved-then-octets-gt0
+pub loop-at-preserved-then-run-gt0 : goal.loop-at-preserved-then-run-gt0
 unfolding check_of
-loop-at-preserved-then-octets-gt0 c = let head = c.loop-at.invariant in
-    let h = turn_stretch _ _ _ _ head _ c.stretch_at-run.ensures c.if-octets-gt0.true in h.head
+loop-at-preserved-then-run-gt0 c = let head = c.loop-at.invariant in
+    let h = turn_stretch _ _ _ _ head _ c.stretch_at-run.ensures c.if-run-gt0.true in h.head
 
 pub returns-in-Ends : goal.returns-in-Ends
 unfolding check_of

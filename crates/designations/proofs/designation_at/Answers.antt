@@ -1,16 +1,20 @@
--- `designation::designation_at` meets its contract: four octets are there and decide, or they are not.
-use Rattle.element.proofs.Names.{arith, ◌∙◌, ladder}
-use Rattle.designations.proofs.Designations.{on_few, placing}
+-- `designations::designation_at` meets its contract: four octets are there and decide, or they are not.
+use Rattle.element.proofs.Names.{arith, refl, ap, ◌∙◌, ladder}
+use Rattle.designations.specs.Designation.{if_named}
+use Rattle.designations.proofs.Designations.{on_four_octets, on_few, placing}
+use Rattle.designations.proofs.Found.{none_found}
 use Rattle.designations.proofs.designation_at.Goals as goal
-
-pub returns-then-s-at : goal.returns-then-s-at
-returns-then-s-at c = c.none.ensures ∙ on_few _ _ (omega arith)
-
-pub returns-then-s-at-lt4 : goal.returns-then-s-at-lt4
-returns-then-s-at-lt4 c = c.none-then-s-at-lt4.ensures ∙ on_few _ _ (omega arith)
+use Rattle.designations.proofs.designation_at.Goals.{else-at-s-via-then-at-s+then-s-at-ge4+else-s-at-eq27, else-at-s-via-then-at-s+else-s-at-ge4}
+use Rattle.designations.proofs.designation_at.Goals.{else-at-s-via-else-at-s}
 
 pub returns-then-s-at-eq27 : goal.returns-then-s-at-eq27
-returns-then-s-at-eq27 c = search (placing, ladder) depth 9
+returns-then-s-at-eq27 c =
+    c.sequence.ensures ∙ ap if_named (on_four_octets _ _ _ c.if-at-s.true c.if-s-at-ge4.true c.if-s-at-eq27.true refl)
 
-pub returns : goal.returns
-returns c = search (placing, ladder) depth 9
+pub returns-else-at-s : goal.returns-else-at-s
+returns-else-at-s c =
+    none_found ∙ ap if_named (elim c.else-at-s.branch [
+      | else-at-s-via-then-at-s+then-s-at-ge4+else-s-at-eq27 w ↦ search (placing, ladder) depth 9
+      | else-at-s-via-then-at-s+else-s-at-ge4 w ↦ on_few _ _ (omega arith)
+      | else-at-s-via-else-at-s w ↦ on_few _ _ (omega arith)
+    ])

@@ -1,4 +1,5 @@
 -- `characters::by_forms` meets its contract: the first kind of stretch that has units.
+use Rattle.element.proofs.Names.{◌∙◌}
 use Rattle.stretch.proofs.Stretches.{chosen_left, chosen_right, chosen_ones}
 use Rattle.stretch.proofs.characters.by_forms.Goals as goal
 
@@ -10,5 +11,5 @@ returns-then-rights-gt0 c = chosen_right _ _ _ _ _ c.twos-lefts.ensures c.if-lef
     c.twos-rights.ensures c.if-rights-gt0.true
 
 pub returns : goal.returns
-returns c = chosen_ones _ _ _ _ _ _ c.twos-lefts.ensures c.if-lefts-gt0.false
-    c.twos-rights.ensures c.if-rights-gt0.false c.singles-n.ensures.0
+returns c = c.of_ones.ensures ∙ chosen_ones _ _ _ _ _ _ c.twos-lefts.ensures c.if-lefts-gt0.false
+    c.twos-rights.ensures c.if-rights-gt0.false c.singles.ensures.0
