@@ -1,9 +1,9 @@
 // The next unit of a string, from a place and a state on: elements that give no unit are passed.
 #![tactic(auto)]
 
-ghost use Rattle.std.specs.Prelude.{◌≡◌, ◌+◌, ◌≤◌};
+ghost use Rattle.std.specs.Prelude.{◌≡◌, ◌+◌, ◌≤◌, Err};
 ghost use Rattle.units.specs.Records.{record_of};
-ghost use Rattle.units.specs.Next.{next_of, outcome_seen};
+ghost use Rattle.units.specs.Next.{Stops, number_if, next_of, outcome_seen};
 
 use base::{Refusal, Unit, limit};
 use state::State;
@@ -26,6 +26,17 @@ pub struct Stopped {
     pub place: usize,
     pub start: usize,
     pub state: State,
+}
+
+fn no_unit(refusal: Option<Refusal>, place: usize, start: usize, state: State) -> Stopped
+    ensures { outcome_seen (Err result) ≡ Stops (number_if refusal) place start state }
+{
+    Stopped {
+        refusal,
+        place,
+        start,
+        state,
+    }
 }
 
 // The record of a unit whose element starts at a place, under the directions after it.
@@ -52,32 +63,17 @@ pub fn next_unit(s: &[u8], place: usize, state: State) -> Result<Given, Stopped>
     ensures { outcome_seen result ≡ next_of s.now place state }
 {
     if limit::OCTETS < s.len() {
-        return Err(Stopped {
-            refusal: Some(Refusal::TooLong),
-            place: 0,
-            start: place,
-            state,
-        });
+        return Err(no_unit(Some(Refusal::TooLong), 0, place, state));
     }
     let mut at = place;
     let mut st = state;
     loop {
         match element::element(s, at, st) {
             Ok(Element::End) => {
-                return Err(Stopped {
-                    refusal: None,
-                    place: at,
-                    start: at,
-                    state: st,
-                });
+                return Err(no_unit(None, at, at, st));
             }
             Err(Refused(refusal, offset)) => {
-                return Err(Stopped {
-                    refusal: Some(refusal),
-                    place: at + offset,
-                    start: at,
-                    state: st,
-                });
+                return Err(no_unit(Some(refusal), at + offset, at, st));
             }
             Ok(Element::Silent(octets, next)) => {
                 at += octets;

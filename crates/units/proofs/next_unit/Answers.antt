@@ -5,12 +5,12 @@ use Rattle.element.proofs.Sizes.{silent, found}
 use Rattle.grammar.proofs.Places.{refused_within, step_passed}
 use Rattle.state.specs.Elements.{element_seen}
 use Rattle.std.proofs.Common.{Ok, Err}
-use Rattle.units.proofs.Turn.{gives_found}
+use Rattle.units.proofs.Turn.{gives_found, gives_refused}
 use Rattle.units.specs.Next.{next_of}
 use Rattle.units.proofs.next_unit.Goals as goal
 
-pub overflow_add-result-in-Err : goal.overflow_add-result-in-Err
-overflow_add-result-in-Err c = let h = refused_within _ _ _ _ c.in-Err.ensures refl in omega arith
+pub overflow_add-at-in-Err : goal.overflow_add-at-in-Err
+overflow_add-at-in-Err c = let h = refused_within _ _ _ _ c.in-Err.ensures refl in omega arith
 
 pub overflow_add-at : goal.overflow_add-at
 overflow_add-at c = let k = ap (λ x. element_seen (Ok x)) c.in-Ok-Silent.field-0-is in
@@ -28,3 +28,7 @@ pub returns-in-Ok-Found : goal.returns-in-Ok-Found
 unfolding next_of
 returns-in-Ok-Found c = let k = ap (λ x. element_seen (Ok x)) c.in-Ok-Found.field-0-is in
     let e = c.in-Ok-Found.ensures in search (on_ge, after, gives_found) depth 6
+
+pub returns-in-Err : goal.returns-in-Err
+unfolding next_of
+returns-in-Err c = let h = c.no_unit-in-Err.ensures ∙ gives_refused _ _ _ _ c.in-Err.ensures refl in search (on_ge, after, h) depth 6
