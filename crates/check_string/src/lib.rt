@@ -5,11 +5,10 @@ ghost use Rattle.std.specs.Prelude.{◌≡◌};
 ghost use Rattle.grammar.specs.Reading.{check_of};
 ghost use Rattle.check_string.specs.Checked.{checked_of};
 
-use base::{Answer, limit, refusal};
+use base::{Answer, Refusal, limit};
 use designations::designation_at;
 use state::State;
-use state::directions::Step;
-use state::elements::Shape;
+use state::elements::{Refused, Shape};
 use stretch::characters::stretch_at;
 
 // What is said of a string with no list lent.
@@ -24,7 +23,7 @@ fn whole(s: &[u8]) -> Answer
     ensures { result ≡ check_of s.now }
 {
     if limit::OCTETS < s.len() {
-        return Answer::refused(refusal::TOO_LONG, 0);
+        return Refusal::TooLong.at(0);
     }
     let mut at: usize = 0;
     let mut count: usize = 0;
@@ -44,28 +43,23 @@ fn whole(s: &[u8]) -> Answer
                 continue;
             }
         }
-        let sets = st.sets;
-        let directions = st.directions;
-        let shape = element::shape(s, at, sets);
-        match shape {
-            Shape::Ends => {
+        match element::shape(s, at, st.sets) {
+            Ok(Shape::Ends) => {
                 return Answer::accepted(at, count);
             }
-            Shape::Refuses(number, offset) => {
-                let place = at + offset;
-                return Answer::refused(number, place);
+            Err(Refused(refusal, offset)) => {
+                return refusal.at(at + offset);
             }
-            Shape::Designates(octets, side, set) => {
+            Ok(Shape::Designates(octets, side, set)) => {
                 at += octets;
                 st = st.designated(side, set);
             }
-            Shape::Gives(part) => {
-                let step = directions.step(part.text, part.kind);
-                match step {
-                    Step::Stops(number) => {
-                        return Answer::refused(number, at);
+            Ok(Shape::Gives(part)) => {
+                match st.directions.step(part.text, part.kind) {
+                    Err(refusal) => {
+                        return refusal.at(at);
                     }
-                    Step::Goes(next) => {
+                    Ok(next) => {
                         at += part.skip + part.octets;
                         st = st.directed(next);
                         count += 1;
