@@ -5,16 +5,15 @@
 ghost use Rattle.std.specs.Prelude.{◌≡◌, ◌+◌, ◌<◌, ◌^◌, length};
 ghost use Rattle.base.specs.Choice.{from};
 ghost use Rattle.cursor.specs.Cursor.{cursor, placed_at, first, state_in, element_turn, marked_turn, text_octet, set_at, single, double};
-ghost use Rattle.cursor.specs.Cursor.{double_of, text_turn, placed_of, passed_of, advance_of};
+ghost use Rattle.cursor.specs.Cursor.{double_of, text_turn, passed_of, advance_of};
 ghost use Rattle.state.specs.Directions.{in_force_of};
 ghost use Rattle.state.specs.State.{sets};
-ghost use Rattle.designations.specs.Designation.{designation_at};
 
 use crate::marks::marked;
 use crate::octets::{one_octet, two_octets};
 use base::Unit;
 use charset::{FIRST_DOUBLE, NO_SET};
-use designations::{Designation, designation_at};
+use designations::designation_at;
 use state::directions::Directions;
 use state::{Sets, State};
 use units::Outcome;
@@ -75,9 +74,7 @@ impl Cursor {
     pub fn direction(self) -> u16
         ensures { result ≡ in_force_of (state_in self).directions }
     {
-        let st = self.state();
-        let directions = st.directions;
-        directions.in_force() as u16
+        self.state().directions.in_force() as u16
     }
 
     // Another place, in the same state.
@@ -85,7 +82,7 @@ impl Cursor {
         ensures { result ≡ placed_at place self }
     {
         Cursor {
-            place: place,
+            place,
             levels: self.levels,
             gl: self.gl,
             gr: self.gr,
@@ -98,14 +95,12 @@ impl Cursor {
 pub fn cursor_at(place: usize, st: State) -> Cursor
     ensures { result ≡ cursor place st }
 {
-    let directions = st.directions;
-    let sets = st.sets;
     Cursor {
-        place: place,
-        levels: directions.levels,
-        gl: sets.gl,
-        gr: sets.gr,
-        depth: directions.depth,
+        place,
+        levels: st.directions.levels,
+        gl: st.sets.gl,
+        gr: st.sets.gr,
+        depth: st.directions.depth,
     }
 }
 
@@ -113,13 +108,12 @@ pub fn cursor_at(place: usize, st: State) -> Cursor
 pub fn by_element(s: &[u8], c: Cursor) -> Turn
     ensures { result ≡ element_turn s.now c }
 {
-    let o = units::next_unit(s, c.place, c.state());
-    match o {
+    match units::next_unit(s, c.place, c.state()) {
         Outcome::Gives(unit, place, next) => Turn {
             cursor: cursor_at(place, next),
-            unit: unit,
+            unit,
         },
-        Outcome::Stops(number, place, start, to) => Turn {
+        Outcome::Stops(..) => Turn {
             cursor: c,
             unit: Unit::BLANK,
         },
@@ -127,26 +121,19 @@ pub fn by_element(s: &[u8], c: Cursor) -> Turn
 }
 
 // A GL octet of a character or space, or a GR octet.
+#[tactic(auto, using(base::proofs::Ladder::ladder), unfolding(crate::specs::Cursor::text_octet))]
 fn text_octet(b: u8) -> bool
     ensures { result ≡ text_octet b }
 {
-    if b < 0x20 {
-        return false;
-    }
-    if b < 0x7F {
-        return true;
-    }
-    0xA0 <= b
+    (0x20..0x7F).contains(&b) || 0xA0 <= b
 }
 
 // The set on the side of an octet.
+#[tactic(auto, using(base::proofs::Ladder::ladder), unfolding(crate::specs::Cursor::set_at))]
 pub fn set_at(b: u8, gl: u8, gr: u8) -> u8
     ensures { result ≡ set_at b (sets gl gr) }
 {
-    if b < 0x80 {
-        return gl;
-    }
-    gr
+    if b < 0x80 { gl } else { gr }
 }
 
 // A character or space of one octet, of this set.
@@ -154,9 +141,8 @@ fn single_turn(c: Cursor, b: u8, set: u8) -> Turn
     requires { c.place + 1 < 2 ^ 64 }
     ensures { result ≡ single c.place b set (state_in c) }
 {
-    let place = c.place + 1;
     Turn {
-        cursor: c.placed_at(place),
+        cursor: c.placed_at(c.place + 1),
         unit: one_octet(c.place, b, set, c.direction(), c.depth as u16),
     }
 }
@@ -166,9 +152,8 @@ fn double_turn(c: Cursor, b: u8, d: u8, set: u8) -> Turn
     requires { c.place + 2 < 2 ^ 64 }
     ensures { result ≡ double c.place b d set (state_in c) }
 {
-    let place = c.place + 2;
     Turn {
-        cursor: c.placed_at(place),
+        cursor: c.placed_at(c.place + 2),
         unit: two_octets(c.place, b, d, set, c.direction(), c.depth as u16),
     }
 }
@@ -178,18 +163,12 @@ fn or_two(s: &[u8], c: Cursor, b: u8, set: u8) -> Turn
     requires { c.place < length s.now }
     ensures { result ≡ double_of c.place b (from (c.place + 1) s.now) set (state_in c) (marked_turn s.now c) }
 {
-    let at = c.place;
-    if s.len() <= at + 1 {
-        return marked(s, c);
+    let next = c.place + 1;
+    if next < s.len() && b != 0x20 && set < NO_SET {
+        double_turn(c, b, s[next], set)
+    } else {
+        marked(s, c)
     }
-    let d = s[at + 1];
-    if b == 0x20 {
-        return marked(s, c);
-    }
-    if set < NO_SET {
-        return double_turn(c, b, d, set);
-    }
-    marked(s, c)
 }
 
 // The unit at a cursor: a character or space by its octets alone, a mark by its second octet, and any other unit by its element.
@@ -204,50 +183,34 @@ fn text_or_element(s: &[u8], c: Cursor) -> Turn
     if text_octet(b) {
         let set = set_at(b, c.gl, c.gr);
         if set < FIRST_DOUBLE {
-            return single_turn(c, b, set);
+            single_turn(c, b, set)
+        } else {
+            or_two(s, c, b, set)
         }
-        return or_two(s, c, b, set);
+    } else if b == 0x9B {
+        marked(s, c)
+    } else {
+        by_element(s, c)
     }
-    if b == 0x9B {
-        return marked(s, c);
-    }
-    by_element(s, c)
-}
-
-// The cursor after a designation that was found.
-fn placed(s: &[u8], c: Cursor, d: Designation) -> Cursor
-    requires { d ≡ designation_at (from c.place s.now) }
-    ensures { result ≡ placed_of c d }
-{
-    let set = d.set;
-    if set < NO_SET {
-        let side = d.side;
-        let state = c.state();
-        let next = state.designated(side, set);
-        let place = c.place + d.octets;
-        return cursor_at(place, next);
-    }
-    c
 }
 
 // The cursor after a designation, where one stands at it.
 fn passed(s: &[u8], c: Cursor) -> Cursor
     ensures { result ≡ passed_of s.now c }
 {
-    let d = designation_at(s, c.place);
-    placed(s, c, d)
+    match designation_at(s, c.place) {
+        Some(d) => cursor_at(c.place + d.octets, c.state().designated(d.side, d.set)),
+        None => c,
+    }
 }
 
 // The unit at a cursor of an accepted string, and the cursor after it.
 pub fn advance(s: &[u8], c: Cursor) -> Turn
     ensures { result ≡ advance_of s.now c }
 {
-    let at = c.place;
-    if s.len() <= at {
-        return text_or_element(s, c);
+    if c.place < s.len() && s[c.place] == 0x1B {
+        text_or_element(s, passed(s, passed(s, c)))
+    } else {
+        text_or_element(s, c)
     }
-    if s[at] == 0x1B {
-        return text_or_element(s, passed(s, passed(s, c)));
-    }
-    text_or_element(s, c)
 }

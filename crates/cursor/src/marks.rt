@@ -18,7 +18,7 @@ fn mark_turn(s: &[u8], c: Cursor, kind: u8, octets: u32) -> Turn
         Step::Goes(next) => Turn {
             cursor: cursor_at(c.place + octets as usize, st.directed(next)),
             unit: Unit {
-                kind: kind,
+                kind,
                 set: 0,
                 code: 0,
                 start: (c.place % 0x1_0000_0000) as u32,
@@ -36,24 +36,12 @@ pub fn marked(s: &[u8], c: Cursor) -> Turn
     ensures { result ≡ marked_turn s.now c }
 {
     let at = c.place;
-    if limit::OCTETS < s.len() {
+    if limit::OCTETS < s.len() || s.len() <= at || s[at] != 0x9B || s.len() <= at + 1 {
         return by_element(s, c);
     }
-    if s.len() <= at {
-        return by_element(s, c);
+    match s[at + 1] {
+        0x31 => mark_turn(s, c, kind::LEFT_TO_RIGHT, 3),
+        0x32 => mark_turn(s, c, kind::RIGHT_TO_LEFT, 3),
+        _ => mark_turn(s, c, kind::REVERT, 2),
     }
-    if s[at] == 0x9B {
-        if s.len() <= at + 1 {
-            return by_element(s, c);
-        }
-        let b = s[at + 1];
-        if b == 0x31 {
-            return mark_turn(s, c, kind::LEFT_TO_RIGHT, 3);
-        }
-        if b == 0x32 {
-            return mark_turn(s, c, kind::RIGHT_TO_LEFT, 3);
-        }
-        return mark_turn(s, c, kind::REVERT, 2);
-    }
-    by_element(s, c)
 }

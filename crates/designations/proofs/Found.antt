@@ -1,5 +1,5 @@
 -- What the code answers of a designation, as laws on plain values.
-use Rattle.element.proofs.Names.{◌<◌, ◌≡◌, refl, sym, ◌∙◌, ltb, ltb-true, test, pick, no_set, on_true, on_false, on_lt}
+use Rattle.element.proofs.Names.{◌≤◌, ◌<◌, ◌≡◌, refl, sym, ◌∙◌, ltb, ltb-true, ltb-false, test, pick, no_set, on_true, on_false, on_lt}
 use Rattle.std.proofs.Common.{Some, None}
 use Rattle.std.specs.declared.option.Option.{Option}
 use Rattle.designations.specs.Designation.{if_named, absent}
@@ -22,3 +22,12 @@ some_found o d x e i =
     let k : d ≡ x = cc in
     (k, rw k (ltb-true _ _ h)))
     (λ h. let j : Some d ≡ None = sym i ∙ e ∙ sym (on_false _ None (Some x) _ h refl) in cc)
+
+-- where none is found, the set is that of none
+pub not_found : (o : Option Designation) (x : Designation) → o ≡ if_named x → ((d : Designation) → o ≡ Some d → ⊥) → no_set ≤ x.set
+unfolding if_named
+not_found o x e n =
+    test (ltb x.set no_set) (λ h. absurd (n x (e ∙ sym (on_true _ (Some x) _ None h refl)))) (λ h. ltb-false _ _ h)
+
+pub no_more : (o : Option Designation) (x : Designation) → o ≡ if_named x → o ≡ None → no_set ≤ x.set
+no_more o x e i = not_found o x e (λ d k. (let j : None ≡ Some d = sym i ∙ k in cc))

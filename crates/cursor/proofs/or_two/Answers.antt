@@ -2,19 +2,18 @@
 use Rattle.cursor.specs.Cursor.{double_of}
 use Rattle.cursor.proofs.Rules.{reading}
 use Rattle.cursor.proofs.or_two.Goals as goal
-
-pub returns-then-s-at : goal.returns-then-s-at
-unfolding double_of
-returns-then-s-at c = search reading depth 9
-
-pub returns-then-b-eq32 : goal.returns-then-b-eq32
-unfolding double_of
-returns-then-b-eq32 c = search reading depth 9
+use Rattle.cursor.proofs.or_two.Goals.{else-next-s-via-then-next-s+then-b-ne32+else-set-lt-NO_SET, else-next-s-via-then-next-s+else-b-ne32}
+use Rattle.cursor.proofs.or_two.Goals.{else-next-s-via-else-next-s}
 
 pub returns-then-set-lt-NO_SET : goal.returns-then-set-lt-NO_SET
 unfolding double_of
 returns-then-set-lt-NO_SET c = search reading depth 9
 
-pub returns : goal.returns
+pub returns-else-next-s : goal.returns-else-next-s
 unfolding double_of
-returns c = search reading depth 9
+returns-else-next-s c =
+    elim c.else-next-s.branch [
+      | else-next-s-via-then-next-s+then-b-ne32+else-set-lt-NO_SET w ↦ search reading depth 9
+      | else-next-s-via-then-next-s+else-b-ne32 w ↦ search reading depth 9
+      | else-next-s-via-else-next-s w ↦ search reading depth 9
+    ]

@@ -1,14 +1,14 @@
--- `cursor::passed` meets its contract. Assumes nothing.
-use Rattle.element.proofs.Names.{arith, ap, ◌∙◌}
-use Rattle.cursor.specs.Cursor.{placed_of, passed_of}
+-- `cursor::passed` meets its contract: a designation that was found stands within the string.
+use Rattle.element.proofs.Names.{arith}
+use Rattle.cursor.proofs.Fits.{found_fits, passed_some, passed_none}
 use Rattle.cursor.proofs.passed.Goals as goal
 
-pub designation_at-d-requires : goal.designation_at-d-requires
-designation_at-d-requires c = search arith
+pub returns-in-Some : goal.returns-in-Some
+returns-in-Some c = passed_some _ _ _ c.designation_at.ensures _ _ c.in-Some.is
+    (rw (c.cursor_at.ensures, c.designated.ensures, c.state.ensures))
 
-pub placed-requires : goal.placed-requires
-placed-requires c = search arith
+pub returns-in-None : goal.returns-in-None
+returns-in-None c = passed_none _ _ _ c.designation_at.ensures c.in-None.is
 
-pub returns : goal.returns
-unfolding passed_of
-returns c = c.placed.ensures ∙ ap (placed_of _) c.designation_at-d.ensures
+pub overflow_add-c : goal.overflow_add-c
+overflow_add-c c = omega (arith, found_fits _ c.args.c _ c.designation_at.ensures _ c.in-Some.is)

@@ -45,8 +45,8 @@ returns-then-set-lt-FIRST_DOUBLE c = let args = c.args in
     one args.s.now args.c _ c.if-s-at.false _ (sym c.text_octet.ensures ∙ c.if-text_octet.true)
     c.set_at-set.ensures c.if-set-lt-FIRST_DOUBLE.true c.single_turn.ensures
 
-pub returns-then-text_octet : goal.returns-then-text_octet
-returns-then-text_octet c = let args = c.args in
+pub returns-else-set-lt-FIRST_DOUBLE : goal.returns-else-set-lt-FIRST_DOUBLE
+returns-else-set-lt-FIRST_DOUBLE c = let args = c.args in
     two args.s.now args.c _ c.if-s-at.false _ (sym c.text_octet.ensures ∙ c.if-text_octet.true)
     c.set_at-set.ensures c.if-set-lt-FIRST_DOUBLE.false c.or_two.ensures
 
@@ -55,8 +55,8 @@ returns-then-b c = let args = c.args in
     other args.s.now args.c _ c.if-s-at.false (sym c.text_octet.ensures ∙ c.if-text_octet.false)
     c.marked-then-b.ensures
 
-pub returns : goal.returns
-returns c = let inside = c.if-s-at.false in
+pub returns-else-b : goal.returns-else-b
+returns-else-b c = let inside = c.if-s-at.false in
     let args = c.args in
     other args.s.now args.c _ inside (sym c.text_octet.ensures ∙ c.if-text_octet.false)
     (on_unmarked args.s.now args.c _ inside c.if-b.false c.by_element.ensures)

@@ -2,4 +2,4 @@
 use Rattle.cursor.proofs.Cursor.direction.Goals as goal
 
 pub returns : goal.returns
-returns c = rw (c.in_force.ensures, c.state-st.ensures)
+returns c = rw (c.in_force.ensures, c.state.ensures)
