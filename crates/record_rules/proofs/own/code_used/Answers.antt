@@ -1,26 +1,28 @@
 -- `record_rules::own::code_used` meets its contract, form by form.
-use Rattle.element.proofs.Names.{sym, ◌∙◌, eq-eqb, ne_eqb}
-use Rattle.base.proofs.Bools.{to-tests}
+use Rattle.element.proofs.Names.{arith, sym, ◌∙◌, eq-eqb, ne_eqb, le-leb, lt-leb}
 use Rattle.grammar.specs.Units.{code_used}
 use Rattle.record_rules.proofs.own.code_used.Goals as goal
 
 pub returns-then-graphic : goal.returns-then-graphic
 unfolding code_used
-returns-then-graphic c = simp (eq-eqb _ _ c.if-form-eq-FORM_94X94.true, sym c.graphic.ensures ∙ c.if-graphic.true)
-    c.graphic-then-graphic.ensures
+returns-then-graphic c = simp (eq-eqb _ _ c.in-3.is, sym c.graphic.ensures ∙ c.if-graphic.true) c.graphic-then-graphic.ensures
 
-pub returns-then-form-eq-FORM_94X94 : goal.returns-then-form-eq-FORM_94X94
+pub returns-else-graphic : goal.returns-else-graphic
 unfolding code_used
-returns-then-form-eq-FORM_94X94 c = simp (eq-eqb _ _ c.if-form-eq-FORM_94X94.true, sym c.graphic.ensures ∙ c.if-graphic.false)
+returns-else-graphic c = simp (eq-eqb _ _ c.in-3.is, sym c.graphic.ensures ∙ c.if-graphic.false) c.if-graphic.false
 
-pub returns-then-code-lt32 : goal.returns-then-code-lt32
+pub returns-in-32-to-127 : goal.returns-in-32-to-127
 unfolding code_used
-returns-then-code-lt32 c = search to-tests
+returns-in-32-to-127 c = rw (c.in-2.is, le-leb 0x20 c.args.code (omega arith), le-leb c.args.code 0x7F (omega arith))
 
-pub returns-then-form-eq-FORM_96 : goal.returns-then-form-eq-FORM_96
+pub returns-in_default-matches : goal.returns-in_default-matches
 unfolding code_used
-returns-then-form-eq-FORM_96 c = search to-tests
+returns-in_default-matches c = rw (c.in-2.is, lt-leb 0x20 c.args.code (omega arith))
 
-pub returns : goal.returns
+pub returns-in_default-matches-2 : goal.returns-in_default-matches-2
 unfolding code_used
-returns c = simp (ne_eqb _ _ c.if-form-eq-FORM_94X94.false, ne_eqb _ _ c.if-form-eq-FORM_96.false) c.graphic-2.ensures
+returns-in_default-matches-2 c = rw (c.in-2.is, le-leb 0x20 c.args.code (omega arith), lt-leb c.args.code 0x7F (omega arith))
+
+pub returns-in_default : goal.returns-in_default
+unfolding code_used
+returns-in_default c = simp (ne_eqb c.args.form 3 (λ e. omega arith), ne_eqb c.args.form 2 (λ e. omega arith)) c.graphic-in_default.ensures
