@@ -14,6 +14,7 @@ use segment::{Name, name_end, whole};
 use state::directions::{Directions, Step, counts_as_text};
 
 // A code of one octet that a set of 94 uses.
+#[tactic(auto, unfolding(text::specs::Text::graphic_of, base::specs::Choice::pick))]
 fn graphic(code: u16) -> bool
     ensures { result ≡ graphic_of code }
 {
@@ -21,6 +22,7 @@ fn graphic(code: u16) -> bool
 }
 
 // Whether a set of a form uses a code.
+#[tactic(auto, unfolding(grammar::specs::Units::code_used))]
 fn code_used(form: u8, code: u16) -> bool
     ensures { result ≡ code_used form code }
 {

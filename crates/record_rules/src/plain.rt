@@ -9,6 +9,7 @@ use state::directions::Directions;
 
 // Whether both octets of a code lie in the bounds of its set. Each octet is measured from its lowest, round the 256, so that one that is
 // too low is too high. The bounds are computed from the set, and not chosen by tests, of which the compiler would make branches.
+#[tactic(auto, unfolding(crate::specs::Plain::used_by, base::specs::Choice::pick))]
 fn used(set: u8, code: u16) -> bool
     ensures { result ≡ used_by set code }
 {
@@ -24,6 +25,7 @@ fn used(set: u8, code: u16) -> bool
 }
 
 // Whether a record is a space, or a character whose set uses its code. A space is looked at as the first character of set 0.
+#[tactic(auto, unfolding(crate::specs::Plain::plain_of, crate::specs::Plain::set_by, crate::specs::Plain::code_by, base::specs::Choice::pick))]
 pub fn plain(unit: Unit) -> bool
     ensures { result ≡ plain_of unit }
 {
@@ -36,6 +38,7 @@ pub fn plain(unit: Unit) -> bool
 }
 
 // Whether text leaves the directions as they are: there was no mark, and there was text.
+#[tactic(auto, unfolding(crate::specs::Plain::settled_by_text, base::specs::Choice::pick))]
 pub fn settled(directions: Directions) -> bool
     ensures { result ≡ settled_by_text directions }
 {
