@@ -8,9 +8,9 @@ use Rattle.rows.specs.Rows.{with_record}
 use Rattle.base.specs.Kind as kind
 use Rattle.rows.specs.Stowable.{Stowable, stowable_of}
 use Rattle.record_rules.specs.Plain.{plain_of, settled_by_text}
-use Rattle.check_list.specs.Turn.{on_fault, turn_of, room_after, quick_after, quick_until}
-use Rattle.check_list.specs.declared.Progress.{Progress}
-use Rattle.check_list.specs.declared.Progress.TheVariants.{Fine, Faulty}
+use Rattle.std.specs.Prelude.{Ok, Err}
+use Rattle.check_list.specs.Turn.{Progress, offends, on_fault, turn_of, room_after, quick_after, quick_until}
+use Rattle.check_list.specs.declared.Offence.{Offence}
 use Rattle.shortest.proofs.Bad.{bad_stops, not_bad}
 use Rattle.record_rules.proofs.Quick.{plain_goes}
 use Rattle.check_list.proofs.Fits.{fits}
@@ -43,49 +43,49 @@ stowable_tells r h =
     (λ q. rw q (le-leb _ _ h.one_of_eight))
 
 module _ (o : List ℕ) (r : UnitRecord) (i : ℕ) (p : Progress) (w : List ℕ) where
-  pub turn_goes : (d next : Directions) → p ≡ Fine d → fault (unit_read o r) d ≡ Goes next
-      → (Fine next ≡ turn_of o r i p) × (with_record w i r ≡ room_after (turn_of o r i p) r i w)
+  pub turn_goes : (d next : Directions) → p ≡ Ok d → fault (unit_read o r) d ≡ Goes next
+      → (Ok next ≡ turn_of o r i p) × (with_record w i r ≡ room_after (turn_of o r i p) r i w)
   unfolding turn_of room_after
   turn_goes d next ep ef = (rw (ep, ef), rw (ep, ef))
 
-  pub turn_stops : (d : Directions) (n : ℕ) → p ≡ Fine d → fault (unit_read o r) d ≡ Stops n
-      → (Faulty n i ≡ turn_of o r i p) × (w ≡ room_after (turn_of o r i p) r i w)
+  pub turn_stops : (d : Directions) (n : ℕ) → p ≡ Ok d → fault (unit_read o r) d ≡ Stops n
+      → (offends n i ≡ turn_of o r i p) × (w ≡ room_after (turn_of o r i p) r i w)
   unfolding turn_of room_after
   turn_stops d n ep ef = (rw (ep, ef), rw (ep, ef))
 
-  pub turn_faulty : (n j : ℕ) → p ≡ Faulty n j → (Faulty n j ≡ turn_of o r i p) × (w ≡ room_after (turn_of o r i p) r i w)
+  pub turn_faulty : (f : Offence) → p ≡ Err f → (Err f ≡ turn_of o r i p) × (w ≡ room_after (turn_of o r i p) r i w)
   unfolding turn_of room_after
-  turn_faulty n j ep = (rw ep, rw ep)
+  turn_faulty f ep = (rw ep, rw ep)
 
-pub fine_faulty : (n i : ℕ) (d : Directions) → Faulty n i ≡ Fine d → ⊥
-fine_faulty n i d e = let z : ◌≡◌ {A = ℕ} 0 1 = cc in omega arith
+pub fine_faulty : (f : Offence) (d : Directions) → ◌≡◌ {A = Progress} (Err f) (Ok d) → ⊥
+fine_faulty f d e = let z : ◌≡◌ {A = ℕ} 0 1 = cc in omega arith
 
 -- a record that is not refused is put into its row unchecked too
 module _ (o : List ℕ) (r : UnitRecord) (i : ℕ) (w : List ℕ) (d : Directions) where
-  put_fault : (before : Directions) (x : Step) → fault (unit_read o r) before ≡ x → on_fault x i ≡ Fine d
+  put_fault : (before : Directions) (x : Step) → fault (unit_read o r) before ≡ x → on_fault x i ≡ Ok d
       → pick (stowable_of r) (with_record w i r) w ≡ room_after (on_fault x i) r i w
   unfolding room_after pick
   put_fault before (Goes next) e k = rw (stowable_tells r (stowable o r before next e))
-  put_fault before (Stops n) e k = absurd (fine_faulty n i d k)
+  put_fault before (Stops n) e k = absurd (fine_faulty (record { number = n; place = i }) d k)
 
-  pub put_turn : (p : Progress) → turn_of o r i p ≡ Fine d → pick (stowable_of r) (with_record w i r) w ≡ room_after (turn_of o r i p) r i w
+  pub put_turn : (p : Progress) → turn_of o r i p ≡ Ok d → pick (stowable_of r) (with_record w i r) w ≡ room_after (turn_of o r i p) r i w
   unfolding turn_of
-  put_turn (Fine before) k = put_fault before (fault (unit_read o r) before) refl k
-  put_turn (Faulty n j) k = absurd (fine_faulty n j d k)
+  put_turn (Ok before) k = put_fault before (fault (unit_read o r) before) refl k
+  put_turn (Err f) k = absurd (fine_faulty f d k)
 
 -- the end of the records that the quick check may look at
 module _ (p : Progress) (from n : ℕ) where
-  pub until_settled : (d : Directions) → p ≡ Fine d → settled_by_text d ≡ true → n ≡ quick_until p from n
+  pub until_settled : (d : Directions) → p ≡ Ok d → settled_by_text d ≡ true → n ≡ quick_until p from n
   unfolding quick_until pick
   until_settled d ep es = rw (ep, es)
 
-  pub until_unsettled : (d : Directions) → p ≡ Fine d → settled_by_text d ≡ false → from ≡ quick_until p from n
+  pub until_unsettled : (d : Directions) → p ≡ Ok d → settled_by_text d ≡ false → from ≡ quick_until p from n
   unfolding quick_until pick
   until_unsettled d ep es = rw (ep, es)
 
-  pub until_faulty : (k j : ℕ) → p ≡ Faulty k j → from ≡ quick_until p from n
+  pub until_faulty : (f : Offence) → p ≡ Err f → from ≡ quick_until p from n
   unfolding quick_until pick
-  until_faulty k j ep = rw ep
+  until_faulty f ep = rw ep
 
   pub until_quick : from < quick_until p from n → quick_after p ≡ true
   unfolding quick_until pick
@@ -98,11 +98,11 @@ module _ (p : Progress) (from n : ℕ) where
 -- where the check so far allows it, a record that is let through leaves the progress as it is
 pub quick_goes : (o : List ℕ) (r : UnitRecord) (i : ℕ) (p : Progress) → quick_after p ≡ true → plain_of r ≡ true → turn_of o r i p ≡ p
 unfolding turn_of
-quick_goes o r i (Fine d) s e = ap (λ (t : Step). on_fault t i) (plain_goes o r d s e)
-quick_goes o r i (Faulty n j) s e = off s
+quick_goes o r i (Ok d) s e = ap (λ (t : Step). on_fault t i) (plain_goes o r d s e)
+quick_goes o r i (Err f) s e = off s
 
 -- and stands in its row
 pub quick_room : (p : Progress) (r : UnitRecord) (i : ℕ) (w : List ℕ) → quick_after p ≡ true → room_after p r i w ≡ with_record w i r
 unfolding room_after
-quick_room (Fine d) r i w s = refl
-quick_room (Faulty n j) r i w s = off s
+quick_room (Ok d) r i w s = refl
+quick_room (Err f) r i w s = off s

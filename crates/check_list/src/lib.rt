@@ -16,21 +16,25 @@ use state::directions::{Directions, Step};
 
 mod record;
 
-// How far a list is checked: what the directions are after the last record, or the number and the index of the first that offends.
+// A record that offends: its index, and the number of its refusal.
 #[derive(Clone, Copy)]
-pub enum Progress {
-    Fine(Directions),
-    Faulty(u8, usize),
+pub struct Offence {
+    pub place: usize,
+    pub number: u8,
 }
+
+// How far a list is checked: what the directions are after the last record, or the first record that offends.
+pub type Progress = Result<Directions, Offence>;
 
 // Before the first record.
 pub fn begin() -> Progress
     ensures { result ≡ begun }
 {
-    Progress::Fine(Directions::NONE)
+    Ok(Directions::NONE)
 }
 
 // How many records of a list of n are looked at.
+#[tactic(auto, unfolding(crate::specs::Turn::looked_at, base::specs::Choice::pick))]
 pub fn looked_at(n: usize) -> usize
     ensures { result ≡ looked_at n }
 {
@@ -38,17 +42,13 @@ pub fn looked_at(n: usize) -> usize
 }
 
 // The end of the records from a place on that the quick check may look at: n where the directions are settled, else the place itself.
+#[tactic(auto, unfolding(crate::specs::Turn::quick_until, base::specs::Choice::pick))]
 pub fn quick_until(progress: Progress, from: usize, n: usize) -> usize
     ensures { result ≡ quick_until progress from n }
 {
     match progress {
-        Progress::Fine(directions) => {
-            if settled(directions) {
-                return n;
-            }
-            from
-        }
-        Progress::Faulty(_, _) => from,
+        Ok(directions) if settled(directions) => n,
+        _ => from,
     }
 }
 
@@ -68,18 +68,13 @@ pub fn turn(progress: Progress, unit: Unit, i: usize, segments: &[u8], work: &mu
     ensures { (result ≡ turn_of segments.now unit i progress)
         × (work.new ≡ room_after (turn_of segments.now unit i progress) unit i work.old) }
 {
-    match progress {
-        Progress::Fine(directions) => {
-            let step = judge(unit, segments, directions);
-            match step {
-                Step::Goes(next) => {
-                    record::put(unit, i, work);
-                    Progress::Fine(next)
-                }
-                Step::Stops(number) => Progress::Faulty(number, i),
-            }
+    let directions = progress?;
+    match judge(unit, segments, directions) {
+        Step::Goes(next) => {
+            record::put(unit, i, work);
+            Ok(next)
         }
-        Progress::Faulty(number, place) => Progress::Faulty(number, place),
+        Step::Stops(number) => Err(Offence { place: i, number }),
     }
 }
 

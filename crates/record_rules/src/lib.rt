@@ -15,18 +15,19 @@ pub mod plain;
 pub fn judge(unit: Unit, segments: &[u8], directions: Directions) -> Step
     ensures { result ≡ fault (unit_read segments.now unit) directions }
 {
-    let kind = unit.kind;
-    if kind == kind::CHARACTER {
-        return own::character(unit.set, unit.code, directions);
+    match unit.kind {
+        kind::CHARACTER => own::character(unit.set, unit.code, directions),
+        kind::SPACE..kind::SEGMENT => {
+            let text = counts_as_text(unit.kind, 0);
+            directions.step(text, unit.kind)
+        }
+        kind::SEGMENT => own::segment(
+            unit.code,
+            unit.start as usize,
+            unit.length as usize,
+            segments,
+            directions,
+        ),
+        _ => Step::Stops(refusal::BAD_UNIT),
     }
-    if kind < kind::SEGMENT {
-        let text = counts_as_text(kind, 0);
-        return directions.step(text, kind);
-    }
-    if kind == kind::SEGMENT {
-        let start = unit.start as usize;
-        let length = unit.length as usize;
-        return own::segment(unit.code, start, length, segments, directions);
-    }
-    Step::Stops(refusal::BAD_UNIT)
 }

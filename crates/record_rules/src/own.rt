@@ -14,43 +14,32 @@ use segment::{Name, name_end, whole};
 use state::directions::{Directions, Step, counts_as_text};
 
 // A code of one octet that a set of 94 uses.
+#[tactic(auto, unfolding(text::specs::Text::graphic_of, base::specs::Choice::pick))]
 fn graphic(code: u16) -> bool
     ensures { result ≡ graphic_of code }
 {
-    if code < 0x21 {
-        return false;
-    }
-    code <= 0x7E
+    matches!(code, 0x21..=0x7E)
 }
 
 // Whether a set of a form uses a code.
+#[tactic(auto, unfolding(grammar::specs::Units::code_used))]
 fn code_used(form: u8, code: u16) -> bool
     ensures { result ≡ code_used form code }
 {
-    if form == FORM_94X94 {
-        if graphic(code / 256) {
-            return graphic(code % 256);
-        }
-        return false;
+    match form {
+        FORM_94X94 => graphic(code / 256) && graphic(code % 256),
+        FORM_96 => matches!(code, 0x20..=0x7F),
+        _ => graphic(code),
     }
-    if form == FORM_96 {
-        if code < 0x20 {
-            return false;
-        }
-        return code <= 0x7F;
-    }
-    graphic(code)
 }
 
 // A character.
 pub fn character(set: u8, code: u16, directions: Directions) -> Step
     ensures { result ≡ fault (some (char set code)) directions }
 {
-    if set < NO_SET {
-        if code_used(form_of(set), code) {
-            let text = counts_as_text(kind::CHARACTER, 0);
-            return directions.step(text, kind::CHARACTER);
-        }
+    if set < NO_SET && code_used(form_of(set), code) {
+        let text = counts_as_text(kind::CHARACTER, 0);
+        return directions.step(text, kind::CHARACTER);
     }
     Step::Stops(refusal::BAD_UNIT)
 }
@@ -61,23 +50,13 @@ pub fn segment(d: u16, start: usize, n: usize, segments: &[u8], directions: Dire
         (fault (some (ext d (take n (drop start segments.now)))) directions) (Stops refusals.bad_unit) }
 {
     let m = segments.len();
-    if m < start {
-        return Step::Stops(refusal::BAD_UNIT);
-    }
-    if m - start < n {
-        return Step::Stops(refusal::BAD_UNIT);
-    }
-    if d < 0x30 {
-        return Step::Stops(refusal::BAD_UNIT);
-    }
-    if 0x34 < d {
+    if m < start || m - start < n || d < 0x30 || 0x34 < d {
         return Step::Stops(refusal::BAD_UNIT);
     }
     if 16383 < n {
         return Step::Stops(refusal::BAD_SEGMENT);
     }
-    let name = name_end(&segments[start..start + n]);
-    let Name::Ends(k) = name else {
+    let Name::Ends(k) = name_end(&segments[start..start + n]) else {
         return Step::Stops(refusal::BAD_SEGMENT);
     };
     let size = n - k - 1;

@@ -2,8 +2,9 @@
 use Rattle.element.proofs.Names.{ℕ, ◌≤◌, ◌<◌, ◌≡◌, List, length, lt-ltb, le-ltb, refused_at, pick, Directions}
 use Rattle.base.specs.Limit as limit
 use Rattle.base.specs.Refusal as refusal
-use Rattle.check_list.specs.declared.Progress.{Progress}
-use Rattle.check_list.specs.declared.Progress.TheVariants.{Fine, Faulty}
+use Rattle.std.specs.Prelude.{Ok, Err}
+use Rattle.check_list.specs.Turn.{Progress}
+use Rattle.check_list.specs.declared.Offence.{Offence}
 use Rattle.emit.specs.Emit.{rows_answer, rows_output}
 use Rattle.write.specs.Stowed.{finish_answer, finish_output}
 
@@ -12,12 +13,12 @@ module _ (p : Progress) (n : ℕ) (o w out : List ℕ) where
   unfolding finish_answer finish_output pick
   finish_long h = let l = lt-ltb limit.units n h in (rw l, rw l)
 
-  pub finish_fine : (d : Directions) → n ≤ limit.units → p ≡ Fine d
+  pub finish_fine : (d : Directions) → n ≤ limit.units → p ≡ Ok d
       → (rows_answer o w n (length out) ≡ finish_answer p n o w (length out)) × (rows_output o w n out ≡ finish_output p n o w out)
   unfolding finish_answer finish_output pick
   finish_fine d h e = let l = le-ltb limit.units n h in (rw (l, e), rw (l, e))
 
-  pub finish_faulty : (k i : ℕ) → n ≤ limit.units → p ≡ Faulty k i → (refused_at k i ≡ finish_answer p n o w (length out)) ×
+  pub finish_faulty : (f : Offence) → n ≤ limit.units → p ≡ Err f → (refused_at f.number f.place ≡ finish_answer p n o w (length out)) ×
       (out ≡ finish_output p n o w out)
   unfolding finish_answer finish_output pick
-  finish_faulty k i h e = let l = le-ltb limit.units n h in (rw (l, e), rw (l, e))
+  finish_faulty f h e = let l = le-ltb limit.units n h in (rw (l, e), rw (l, e))

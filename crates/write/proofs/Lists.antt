@@ -2,6 +2,7 @@
 use Rattle.element.proofs.Names.{ℕ, zero, suc, ◌+◌, ◌*◌, ◌/◌, ◌≤◌, ◌<◌, arith, ◌≡◌, refl, sym, ap, ap₂, ◌∙◌, subst, true, false, List, []}
 use Rattle.element.proofs.Names.{◌∷◌, ◌⊎◌, inl, inr, ⊎_elim, Option, none, some, Option·some-injective, ltb, leb, length, get_or, set, drop, length-set}
 use Rattle.element.proofs.Names.{sets, ltb-true, lt-ltb, pick, pick_by, test, tested, UnitRecord, undirected, Directions, Step, Goes, Stops}
+use Rattle.std.specs.Prelude.{Ok, Err}
 use mathlib.Core.Option.{none-ne-some}
 use lib.ListN.{drop_of_length-le}
 use lib.Seq.{length-sets, get_or-set_same, get_or-set_other, drop-cons}
@@ -13,9 +14,8 @@ use Rattle.shortest.specs.Offence.{no_record}
 use Rattle.shortest.specs.Writing.{Good}
 use Rattle.rows.specs.Rows.{start_from, unit_tagged, unit_from, units_in, tag_of, seven_octets, with_record}
 use Rattle.record_rules.specs.Plain.{plain_of}
-use Rattle.check_list.specs.Turn.{begun, on_fault, turn_of, room_after, quick_after, looked_at}
-use Rattle.check_list.specs.declared.Progress.{Progress}
-use Rattle.check_list.specs.declared.Progress.TheVariants.{Fine, Faulty}
+use Rattle.check_list.specs.Turn.{Progress, begun, on_fault, turn_of, room_after, quick_after, looked_at}
+use Rattle.check_list.specs.declared.Offence.{Offence}
 use Rattle.check_list.proofs.Fits.{fits}
 use Rattle.check_list.proofs.Turns.{fine_faulty, quick_goes, quick_room}
 use Rattle.write.specs.Stowed.{reached, HoldsRecord, Stowed, quick_run, Passed}
@@ -27,24 +27,24 @@ over : List ℕ → List UnitRecord → ℕ → Progress → Progress
 over o [] i p = p
 over o (r ∷ rs) i p = over o rs (suc i) (turn_of o r i p)
 
-over_faulty : (o : List ℕ) (rs : List UnitRecord) (i n j : ℕ) → over o rs i (Faulty n j) ≡ Faulty n j
+over_faulty : (o : List ℕ) (rs : List UnitRecord) (i : ℕ) (f : Offence) → over o rs i (Err f) ≡ Err f
 unfolding over turn_of
-over_faulty o [] i n j = refl
-over_faulty o (r ∷ rs) i n j = over_faulty o rs (suc i) n j
+over_faulty o [] i f = refl
+over_faulty o (r ∷ rs) i f = over_faulty o rs (suc i) f
 
 abbrev pub checked_of : Progress → Finding
-checked_of (Fine d) = fine
-checked_of (Faulty n i) = faulty n i
+checked_of (Ok d) = fine
+checked_of (Err f) = faulty f.number f.place
 
-over_checked : (o : List ℕ) (rs : List UnitRecord) (i : ℕ) (d : Directions) → check_records o rs i d ≡ checked_of (over o rs i (Fine d))
+over_checked : (o : List ℕ) (rs : List UnitRecord) (i : ℕ) (d : Directions) → check_records o rs i d ≡ checked_of (over o rs i (Ok d))
 unfolding check_records over turn_of
 over_checked o [] i d = refl
 over_checked o (r ∷ rs) i d = go (fault (unit_read o r) d) (λ next. over_checked o rs (suc i) next)
   where
-    go : (s : Step) → ((next : Directions) → check_records o rs (suc i) next ≡ checked_of (over o rs (suc i) (Fine next)))
+    go : (s : Step) → ((next : Directions) → check_records o rs (suc i) next ≡ checked_of (over o rs (suc i) (Ok next)))
         → on_step s i (λ next. check_records o rs (suc i) next) ≡ checked_of (over o rs (suc i) (on_fault s i))
     go (Goes next) k = k next
-    go (Stops n) k = ap checked_of (sym (over_faulty o rs (suc i) n i))
+    go (Stops n) k = ap checked_of (sym (over_faulty o rs (suc i) (record { number = n; place = i })))
 
 over_reached : (o : List ℕ) (rs : List UnitRecord) (m i : ℕ) → i + m ≡ length rs → over o (drop i rs) i (reached o rs i) ≡ reached o rs (length rs)
 unfolding over reached
@@ -87,8 +87,8 @@ length_with w i r = pick_by (λ (v : List ℕ). length v ≡ length w) (ltb i (l
 
 length_room : (p : Progress) (r : UnitRecord) (i : ℕ) (w : List ℕ) → length (room_after p r i w) ≡ length w
 unfolding room_after
-length_room (Fine d) r i w = length_with w i r
-length_room (Faulty n j) r i w = refl
+length_room (Ok d) r i w = length_with w i r
+length_room (Err f) r i w = refl
 
 holds_new : (w : List ℕ) (i : ℕ) (r : UnitRecord) → 72 * i + 72 ≤ length w → HoldsRecord (with_record w i r) i r
 unfolding with_record pick
@@ -115,11 +115,11 @@ stowed_next o rs k before after s =
     r : UnitRecord
     r = get_or rs k no_record
 
-    by-progress : (p : Progress) → reached o rs k ≡ p → (d : Directions) → turn_of o r k p ≡ Fine d → (i : ℕ) → i < suc k
+    by-progress : (p : Progress) → reached o rs k ≡ p → (d : Directions) → turn_of o r k p ≡ Ok d → (i : ℕ) → i < suc k
         → 72 * i + 72 ≤ length before
         → HoldsRecord (room_after (turn_of o r k p) r k after) i (get_or rs i no_record)
-    by-progress (Faulty n j) ep d e i h m = absurd (fine_faulty n j d e)
-    by-progress (Fine d') ep d e i h m =
+    by-progress (Err f) ep d e i h m = absurd (fine_faulty f d e)
+    by-progress (Ok d') ep d e i h m =
         subst (λ (q : Progress). HoldsRecord (room_after q r k after) i (get_or rs i no_record)) (sym e)
         (test (ltb i k) (λ q. let l = ltb-true i k q in holds_old after k i r (get_or rs i no_record) l (s.rows d' ep i l m))
         (λ q. let z : k ≡ i = omega tested in

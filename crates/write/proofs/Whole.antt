@@ -15,9 +15,8 @@ use Rattle.shortest.proofs.Records.{fine_units}
 use Rattle.shortest.proofs.Offence.{offence}
 use Rattle.shortest.proofs.Outcome.{offence_number}
 use Rattle.rows.specs.Rows.{units_in}
-use Rattle.check_list.specs.Turn.{looked_at}
-use Rattle.check_list.specs.declared.Progress.{Progress}
-use Rattle.check_list.specs.declared.Progress.TheVariants.{Fine, Faulty}
+use Rattle.check_list.specs.Turn.{Progress, offends, looked_at}
+use Rattle.std.specs.Prelude.{Ok, Err}
 use Rattle.emit.specs.Emit.{rows_answer, rows_output}
 use Rattle.write.specs.Stowed.{reached, HoldsRecord, Stowed, finish_answer, finish_output}
 use Rattle.write.proofs.Lists.{checked_of, reached_checked, rows_units}
@@ -38,9 +37,9 @@ module _ (rs : List UnitRecord) (o before after out : List ℕ) where
   long h p = let l = lt-ltb limit.units (length rs) h in record { answers = rw l; output = rw l }
 
   module _ (h : length rs ≤ limit.units) where
-    offends : (n i : ℕ) → check_records o rs 0 undirected ≡ faulty n i → Ends (Faulty n i)
+    refused : (n i : ℕ) → check_records o rs 0 undirected ≡ faulty n i → Ends (offends n i)
     unfolding finish_answer finish_output writer_answer writer_output pick
-    offends n i e =
+    refused n i e =
         let l = le-ltb limit.units (length rs) h in
         let z = ne_eqb n 0 (number (offence_number o rs n i ((offence o rs n i).0 e))) in
         record { answers = rw (l, e); output = rw (l, e, z) }
@@ -52,14 +51,14 @@ module _ (rs : List UnitRecord) (o before after out : List ℕ) where
         number (inr (inr (inr q))) k = omega arith
 
     module _ (d : Directions) (e : check_records o rs 0 undirected ≡ fine) (us : List TextUnit) (er : list_reading o rs ≡ some us) where
-      short : length before ≡ length after → length after < work_room (length rs) → Ends (Fine d)
+      short : length before ≡ length after → length after < work_room (length rs) → Ends (Ok d)
       unfolding finish_answer finish_output rows_answer rows_output writer_answer writer_output pick
       short s w =
           let l = le-ltb limit.units (length rs) h in
           let m = lt-ltb (length after) (work_room (length rs)) w in
           record { answers = rw (l, e, s, m); output = rw (l, e, s, m) }
 
-      written : length before ≡ length after → work_room (length rs) ≤ length after → units_in o after 0 (length rs) ≡ us → Ends (Fine d)
+      written : length before ≡ length after → work_room (length rs) ≤ length after → units_in o after 0 (length rs) ≡ us → Ends (Ok d)
       unfolding finish_answer finish_output rows_answer rows_output writer_answer writer_output pick
       written s w u =
           let l = le-ltb limit.units (length rs) h in
@@ -71,8 +70,8 @@ module _ (rs : List UnitRecord) (o before after out : List ℕ) where
           same false = refl
 
   fits : (h : length rs ≤ limit.units) → Stowed o rs (length rs) before after → (p : Progress) → reached o rs (length rs) ≡ p → Ends p
-  fits h s (Faulty n i) e = offends h n i (reached_checked o rs ∙ ap checked_of e)
-  fits h s (Fine d) e =
+  fits h s (Err f) e = refused h f.number f.place (reached_checked o rs ∙ ap checked_of e)
+  fits h s (Ok d) e =
       let c : check_records o rs 0 undirected ≡ fine = reached_checked o rs ∙ ap checked_of e in
       let f = fine_units o rs 0 undirected c in
       test (ltb (length after) (work_room (length rs)))

@@ -1,5 +1,5 @@
 -- The check of a whole list, record by record, and what the work room holds after it; and the answer from there.
-use Rattle.std.specs.Prelude.{ℕ, zero, suc, ◌+◌, ◌-◌, ◌*◌, ◌≤◌, ◌<◌, ◌≡◌, List, ltb, length, get_or}
+use Rattle.std.specs.Prelude.{ℕ, zero, suc, ◌+◌, ◌-◌, ◌*◌, ◌≤◌, ◌<◌, ◌≡◌, List, ltb, length, get_or, Ok, Err}
 use Rattle.base.specs.Answers.{refused_at}
 use Rattle.base.specs.Choice.{pick}
 use Rattle.base.specs.Limit as limit
@@ -10,9 +10,7 @@ use Rattle.state.specs.declared.directions.Directions.{Directions}
 use Rattle.shortest.specs.Offence.{no_record}
 use Rattle.rows.specs.Rows.{seven_octets}
 use Rattle.record_rules.specs.Plain.{plain_of}
-use Rattle.check_list.specs.Turn.{begun, turn_of, quick_until}
-use Rattle.check_list.specs.declared.Progress.{Progress}
-use Rattle.check_list.specs.declared.Progress.TheVariants.{Fine, Faulty}
+use Rattle.check_list.specs.Turn.{Progress, begun, turn_of, quick_until}
 use Rattle.emit.specs.Emit.{rows_answer, rows_output}
 
 -- how far the list is checked after k records
@@ -27,7 +25,7 @@ HoldsRecord w i r = (q : ℕ) → q < 7 → get_or w (72 * i + 65 + q) 0 ≡ get
 -- where none of the first k records offends, each of them stands in its row, if the room has that row
 pub record Stowed (o : List ℕ) (rs : List UnitRecord) (k : ℕ) (before after : List ℕ) : Type 0 where
   pub same : length after ≡ length before
-  pub rows : (d : Directions) → reached o rs k ≡ Fine d → (i : ℕ) → i < k → 72 * i + 72 ≤ length before
+  pub rows : (d : Directions) → reached o rs k ≡ Ok d → (i : ℕ) → i < k → 72 * i + 72 ≤ length before
       → HoldsRecord after i (get_or rs i no_record)
 
 -- ---- the quick check
@@ -51,8 +49,8 @@ pub record Passed (p : Progress) (rs : List UnitRecord) (from to : ℕ) (before 
 
 -- the answer for a list of n records that is checked so far, and for an output of m octets; and the output after
 abbrev pub on_progress : {X : Type 0} → Progress → X → (ℕ → ℕ → X) → X
-on_progress (Fine d) x f = x
-on_progress (Faulty n i) x f = f n i
+on_progress (Ok d) x f = x
+on_progress (Err e) x f = f e.number e.place
 
 unfoldable pub finish_answer : Progress → ℕ → List ℕ → List ℕ → ℕ → Answer
 finish_answer p n o w m =

@@ -16,16 +16,13 @@ fn stow_quickly(progress: Progress, units: &[Unit], from: usize, n: usize, work:
     ensures { (result ≡ quick_end progress units.now from n)
         × Passed progress units.now from (quick_end progress units.now from n) work.old work.new }
 {
-    let mut end = check_list::quick_until(progress, from, n);
-    let mut i = from;
-    while i < end {
-        if check_list::quick_turn(units[i], i, work) {
-            i += 1;
-        } else {
-            end = i;
+    let end = check_list::quick_until(progress, from, n);
+    for i in from..end {
+        if !check_list::quick_turn(units[i], i, work) {
+            return i;
         }
     }
-    i
+    end
 }
 
 // The answer once the list is checked.
@@ -44,8 +41,8 @@ pub fn finish(
         return Answer::refused(refusal::TOO_LONG, 0);
     }
     match progress {
-        Progress::Fine(_) => emit::write_rows(work, n, segments, out),
-        Progress::Faulty(number, place) => Answer::refused(number, place),
+        Ok(_) => emit::write_rows(work, n, segments, out),
+        Err(first) => Answer::refused(first.number, first.place),
     }
 }
 
@@ -60,11 +57,10 @@ pub fn write(units: &[Unit], segments: &[u8], work: &mut [u8], out: &mut [u8]) -
 {
     let n = check_list::looked_at(units.len());
     let mut progress = check_list::begin();
-    let mut i: usize = 0;
+    let mut i = 0;
     while i < n {
         progress = check_list::turn(progress, units[i], i, segments, work);
-        let next = stow_quickly(progress, units, i + 1, n, work);
-        i = next;
+        i = stow_quickly(progress, units, i + 1, n, work);
     }
     finish(progress, units.len(), segments, work, out)
 }

@@ -8,17 +8,17 @@ returns-then-n-gt-UNITS c = let args = c.args in
     let f = finish_long args.progress args.n args.segments.now args.work.now args.out.now c.if-n-gt-UNITS.true in
     (c.refused.ensures ∙ f.0, f.1, refl)
 
-pub returns-in-Fine : goal.returns-in-Fine
-returns-in-Fine c = let args = c.args in
+pub returns-in-Ok : goal.returns-in-Ok
+returns-in-Ok c = let args = c.args in
     let few = c.if-n-gt-UNITS.false in
-    let fine = c.in-Fine.is in
+    let fine = c.in-Ok.is in
     let written = c.write_rows.ensures in
     let f = finish_fine args.progress args.n args.segments.now args.work.now args.out.now _ few fine in
     (written.0 ∙ f.0, written.1 ∙ f.1, written.2)
 
-pub returns-in-Faulty : goal.returns-in-Faulty
-returns-in-Faulty c = let args = c.args in
+pub returns-in-Err : goal.returns-in-Err
+returns-in-Err c = let args = c.args in
     let few = c.if-n-gt-UNITS.false in
-    let faulty = c.in-Faulty.is in
-    let f = finish_faulty args.progress args.n args.segments.now args.work.now args.out.now _ _ few faulty in
-    (c.refused-in-Faulty.ensures ∙ f.0, f.1, refl)
+    let faulty = c.in-Err.is in
+    let f = finish_faulty args.progress args.n args.segments.now args.work.now args.out.now _ few faulty in
+    (c.refused-in-Err.ensures ∙ f.0, f.1, refl)

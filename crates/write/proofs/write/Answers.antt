@@ -1,8 +1,7 @@
 -- `write::write` meets its contract: once the loop is left the whole list is checked, and `finish` answers as the writer does (Whole.antt).
 use Rattle.element.proofs.Names.{arith, ◌+◌, ◌-◌, ◌<◌, ◌≡◌, ◌∙◌, sym, ap, subst, ℕ, length, get_or, add-one}
 use Rattle.shortest.specs.Offence.{no_record}
-use Rattle.check_list.specs.Turn.{turn_of, room_after, quick_until, looked_at}
-use Rattle.check_list.specs.declared.Progress.{Progress}
+use Rattle.check_list.specs.Turn.{Progress, turn_of, room_after, quick_until, looked_at}
 use Rattle.check_list.proofs.Turns.{until_most}
 use Rattle.write.specs.Stowed.{reached, Stowed, finish_answer, finish_output}
 use Rattle.write.proofs.Lists.{looked_most, reached_none, reached_next, stowed_none, stowed_next, run_most}
@@ -25,8 +24,8 @@ offset_bounds-units-i c = let h = inside c in search arith
 pub bounds-units-i : goal.bounds-units-i
 bounds-units-i c = inside c
 
-pub stow_quickly-next-requires : goal.stow_quickly-next-requires
-stow_quickly-next-requires c = (
+pub stow_quickly-i-requires : goal.stow_quickly-i-requires
+stow_quickly-i-requires c = (
   omega arith,
   omega (arith, c.looked_at-n.ensures, looked_most (length c.args.units.now)),
 )
@@ -48,7 +47,7 @@ loop-i-preserved c =
     let room : c.turn-progress.new.work ≡ room_after (turn_of os r i (reached os us i)) r i w =
     c.turn-progress.ensures.1 ∙ ap (λ (q : Progress). room_after q r i w) (sym c.turn-progress.ensures.0 ∙ turned) in
     let first : Stowed os us (i + 1) c.args.work.now c.turn-progress.new.work = rw room stood in
-    let next = c.stow_quickly-next.ensures in
+    let next = c.stow_quickly-i.ensures in
     let m = quick_until p (i + 1) n in
     rw next.0 (
       omega (arith, run_most us (m - (i + 1)) (i + 1), until_most p (i + 1) n (omega arith)),
