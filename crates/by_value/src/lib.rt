@@ -14,10 +14,8 @@ pub fn nth(s: &[u8], k: usize) -> Item
     ensures { result ≡ item_of k (units_before s.now) (check_of s.now) }
 {
     let mut r = reader::open(s);
-    let mut i: usize = 0;
-    while i < k {
-        reader::next(&mut r);
-        i += 1;
+    for _ in 0..k {
+        let _ = reader::next(&mut r);
     }
     reader::next(&mut r)
 }

@@ -2,7 +2,7 @@
 use Rattle.element.proofs.Names.{ℕ, ◌≡◌, ap, true, false, List, [], ◌∷◌, eqb-true, pick, test}
 use Rattle.base.proofs.Bools.{pick_both}
 use Rattle.pieces.specs.Pieces.{is_run, same_run_of, longer, joined}
-use Rattle.pieces.specs.declared.Piece.{Piece}
+use Rattle.pieces.specs.Pieces.{Piece}
 
 -- pieces of one run are of one kind
 pub same_kind : (j k : ℕ) → same_run_of j k ≡ true → j ≡ k

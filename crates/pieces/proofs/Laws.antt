@@ -15,7 +15,7 @@ use Rattle.grammar.proofs.Places.{at_end, at_refused, at_passed}
 use Rattle.grammar.proofs.Sound.{Shown, sound}
 use Rattle.grammar.proofs.Agrees.{Right, refused, passed, read, right, fresh_legal, put_legal, octets_from}
 use Rattle.pieces.specs.Pieces.{no_piece, side_kind_of, piece_kind_of, piece_of, is_run, longer, joined, pieces_of, state_at, same_run_of}
-use Rattle.pieces.specs.declared.Piece.{Piece}
+use Rattle.pieces.specs.Pieces.{Piece}
 use Rattle.pieces.proofs.Joined.{same_kind}
 use Rattle.pieces.specs.Partition.{EndToEnd, none, more, Apart, nothing, alone, before, OneSided, Same, state_from, InForce, Each, empty, with_first}
 use Rattle.pieces.proofs.Partition.{tiled}

@@ -6,7 +6,7 @@ use Rattle.base.specs.Refusal as refusal
 use Rattle.grammar.specs.Reading.{check_of, Octets}
 use Rattle.grammar.proofs.Agrees.{accepted_where}
 use Rattle.pieces.specs.Pieces.{same_run_of, longer, joined, pieces_of, contains, holding}
-use Rattle.pieces.specs.declared.Piece.{Piece}
+use Rattle.pieces.specs.Pieces.{Piece}
 use Rattle.pieces.specs.Partition.{EndToEnd, none, more}
 use Rattle.pieces.proofs.Step.{Step, stops, goes, step, rest, no_refusal}
 

@@ -10,7 +10,7 @@ use Rattle.grammar.proofs.Elements.{next_at}
 use Rattle.grammar.proofs.Places.{ahead, at_end, at_refused, at_passed, step_passed}
 use Rattle.pieces.specs.PieceKind as piece_kind
 use Rattle.pieces.specs.Pieces.{piece, no_piece, piece_kind_of, piece_of, joined, pieces_from}
-use Rattle.pieces.specs.declared.Piece.{Piece}
+use Rattle.pieces.specs.Pieces.{Piece}
 
 -- the element at a place, the piece that it is, and the pieces from there on
 abbrev pub element_at : List ℕ → ℕ → State → Element

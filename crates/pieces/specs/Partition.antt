@@ -6,7 +6,7 @@ use Rattle.grammar.specs.Reading.{elements}
 use Rattle.state.specs.Directions.{in_force_of}
 use Rattle.state.specs.declared.State.{State}
 use Rattle.pieces.specs.Pieces.{side_kind_of, is_run, same_run_of, state_at}
-use Rattle.pieces.specs.declared.Piece.{Piece}
+use Rattle.pieces.specs.Pieces.{Piece}
 
 -- pieces that lie end to end from a place to another
 pub data EndToEnd : ℕ → ℕ → List Piece → Type 0 where

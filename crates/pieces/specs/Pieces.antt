@@ -1,5 +1,5 @@
 -- The pieces of a string: runs, tabs, newlines, control sequences and extended segments, end to end (rules R1, R6).
-use Rattle.std.specs.Prelude.{ℕ, ◌+◌, Bool, false, List, [], ◌∷◌, eqb, leb, ltb, get_or}
+use Rattle.std.specs.Prelude.{ℕ, ◌+◌, Bool, false, List, [], ◌∷◌, eqb, leb, ltb, get_or, Option, Some, None}
 use Rattle.base.specs.Choice.{pick}
 use Rattle.base.specs.Kind as kind
 use Rattle.grammar.specs.Reading.{Elements, end_at, stopped_at, silent_at, found_at, size, elements_of}
@@ -7,7 +7,16 @@ use Rattle.state.specs.State.{fresh}
 use Rattle.state.specs.declared.State.{State}
 use Rattle.state.specs.Elements.{Element, End, Refused, Silent, Found}
 use Rattle.pieces.specs.PieceKind as piece_kind
-use Rattle.pieces.specs.declared.Piece.{Piece}
+use Rattle.pieces.specs.declared.Piece.{Piece as CodePiece}
+use Rattle.pieces.specs.declared.PieceKind.{PieceKind}
+use Rattle.pieces.specs.declared.PieceKind.TheVariants.{GlRun, GrRun, Tab, Newline, Control, Segment}
+
+-- a piece: where it starts, where the next one does, the state after its first element, and the number of what it is
+pub record Piece : Type 0 where
+  pub start : ℕ
+  pub end : ℕ
+  pub state : State
+  pub kind : ℕ
 
 -- where a piece starts, where the next one does, what it is, and the state after its first element
 abbrev pub piece : ℕ → ℕ → ℕ → State → Piece
@@ -15,6 +24,22 @@ piece start end k st = record { start = start; end = end; kind = k; state = st }
 
 abbrev pub no_piece : ℕ → Piece
 no_piece at = piece at at piece_kind.none fresh
+
+-- the number of a kind, the piece that a value of the code is, and the piece that is given at a place
+abbrev pub kind_number : PieceKind → ℕ
+kind_number GlRun = piece_kind.gl_run
+kind_number GrRun = piece_kind.gr_run
+kind_number Tab = piece_kind.tab
+kind_number Newline = piece_kind.newline
+kind_number Control = piece_kind.control
+kind_number Segment = piece_kind.segment
+
+abbrev pub viewed : CodePiece → Piece
+viewed p = piece p.start p.end (kind_number p.kind) p.state
+
+abbrev pub seen : ℕ → Option CodePiece → Piece
+seen at (Some p) = viewed p
+seen at None = no_piece at
 
 -- the side of an octet: a GR octet has its top bit set
 unfoldable pub side_kind_of : ℕ → ℕ

@@ -4,28 +4,31 @@
 ghost use Rattle.std.specs.Prelude.{◌≡◌};
 ghost use Rattle.base.specs.Choice.{from};
 ghost use Rattle.element.specs.Element.{element_of};
-ghost use Rattle.pieces.specs.Pieces.{no_piece, side_kind_of, piece_kind_of, piece_of, set_in};
+ghost use Rattle.pieces.specs.Pieces.{kind_number, viewed, seen, is_run, side_kind_of, piece_kind_of, piece_of, set_in};
 
 use base::kind;
 use state::State;
 use state::elements::Element;
 
 // What a piece is.
-pub const GL_RUN: u8 = 0;
+#[derive(Clone, Copy, PartialEq, Eq)]
+pub enum PieceKind {
+    GlRun,
+    GrRun,
+    Tab,
+    Newline,
+    // a designation or a direction mark
+    Control,
+    Segment,
+}
 
-pub const GR_RUN: u8 = 1;
-
-pub const TAB: u8 = 2;
-
-pub const NEWLINE: u8 = 3;
-
-// a designation or a direction mark
-pub const CONTROL: u8 = 4;
-
-pub const SEGMENT: u8 = 5;
-
-// no piece: the string ends, or an element of it is refused
-pub const NONE: u8 = 6;
+impl PieceKind {
+    pub fn is_run(self) -> bool
+        ensures { result ≡ is_run (kind_number self) }
+    {
+        matches!(self, PieceKind::GlRun | PieceKind::GrRun)
+    }
+}
 
 // Where a piece starts and where the next one does, the state after its first element, and what it is.
 #[derive(Clone, Copy)]
@@ -33,87 +36,73 @@ pub struct Piece {
     pub start: usize,
     pub end: usize,
     pub state: State,
-    pub kind: u8,
-}
-
-pub fn no_piece(at: usize) -> Piece
-    ensures { result ≡ no_piece at }
-{
-    Piece {
-        start: at,
-        end: at,
-        state: State::FRESH,
-        kind: NONE,
-    }
+    pub kind: PieceKind,
 }
 
 // A run on the side of an octet.
-pub fn side_kind(b: u8) -> u8
-    ensures { result ≡ side_kind_of b }
+#[tactic(auto, using(base::proofs::Ladder::ladder), unfolding(crate::specs::Pieces::side_kind_of))]
+pub fn side_kind(b: u8) -> PieceKind
+    ensures { kind_number result ≡ side_kind_of b }
 {
     if b < 128 {
-        return GL_RUN;
+        PieceKind::GlRun
+    } else {
+        PieceKind::GrRun
     }
-    GR_RUN
 }
 
 // What the piece of a unit is, by the unit's kind and its first octet.
-pub fn piece_kind(unit: u8, b: u8) -> u8
-    ensures { result ≡ piece_kind_of unit b }
+#[tactic(auto, using(base::proofs::Ladder::ladder), unfolding(crate::specs::Pieces::piece_kind_of))]
+pub fn piece_kind(unit: u8, b: u8) -> PieceKind
+    ensures { kind_number result ≡ piece_kind_of unit b }
 {
     match unit {
-        kind::CHARACTER => side_kind(b),
-        kind::SPACE => side_kind(b),
-        kind::TAB => TAB,
-        kind::NEWLINE => NEWLINE,
-        kind::SEGMENT => SEGMENT,
-        _ => CONTROL,
+        kind::CHARACTER | kind::SPACE => side_kind(b),
+        kind::TAB => PieceKind::Tab,
+        kind::NEWLINE => PieceKind::Newline,
+        kind::SEGMENT => PieceKind::Segment,
+        _ => PieceKind::Control,
     }
 }
 
-// The piece that the element at a place is.
-pub fn piece_at(s: &[u8], at: usize, st: State) -> Piece
-    ensures { result ≡ piece_of s.now at (element_of (from at s.now) st) }
+// The piece that the element at a place is; none where the string ends, or its element is refused.
+pub fn piece_at(s: &[u8], at: usize, st: State) -> Option<Piece>
+    ensures { seen at result ≡ piece_of s.now at (element_of (from at s.now) st) }
 {
     if s.len() <= at {
-        return no_piece(at);
+        return None;
     }
     let b = s[at];
     let e = element::element(s, at, st);
     match e {
-        Element::End => no_piece(at),
-        Element::Refused(number, offset) => no_piece(at),
-        Element::Silent(octets, next) => {
-            let end = at + octets;
-            Piece {
-                start: at,
-                end: end,
-                state: next,
-                kind: CONTROL,
-            }
-        }
+        Element::End => None,
+        Element::Refused(number, offset) => None,
+        Element::Silent(octets, next) => Some(Piece {
+            start: at,
+            end: at + octets,
+            state: next,
+            kind: PieceKind::Control,
+        }),
         Element::Found(part, after) => {
             let size = part.skip + part.octets;
-            let end = at + size;
-            let kind = piece_kind(part.kind, b);
-            Piece {
+            Some(Piece {
                 start: at,
-                end: end,
+                end: at + size,
                 state: after,
-                kind: kind,
-            }
+                kind: piece_kind(part.kind, b),
+            })
         }
     }
 }
 
 // The set on the side of a run.
+#[tactic(auto, using(base::proofs::Ladder::ladder), unfolding(crate::specs::Pieces::set_in))]
 pub fn set_in(run: Piece) -> u8
-    ensures { result ≡ set_in run }
+    ensures { result ≡ set_in (viewed run) }
 {
-    let state = run.state;
-    let sets = state.sets;
-    if run.kind == GL_RUN {
-        return sets.gl;
+    let sets = run.state.sets;
+    match run.kind {
+        PieceKind::GlRun => sets.gl,
+        _ => sets.gr,
     }
-    sets.gr
 }

@@ -14,10 +14,9 @@ use Rattle.units.specs.Next.{outcome_of, next_of}
 use Rattle.units.specs.Next.{Outcome}
 use Rattle.units.specs.Next.{Gives, Stops}
 use Rattle.units.proofs.Records.{next_ahead, few_records}
+use Rattle.std.specs.Prelude.{Result, Ok, Err}
 use Rattle.reader.specs.Step.{stepped, may_stand, largest, counted_of, ended_of, after_of, step_at}
 use Rattle.reader.specs.Reader.{opened, reader_step, item_at, moved, reader_after, at_stop, units_before, item_of}
-use Rattle.reader.specs.declared.Item.{Item}
-use Rattle.reader.specs.declared.Item.TheVariants.{Given, Ended}
 use Rattle.reader.specs.declared.Reader.{Reader}
 use Rattle.reader.specs.declared.Stepped.{Stepped}
 
@@ -40,16 +39,16 @@ stays zero r e = refl
 stays (suc k) r e = ap moved (stays k r e) ∙ e
 
 -- what a step says of the item, and of the reader after it
-step_to_lem : (r : Reader) {i : Item} {place count : ℕ} {st : State} → reader_step r ≡ stepped i place count st
+step_to_lem : (r : Reader) {i : Result UnitRecord Answer} {place count : ℕ} {st : State} → reader_step r ≡ stepped i place count st
     → (item_at r ≡ i) × (moved r ≡ record { octets = r.octets; place = place; count = count; state = st })
 step_to_lem r e =
     (ap (λ (t : Stepped). t.item) e, ap (λ (t : Stepped). record { octets = r.octets; place = t.place; count = t.count; state = t.state }) e)
 
 -- a reader hands out units, and then an answer, with which it becomes the last reader; that one repeats the answer and stays
 pub data Hands : Reader → List UnitRecord → Answer → Reader → Type 0 where
-  hands_answer : {r last : Reader} {a : Answer} → item_at r ≡ Ended a → moved r ≡ last → item_at last ≡ Ended a → moved last ≡ last
+  hands_answer : {r last : Reader} {a : Answer} → item_at r ≡ Err a → moved r ≡ last → item_at last ≡ Err a → moved last ≡ last
       → Hands r [] a last
-  hands_unit : {r next last : Reader} {u : UnitRecord} {us : List UnitRecord} {a : Answer} → item_at r ≡ Given u → moved r ≡ next
+  hands_unit : {r next last : Reader} {u : UnitRecord} {us : List UnitRecord} {a : Answer} → item_at r ≡ Ok u → moved r ≡ next
       → Hands next us a last → Hands r (u ∷ us) a last
 
 items : {r last : Reader} {us : List UnitRecord} {a : Answer} → Hands r us a last → (k : ℕ) → item_at (reader_after k r) ≡ item_of k us a
@@ -146,7 +145,7 @@ by_length : (s : Bor (List ℕ)) (b : Bool) → ltb limit.octets (length s.now) 
     → item_at (reader_after k (opened s)) ≡ item_of k (pick b [] (records_of s.now)) (pick b (refused_at refusal.too_long 0) (answer_of 0 (elements_of s.now)))
 unfolding step_at pick
 by_length s true e k =
-    let z : reader_step (opened s) ≡ stepped (Ended (refused_at refusal.too_long 0)) 0 0 fresh = rw e in
+    let z : reader_step (opened s) ≡ stepped (Err (refused_at refusal.too_long 0)) 0 0 fresh = rw e in
     let x = step_to_lem (opened s) z in
     items (hands_answer x.0 x.1 x.0 x.1) k
 by_length s false e k = items (opened_hands s (ltb-false limit.octets (length s.now) e)) k

@@ -1,5 +1,5 @@
 -- A reader that keeps hold of the string: what it hands out, and the whole reader afterwards.
-use Rattle.std.specs.Prelude.{ℕ, zero, suc, ◌+◌, ◌≡◌, List, [], ◌∷◌, ltb, length}
+use Rattle.std.specs.Prelude.{ℕ, zero, suc, ◌+◌, ◌≡◌, List, [], ◌∷◌, ltb, length, Result, Ok, Err}
 use Rattle.std.specs.Borrow.{Bor}
 use Rattle.base.specs.Choice.{pick, from}
 use Rattle.base.specs.Limit as limit
@@ -11,8 +11,6 @@ use Rattle.element.specs.Element.{element_of}
 use Rattle.grammar.specs.Reading.{elements_of, stop_of}
 use Rattle.units.specs.Records.{records_of}
 use Rattle.reader.specs.Step.{step_at}
-use Rattle.reader.specs.declared.Item.{Item}
-use Rattle.reader.specs.declared.Item.TheVariants.{Given, Ended}
 use Rattle.reader.specs.declared.Reader.{Reader}
 use Rattle.reader.specs.declared.Stepped.{Stepped}
 
@@ -24,7 +22,7 @@ opened s = record { octets = s; place = 0; count = 0; state = fresh }
 abbrev pub reader_step : Reader → Stepped
 reader_step r = step_at r.octets.now r.place r.count r.state
 
-abbrev pub item_at : Reader → Item
+abbrev pub item_at : Reader → Result UnitRecord Answer
 item_at r = (reader_step r).item
 
 -- the reader after it, which holds the same string
@@ -49,9 +47,9 @@ pub record AtRefused (r : Reader) (a : Answer) : Type 0 where
   pub offends : r.place + offset ≡ a.place
 
 -- item k of units that are handed out one after the other, with the answer from then on
-unfoldable pub item_of : ℕ → List UnitRecord → Answer → Item
-item_of k [] a = Ended a
-item_of zero (u ∷ us) a = Given u
+unfoldable pub item_of : ℕ → List UnitRecord → Answer → Result UnitRecord Answer
+item_of k [] a = Err a
+item_of zero (u ∷ us) a = Ok u
 item_of (suc k) (u ∷ us) a = item_of k us a
 
 -- the units that a reader opened on a string hands out: none where the string is too long (rules U7, U8)

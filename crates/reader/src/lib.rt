@@ -4,21 +4,14 @@
 ghost use Rattle.std.specs.Prelude.{◌≡◌, length};
 ghost use Rattle.reader.specs.Step.{stepped, may_stand, counted_of, ended_of, after_of, step_at};
 ghost use Rattle.reader.specs.Reader.{opened, item_at, moved};
-ghost use Rattle.reader.specs.declared.Item.TheVariants.{Ended};
 
 use base::{Answer, Unit, limit, refusal};
 use charset::Side;
 use state::State;
 use units::Outcome;
 
-// What is handed out.
-#[derive(Clone, Copy)]
-pub enum Item {
-    // a unit
-    Given(Unit),
-    // the answer, once there is no further unit
-    Ended(Answer),
-}
+// What is handed out: a unit, or the answer once there is no further unit.
+pub type Item = Result<Unit, Answer>;
 
 // A place of a string and the state there, and how many units were handed out before.
 #[derive(Clone, Copy)]
@@ -39,56 +32,50 @@ pub struct Stepped {
 }
 
 // Whether a reader may stand at a place of a string of so many octets, under a state.
+#[tactic(auto, using(base::proofs::Ladder::ladder), unfolding(crate::specs::Step::may_stand))]
 pub fn may_stand(octets: usize, place: usize, state: State) -> bool
     ensures { result ≡ may_stand octets place state }
 {
-    if octets < place {
-        return false;
-    }
-    let sets = state.sets;
-    let directions = state.directions;
-    if charset::may_use(Side::GL, sets.gl) {
-        if charset::may_use(Side::GR, sets.gr) {
-            return directions.depth <= limit::DEPTH;
-        }
-        return false;
-    }
-    false
+    place <= octets
+        && charset::may_use(Side::GL, state.sets.gl)
+        && charset::may_use(Side::GR, state.sets.gr)
+        && state.directions.depth <= limit::DEPTH
 }
 
 // One more unit; the largest number stays.
+#[tactic(auto, using(base::proofs::Ladder::ladder), unfolding(crate::specs::Step::counted_of))]
 fn counted(count: usize) -> usize
     ensures { result ≡ counted_of count }
 {
-    if count < 0xFFFF_FFFF_FFFF_FFFF {
-        return count + 1;
-    }
-    count
+    count.saturating_add(1)
 }
 
 // The answer at the end, or at a refusal, after so many units.
+#[tactic(auto, using(base::proofs::Ladder::ladder), unfolding(crate::specs::Step::ended_of))]
 fn ended(number: u8, place: usize, count: usize) -> Answer
     ensures { result ≡ ended_of number place count }
 {
     if number == refusal::ACCEPTED {
-        return Answer::accepted(place, count);
+        Answer::accepted(place, count)
+    } else {
+        Answer::refused(number, place)
     }
-    Answer::refused(number, place)
 }
 
 // An answer, and where the reader stands with it.
 fn stands(place: usize, count: usize, state: State, answer: Answer) -> Stepped
-    ensures { result ≡ stepped (Ended answer) place count state }
+    ensures { result ≡ stepped (Err answer) place count state }
 {
     Stepped {
-        place: place,
-        count: count,
-        state: state,
-        item: Item::Ended(answer),
+        place,
+        count,
+        state,
+        item: Err(answer),
     }
 }
 
 // The step to the next unit; where there is none, to where the reading stops.
+#[tactic(auto, using(base::proofs::Ladder::ladder), unfolding(crate::specs::Step::after_of))]
 fn after(count: usize, o: Outcome) -> Stepped
     ensures { result ≡ after_of count o }
 {
@@ -97,13 +84,14 @@ fn after(count: usize, o: Outcome) -> Stepped
             place: next,
             count: counted(count),
             state: to,
-            item: Item::Given(unit),
+            item: Ok(unit),
         },
         Outcome::Stops(number, at, start, to) => stands(start, count, to, ended(number, at, count)),
     }
 }
 
 // A step from a place and a state of a string, after so many units.
+#[tactic(auto, using(base::proofs::Ladder::ladder), unfolding(crate::specs::Step::step_at))]
 pub fn step(s: &[u8], place: usize, count: usize, state: State) -> Stepped
     ensures { result ≡ step_at s.now place count state }
 {
@@ -111,14 +99,13 @@ pub fn step(s: &[u8], place: usize, count: usize, state: State) -> Stepped
         return stands(place, count, state, Answer::refused(refusal::TOO_LONG, 0));
     }
     if may_stand(s.len(), place, state) {
-        let o = units::next_unit(s, place, state);
-        return after(count, o);
+        return after(count, units::next_unit(s, place, state));
     }
     stands(place, count, state, Answer::refused(refusal::BAD_UNIT, 0))
 }
 
 // A reader at the start of a string.
-pub fn open<'a>(s: &'a [u8]) -> Reader<'a>
+pub fn open(s: &[u8]) -> Reader<'_>
     ensures { result ≡ opened s.entry }
 {
     Reader {
@@ -130,7 +117,7 @@ pub fn open<'a>(s: &'a [u8]) -> Reader<'a>
 }
 
 // The next item, and the reader moves on.
-pub fn next<'s, 'a>(r: &'s mut Reader<'a>) -> Item
+pub fn next(r: &mut Reader<'_>) -> Item
     ensures { (result ≡ item_at r.old) × (r.new ≡ moved r.old) }
 {
     let t = step(r.octets, r.place, r.count, r.state);

@@ -18,7 +18,7 @@ use Rattle.stretch.proofs.Starts.{Written, number, one_start, left_start_lem, wr
 use Rattle.stretch.proofs.Starts as stretched
 use Rattle.text.specs.Text.{graphic_of, second_octet_of}
 use Rattle.pieces.specs.Pieces.{piece, no_piece, side_kind_of, piece_kind_of, piece_of, is_run}
-use Rattle.pieces.specs.declared.Piece.{Piece}
+use Rattle.pieces.specs.Pieces.{Piece}
 use Rattle.pieces.proofs.Laws.{run_kind}
 use Rattle.pieces.proofs.Text.{written_goes}
 use Rattle.pieces.proofs.Step.{piece_at, on_past}

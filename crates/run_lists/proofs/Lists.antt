@@ -17,7 +17,7 @@ use Rattle.stretch.specs.Characters.{settled_of}
 use Rattle.designations.specs.Designation.{designation_at}
 use Rattle.designations.specs.declared.Designation.{Designation}
 use Rattle.pieces.specs.Pieces.{piece, is_run, set_in}
-use Rattle.pieces.specs.declared.Piece.{Piece}
+use Rattle.pieces.specs.Pieces.{Piece}
 use Rattle.pieces.proofs.Step.{element_at, piece_at}
 use Rattle.run_ends.specs.Ends.{left_to, right_to}
 use Rattle.run_ends.proofs.Spans.{left_grows, right_grows}

@@ -5,6 +5,7 @@ ghost use Rattle.std.specs.Prelude.{◌≡◌, true, ◌+◌, ◌*◌, ◌≤◌
 ghost use Rattle.base.specs.Limit as limits;
 ghost use Rattle.stretch.specs.Characters.{settled_of};
 ghost use Rattle.state.specs.Directions.{in_force_of};
+ghost use Rattle.pieces.specs.Pieces.{viewed};
 ghost use Rattle.runs.specs.Runs.{shown_of};
 ghost use Rattle.runs.specs.Steps.{position};
 ghost use Rattle.run_lists.specs.Listed.{word_of, upper_of, words_after, runs_step, end_of, given_from, checked_runs, next_runs_of, stand, Onward};
@@ -12,9 +13,9 @@ ghost use Rattle.run_lists.specs.Listed.{word_of, upper_of, words_after, runs_st
 use base::{Answer, limit, refusal};
 use charset::NO_SET;
 use designations::designation_at;
-use pieces::{Piece, TAB};
+use pieces::Piece;
 use run_ends::{left_end, right_end, text_end};
-use runs::stepping::{RunPosition, known, run_of, stopped};
+use runs::stepping::{RunPosition, known, stopped};
 use state::State;
 use stretch::characters::settled;
 
@@ -37,10 +38,7 @@ struct Stand {
 fn stays(position: RunPosition, answer: Answer) -> RunsStep
     ensures { result ≡ runs_step position answer }
 {
-    RunsStep {
-        position: position,
-        answer: answer,
-    }
+    RunsStep { position, answer }
 }
 
 // A step to a place of a string that is taken for accepted.
@@ -49,11 +47,11 @@ fn step_to(place: usize, state: State, answer: Answer) -> RunsStep
 {
     RunsStep {
         position: RunPosition {
-            place: place,
-            state: state,
+            place,
+            state,
             checked: true,
         },
-        answer: answer,
+        answer,
     }
 }
 
@@ -61,9 +59,9 @@ fn stand_at(place: usize, count: usize, state: State) -> Stand
     ensures { result ≡ stand place count state }
 {
     Stand {
-        place: place,
-        count: count,
-        state: state,
+        place,
+        count,
+        state,
     }
 }
 
@@ -87,12 +85,9 @@ fn joined(start: usize, end: usize, part: u64) -> u64
 // A run as a word.
 fn word(run: Piece) -> u64
     requires { (run.start ≤ limits.octets) × (run.end ≤ limits.octets) }
-    ensures { result ≡ word_of (shown_of 0 run) }
+    ensures { result ≡ word_of (shown_of 0 (viewed run)) }
 {
-    let set = pieces::set_in(run);
-    let state = run.state;
-    let directions = state.directions;
-    let part = upper(set, directions.in_force());
+    let part = upper(pieces::set_in(run), run.state.directions.in_force());
     joined(run.start, run.end, part)
 }
 
@@ -147,25 +142,23 @@ fn list_quickly(s: &[u8], l: Stand, out: &mut [u64]) -> Stand
     requires { length s.now ≤ limits.octets }
     ensures { Onward s.now l out.old result out.new }
 {
-    let state = l.state;
-    let directions = state.directions;
-    if settled(directions) {
-        return list_text(s, l, directions.in_force(), out);
+    if settled(l.state.directions) {
+        list_text(s, l, l.state.directions.in_force(), out)
+    } else {
+        l
     }
-    l
 }
 
 // The answer where no run is shown after k.
+#[tactic(auto, using(base::proofs::Ladder::ladder), unfolding(crate::specs::Listed::end_of))]
 fn end_of(n: usize, k: usize, answer: Answer) -> Answer
     ensures { result ≡ end_of n k answer }
 {
-    if k == 0 {
-        if answer.number == refusal::BAD_UNIT {
-            return Answer::accepted(n, 0);
-        }
-        return answer;
+    if k == 0 && answer.number != refusal::BAD_UNIT {
+        answer
+    } else {
+        Answer::accepted(n, k)
     }
-    Answer::accepted(n, k)
 }
 
 // The runs from a place and a state on. What is no character or space that leaves the state as it is, and no designation, is passed by itself.
@@ -177,22 +170,23 @@ fn list_from(s: &[u8], place: usize, state: State, out: &mut [u64]) -> RunsStep
     let mut l = stand_at(place, 0, state);
     loop {
         l = list_quickly(s, l, out);
-        let at = l.place;
-        let k = l.count;
-        let st = l.state;
+        let Stand {
+            place: at,
+            count: k,
+            state: st,
+        } = l;
         if out.len() <= k {
             return step_to(at, st, Answer::accepted(s.len(), k));
         }
-        let next = pieces::piece_at(s, at, st);
+        let Some(next) = pieces::piece_at(s, at, st) else {
+            return step_to(at, st, end_of(s.len(), k, stopped(s, at, st)));
+        };
         let after = next.state;
-        if next.kind < TAB {
+        if next.kind.is_run() {
             let end = text_end(s, next.end, after.sets, next.kind);
-            out[k] = word(run_of(next.start, end, next.kind, after));
+            out[k] = word(Piece { end, ..next });
             l = stand_at(end, k + 1, after);
             continue;
-        }
-        if next.end == at {
-            return step_to(at, st, end_of(s.len(), k, stopped(s, at, st)));
         }
         l = stand_at(next.end, k, after);
     }

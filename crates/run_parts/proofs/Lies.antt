@@ -1,7 +1,7 @@
 -- The bounds of a run lie in the string: its piece does, since the pieces lie end to end.
 use Rattle.element.proofs.Names.{ℕ, zero, suc, ◌≤◌, ◌<◌, zero-le, arith, Bool, true, false, ◌≡◌, List, ◌∷◌, length, pick, from}
 use Rattle.pieces.specs.Pieces.{is_run, pieces_of}
-use Rattle.pieces.specs.declared.Piece.{Piece}
+use Rattle.pieces.specs.Pieces.{Piece}
 use Rattle.pieces.specs.Partition.{EndToEnd, none, more}
 use Rattle.pieces.proofs.Partition.{pieces_tiled}
 use Rattle.runs.specs.Runs.{runs_in, runs_of, shown_of, nth_run_of, run_at}

@@ -25,27 +25,19 @@ pub fn run_at(s: &[u8], k: usize) -> Bounds
     }
     let mut at: usize = 0;
     let mut st = State::FRESH;
-    let mut left = k;
-    loop {
+    for _ in 0..k {
         let t = run_from(s, at, st);
-        let run = t.run;
-        let answer = run.answer;
-        if left == 0 {
-            return run;
+        if t.run.answer.number != refusal::ACCEPTED {
+            return t.run;
         }
-        if answer.number != refusal::ACCEPTED {
-            return run;
-        }
-        let p = t.position;
-        let next = p.state;
-        at = p.place;
-        st = next;
-        left -= 1;
+        at = t.position.place;
+        st = t.position.state;
     }
+    run_from(s, at, st).run
 }
 
 // That very part of the string.
-fn part<'a>(s: &'a [u8], start: usize, end: usize) -> &'a [u8]
+fn part(s: &[u8], start: usize, end: usize) -> &[u8]
     requires { (start ≤ end) × (end ≤ length s.now) }
     ensures { (result.now ≡ take (end - start) (drop start s.now)) × StartsAt result s.entry start }
 {
@@ -53,13 +45,12 @@ fn part<'a>(s: &'a [u8], start: usize, end: usize) -> &'a [u8]
 }
 
 // The k-th run of a string, as that very part of it.
-pub fn run<'a>(s: &'a [u8], k: usize) -> Run<'a>
+pub fn run(s: &[u8], k: usize) -> Run<'_>
     ensures { Shown s.entry k result }
 {
     let b = run_at(s, k);
-    let p = part(s, b.start, b.end);
     Run {
-        part: p,
+        part: part(s, b.start, b.end),
         answer: b.answer,
         set: b.set,
         width: b.width,
@@ -72,6 +63,5 @@ pub fn run_octet(s: &[u8], k: usize, i: usize) -> u8
     ensures { result ≡ get_or (run_octets s.now k) i 0 }
 {
     let b = run_at(s, k);
-    let p = part(s, b.start, b.end);
-    octet_blocks::octet(p, i)
+    octet_blocks::octet(part(s, b.start, b.end), i)
 }

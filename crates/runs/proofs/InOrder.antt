@@ -13,7 +13,7 @@ use Rattle.grammar.proofs.Agrees.{zero_none}
 use Rattle.reader.specs.Step.{may_stand}
 use Rattle.reader.proofs.Whole.{may_stand_lem, fresh-fit}
 use Rattle.pieces.specs.Pieces.{is_run, same_run_of, longer, joined, pieces_of}
-use Rattle.pieces.specs.declared.Piece.{Piece}
+use Rattle.pieces.specs.Pieces.{Piece}
 use Rattle.pieces.proofs.Step.{element_at, piece_at, rest, no_refusal}
 use Rattle.runs.specs.Runs.{runs_in, runs_of, shown_of, no_run, nth_run_of, run_at}
 use Rattle.runs.specs.Steps.{first_position, stays, run_step_to, stop_at, run_from, known_of, checked_from, next_run_of, position_after}

@@ -11,8 +11,10 @@ use Rattle.designations.specs.Designation.{designation_at}
 use Rattle.designations.specs.declared.Designation.{Designation}
 use Rattle.designations.proofs.Designations.{designation_silent}
 use Rattle.pieces.specs.PieceKind as piece_kind
-use Rattle.pieces.specs.Pieces.{piece, no_piece, side_kind_of, piece_of, is_run, same_run_of, joined, pieces_from}
-use Rattle.pieces.specs.declared.Piece.{Piece}
+use Rattle.pieces.specs.Pieces.{Piece, piece, no_piece, kind_number, viewed, side_kind_of, piece_of, is_run, same_run_of, joined, pieces_from}
+use Rattle.pieces.specs.declared.Piece.{Piece as CodePiece}
+use Rattle.pieces.specs.declared.PieceKind.{PieceKind}
+use Rattle.pieces.specs.declared.PieceKind.TheVariants.{GlRun, GrRun, Tab, Newline, Control, Segment}
 use Rattle.pieces.specs.Partition.{EndToEnd, state_from}
 use Rattle.pieces.specs.Partition as tile
 use Rattle.pieces.proofs.Joined.{same_kind, joined_apart, joined_same}
@@ -44,6 +46,15 @@ agree n left tile.none h = refl
 agree n left {f} {g} (tile.more {p} {ps} b l t) h =
     ap (λ (x : State). pick (is_run p.kind) (run_step_to p.end x (shown_of n p)) (first_of n f left ps)) (h p.end (omega arith)) ∙
     ap (λ (r : RunStep). pick (is_run p.kind) (run_step_to p.end (g p.end) (shown_of n p)) r) (agree n left t (λ i k. h i (omega arith)))
+
+-- each kind is that of a piece
+kind_low : (k : PieceKind) → kind_number k < piece_kind.none
+kind_low GlRun = omega arith
+kind_low GrRun = omega arith
+kind_low Tab = omega arith
+kind_low Newline = omega arith
+kind_low Control = omega arith
+kind_low Segment = omega arith
 
 joined_other : (p : Piece) (ps : List Piece) → is_run p.kind ≡ false → joined p ps ≡ p ∷ ps
 unfolding joined same_run_of pick
@@ -162,6 +173,14 @@ module _ (s : List ℕ) where
 
     pub moved : (q : Piece) → q ≡ piece_at s at st → (q.end ≡ at → ⊥) → Moved q
     moved q is n = rw is (moved_by (step s at st) (rw is at n) (leads_by at st (element_at s at st) refl (rw is at n)))
+
+    -- what is given at a place is a piece of some octets
+    given-moves : {q : Piece} → Step s at st q → q.kind < piece_kind.none → q.end ≡ at → ⊥
+    given-moves (stops e x) h n = omega arith
+    given-moves (goes b l u e x) h n = omega arith
+
+    pub given_moves : (p : CodePiece) → viewed p ≡ piece_at s at st → p.end ≡ at → ⊥
+    given_moves p is = given-moves {q = viewed p} (rw is (step s at st)) (kind_low p.kind)
 
     run-moves : {q : Piece} → Step s at st q → q.kind < 2 → q.end ≡ at → ⊥
     run-moves (stops e x) h n = omega arith

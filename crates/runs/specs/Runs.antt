@@ -10,7 +10,7 @@ use Rattle.grammar.specs.Reading.{check_of}
 use Rattle.state.specs.Directions.{in_force_of}
 use Rattle.pieces.specs.Pieces.{is_run, pieces_of, set_in}
 use Rattle.runs.specs.declared.Bounds.{Bounds}
-use Rattle.pieces.specs.declared.Piece.{Piece}
+use Rattle.pieces.specs.Pieces.{Piece}
 
 -- the runs among pieces
 unfoldable pub runs_in : List Piece → List Piece

@@ -12,7 +12,7 @@ use Rattle.state.specs.declared.State.{State}
 use Rattle.state.specs.Elements.{Element}
 use Rattle.state.specs.Elements.{End, Refused, Silent, Found}
 use Rattle.pieces.specs.Pieces.{is_run, pieces_from, state_at}
-use Rattle.pieces.specs.declared.Piece.{Piece}
+use Rattle.pieces.specs.Pieces.{Piece}
 use Rattle.reader.specs.Step.{may_stand}
 use Rattle.runs.specs.Runs.{shown_of, no_run}
 use Rattle.runs.specs.declared.Bounds.{Bounds}

@@ -2,9 +2,10 @@
 #![tactic(auto)]
 
 ghost use Rattle.std.specs.Prelude.{◌≡◌, ◌≤◌};
+ghost use Rattle.pieces.specs.Pieces.{viewed};
 ghost use Rattle.runs.specs.Runs.{width_of, shown_of, no_run};
 
-use base::{Answer, direction, refusal};
+use base::{Answer, direction};
 use charset::FORM_94X94;
 use pieces::Piece;
 
@@ -23,13 +24,15 @@ pub struct Bounds {
 }
 
 // How many octets a character of a set has.
+#[tactic(auto, using(base::proofs::Ladder::ladder), unfolding(crate::specs::Runs::width_of))]
 pub fn width(set: u8) -> u8
     ensures { result ≡ width_of set }
 {
     if charset::form_of(set) == FORM_94X94 {
-        return 2;
+        2
+    } else {
+        1
     }
-    1
 }
 
 pub fn no_run(answer: Answer) -> Bounds
@@ -38,7 +41,7 @@ pub fn no_run(answer: Answer) -> Bounds
     Bounds {
         start: 0,
         end: 0,
-        answer: answer,
+        answer,
         set: 0,
         width: 0,
         direction: direction::NONE,
@@ -46,26 +49,18 @@ pub fn no_run(answer: Answer) -> Bounds
 }
 
 // A run of a string of n octets.
+#[tactic(auto, using(base::proofs::Ladder::ladder), unfolding(crate::specs::Runs::shown_of))]
 fn shown(n: usize, run: Piece) -> Bounds
     requires { run.start ≤ run.end }
-    ensures { result ≡ shown_of n run }
+    ensures { result ≡ shown_of n (viewed run) }
 {
     let set = pieces::set_in(run);
-    let width = width(set);
-    let state = run.state;
-    let directions = state.directions;
-    let direction = directions.in_force();
-    let answer = Answer {
-        place: n,
-        count: run.end - run.start,
-        number: refusal::ACCEPTED,
-    };
     Bounds {
         start: run.start,
         end: run.end,
-        answer: answer,
-        set: set,
-        width: width,
-        direction: direction,
+        answer: Answer::accepted(n, run.end - run.start),
+        set,
+        width: width(set),
+        direction: run.state.directions.in_force(),
     }
 }

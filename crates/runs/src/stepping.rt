@@ -2,7 +2,7 @@
 ghost use Rattle.std.specs.Prelude.{◌≡◌, ◌≤◌};
 ghost use Rattle.base.specs.Choice.{from};
 ghost use Rattle.element.specs.Element.{element_of};
-ghost use Rattle.pieces.specs.Pieces.{piece};
+ghost use Rattle.pieces.specs.Pieces.{viewed};
 ghost use Rattle.runs.specs.Runs.{shown_of};
 ghost use Rattle.runs.specs.Steps.{first_position, stays, run_step_to, stop_at, run_from, known_of, checked_from, next_run_of};
 
@@ -10,7 +10,7 @@ use crate::Bounds;
 use base::{Answer, limit, refusal};
 use charset::NO_SET;
 use designations::designation_at;
-use pieces::{Piece, TAB};
+use pieces::Piece;
 use run_ends::text_end;
 use state::State;
 use state::elements::Element;
@@ -58,22 +58,11 @@ fn step_to(place: usize, state: State, run: Bounds) -> RunStep
 {
     RunStep {
         position: RunPosition {
-            place: place,
-            state: state,
+            place,
+            state,
             checked: true,
         },
-        run: run,
-    }
-}
-
-pub fn run_of(start: usize, end: usize, kind: u8, state: State) -> Piece
-    ensures { result ≡ piece start end kind state }
-{
-    Piece {
-        start: start,
-        end: end,
-        state: state,
-        kind: kind,
+        run,
     }
 }
 
@@ -100,7 +89,7 @@ fn stop_at(s: &[u8], at: usize, st: State) -> RunStep
 // A step that shows a run of a string of n octets, in the state after it.
 fn step_over(n: usize, run: Piece) -> RunStep
     requires { run.start ≤ run.end }
-    ensures { result ≡ run_step_to run.end run.state (shown_of n run) }
+    ensures { result ≡ run_step_to run.end run.state (shown_of n (viewed run)) }
 {
     step_to(run.end, run.state, crate::shown(n, run))
 }
@@ -127,17 +116,24 @@ pub fn run_from(s: &[u8], place: usize, state: State) -> RunStep
             let kind = pieces::side_kind(b);
             let end = text_end(s, at, st.sets, kind);
             if at < end {
-                return step_over(s.len(), run_of(at, end, kind, st));
+                return step_over(
+                    s.len(),
+                    Piece {
+                        start: at,
+                        end,
+                        state: st,
+                        kind,
+                    },
+                );
             }
         }
-        let next = pieces::piece_at(s, at, st);
-        let after = next.state;
-        if next.kind < TAB {
-            let end = text_end(s, next.end, after.sets, next.kind);
-            return step_over(s.len(), run_of(next.start, end, next.kind, after));
-        }
-        if next.end == at {
+        let Some(next) = pieces::piece_at(s, at, st) else {
             return stop_at(s, at, st);
+        };
+        let after = next.state;
+        if next.kind.is_run() {
+            let end = text_end(s, next.end, after.sets, next.kind);
+            return step_over(s.len(), Piece { end, ..next });
         }
         at = next.end;
         st = after;
@@ -146,16 +142,19 @@ pub fn run_from(s: &[u8], place: usize, state: State) -> RunStep
 }
 
 // The answer of the check, which is not asked for where it is known that it accepts.
+#[tactic(auto, using(base::proofs::Ladder::ladder), unfolding(crate::specs::Steps::known_of))]
 pub fn known(s: &[u8], checked: bool) -> Answer
     ensures { result ≡ known_of s.now checked }
 {
     if checked {
-        return Answer::accepted(0, 0);
+        Answer::accepted(0, 0)
+    } else {
+        check_string::answer(s)
     }
-    check_string::answer(s)
 }
 
 // The first run from a position on; the string is checked where that is not done yet.
+#[tactic(auto, using(base::proofs::Ladder::ladder), unfolding(crate::specs::Steps::checked_from))]
 fn checked_from(s: &[u8], p: RunPosition) -> RunStep
     ensures { result ≡ checked_from s.now p }
 {
@@ -168,6 +167,7 @@ fn checked_from(s: &[u8], p: RunPosition) -> RunStep
 
 // The next run from a position, and the position after it. The whole string is checked in the first step alone, and each octet is then read
 // once, or twice.
+#[tactic(auto, using(base::proofs::Ladder::ladder), unfolding(crate::specs::Steps::next_run_of))]
 pub fn next_run(s: &[u8], p: RunPosition) -> RunStep
     ensures { result ≡ next_run_of s.now p }
 {

@@ -3,7 +3,6 @@
 #![tactic(auto)]
 
 use base::{Answer, Unit};
-use reader::Item;
 use state::directions::Directions;
 use state::{Sets, State};
 use std::io;
@@ -64,8 +63,8 @@ fn show_items(rt: &impl Print, s: &[u8]) -> io::Result<()> {
     for k in 0..10 {
         let i = by_value::nth(s, k);
         match i {
-            Item::Given(unit) => show_unit(rt, unit)?,
-            Item::Ended(answer) => return show_answer(rt, answer),
+            Ok(unit) => show_unit(rt, unit)?,
+            Err(answer) => return show_answer(rt, answer),
         }
     }
     Ok(())
@@ -95,8 +94,8 @@ fn show_step(
     rt.write_all(b" made by hand\n")?;
     let i = t.item;
     match i {
-        Item::Given(unit) => show_unit(rt, unit)?,
-        Item::Ended(answer) => show_answer(rt, answer)?,
+        Ok(unit) => show_unit(rt, unit)?,
+        Err(answer) => show_answer(rt, answer)?,
     }
     rt.write_all(b"  then")?;
     number(rt, t.place as u64)?;

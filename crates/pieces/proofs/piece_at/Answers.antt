@@ -9,17 +9,17 @@ pub returns-then-s-at : goal.returns-then-s-at
 unfolding piece_of
 returns-then-s-at c = search on_past
 
-pub overflow_add-end : goal.overflow_add-end
+pub overflow_add-result : goal.overflow_add-result
 unfolding piece_of
-overflow_add-end c = let h = fits _ _ _ silent (sym c.element-e.ensures ∙ c.in-Silent.is) in omega arith
+overflow_add-result c = let h = fits _ _ _ silent (sym c.element-e.ensures ∙ c.in-Silent.is) in omega arith
 
 pub overflow_add-size : goal.overflow_add-size
 unfolding piece_of
 overflow_add-size c = let h = fits _ _ _ found (sym c.element-e.ensures ∙ c.in-Found.is) in omega arith
 
-pub overflow_add-end-in-Found : goal.overflow_add-end-in-Found
+pub overflow_add-result-in-Found : goal.overflow_add-result-in-Found
 unfolding piece_of
-overflow_add-end-in-Found c = let h = fits _ _ _ found (sym c.element-e.ensures ∙ c.in-Found.is) in omega arith
+overflow_add-result-in-Found c = let h = fits _ _ _ found (sym c.element-e.ensures ∙ c.in-Found.is) in omega arith
 
 pub returns-in-End : goal.returns-in-End
 unfolding piece_of

@@ -7,11 +7,8 @@ pub list_text-requires : goal.list_text-requires
 list_text-requires c = let pre = c.requires in
     (pre, sym c.settled.ensures ∙ c.if-settled.true, c.in_force.ensures)
 
-pub shape_of-out-then-settled : goal.shape_of-out-then-settled
-shape_of-out-then-settled c = c.list_text.ensures.long
-
 pub returns-then-settled : goal.returns-then-settled
 returns-then-settled c = c.list_text.ensures
 
-pub returns : goal.returns
-returns c = on_first_lem _ _ _
+pub returns-else-settled : goal.returns-else-settled
+returns-else-settled c = on_first_lem _ _ _

@@ -5,4 +5,4 @@ use Rattle.run_lists.proofs.word.Goals as goal
 
 pub returns : goal.returns
 unfolding shown_of
-returns c = rw (c.joined.ensures, c.upper-part.ensures.0, c.in_force.ensures, c.set_in-set.ensures) refl
+returns c = rw (c.joined.ensures, c.upper-part.ensures.0, c.in_force.ensures, c.set_in.ensures) refl

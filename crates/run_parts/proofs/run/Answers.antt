@@ -2,5 +2,5 @@
 use Rattle.run_parts.proofs.Lies.{lies_as}
 use Rattle.run_parts.proofs.run.Goals as goal
 
-pub part-p-requires : goal.part-p-requires
-part-p-requires c = lies_as _ _ c.run_at-b.ensures
+pub part-requires : goal.part-requires
+part-requires c = lies_as _ _ c.run_at-b.ensures

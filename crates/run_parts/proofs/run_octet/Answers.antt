@@ -2,8 +2,8 @@
 use Rattle.run_parts.proofs.Lies.{lies_as}
 use Rattle.run_parts.proofs.run_octet.Goals as goal
 
-pub part-p-requires : goal.part-p-requires
-part-p-requires c = lies_as _ _ c.run_at-b.ensures
+pub part-requires : goal.part-requires
+part-requires c = lies_as _ _ c.run_at-b.ensures
 
 pub returns : goal.returns
-returns c = rw (c.octet.ensures, c.part-p.ensures.0, c.run_at-b.ensures)
+returns c = rw (c.octet.ensures, c.part.ensures.0, c.run_at-b.ensures)
