@@ -1,9 +1,10 @@
 -- The list that `archive::read` fills, record by record at a cursor, is the list of its contract (`filled`), and the cursor of each record that is
 -- stored is one from which a unit is next (`ready`): the laws of `read` on any way to read the unit at a cursor, for the unit of the elements.
-use Rattle.element.proofs.Names.{ℕ, ◌<◌, arith, ◌≡◌, refl, ap, sym, ◌∙◌, List, length, UnitRecord, State}
+use Rattle.element.proofs.Names.{ℕ, zero, suc, ◌<◌, arith, ◌≡◌, refl, ap, sym, ◌∙◌, List, [], ◌∷◌, ◌++◌, length, take, drop, UnitRecord, State}
 use Rattle.units.specs.Next.{next_of}
 use Rattle.units.specs.Next.{Outcome}
 use Rattle.walks.proofs.Filling.{length_fill}
+use Rattle.walks.proofs.Filling.{fill_from, length_fill}
 use Rattle.cursor.specs.Cursor.{cursor, first, state_in, element_turn}
 use Rattle.cursor.specs.declared.Cursor.{Cursor}
 use Rattle.cursor.proofs.Free.{Like, like}
@@ -21,6 +22,13 @@ ready_by s c (alike {u = u} {place = place}) e = record { row = refl; force = re
 
 ready_at : (s : List ℕ) (at : ℕ) {st to : State} {given : Outcome} → Like st to → Alike (next_of s at to) given → Ready s (rowed (cursor at to))
 ready_at s at {st} like a = ready_by s (cursor at st) a refl
+
+-- a list whose first places alone are filled, by the part that they are
+fill_front : {X S : Type 0} (unit : S → X) (next : S → S) (n : ℕ) (c : S) (ys : List X)
+    → fill_from unit next n c (take n ys) ++ drop n ys ≡ fill_from unit next n c ys
+fill_front unit next zero c ys = refl
+fill_front unit next (suc n) c [] = refl
+fill_front unit next (suc n) c (y ∷ ys) = ap (λ l. unit c ∷ l) (fill_front unit next n (next c) ys)
 
 module _ (s : List ℕ) (ys : List UnitRecord) where
   -- the cursor and the list after so many steps
@@ -43,3 +51,7 @@ module _ (s : List ℕ) (ys : List UnitRecord) where
 
   pub length_after : length (list_after s ys) ≡ length ys
   length_after = ap length (sym filled) ∙ length_fill (unit_by element_turn s) (after_by element_turn s) n first ys
+
+  -- the same where no more of the list is lent than is filled
+  pub filled_front : filled_by element_turn s n first (take n ys) ++ drop n ys ≡ list_after s ys
+  filled_front = fill_front (unit_by element_turn s) (after_by element_turn s) n first ys ∙ filled

@@ -3,16 +3,10 @@ ghost use Rattle.std.specs.Prelude.{◌≡◌, ◌≤◌, ◌<◌, length};
 ghost use Rattle.octet_table.specs.Table.{table};
 ghost use Rattle.archive_laws.specs.Passes.{Classed};
 
-fn wide(b: u8) -> usize
-    ensures { (result ≡ b) × (result < 256) }
-{
-    b as usize
-}
-
 // The class of the octet at a place, in the row that starts at an entry.
 pub fn class_at(t: &[u8], s: &[u8], at: usize, row: usize) -> u8
     requires { (t.now ≡ table) × (row ≤ 1280) × (at < length s.now) }
     ensures { Classed row s.now at result }
 {
-    t[row + wide(s[at])]
+    t[row + usize::from(s[at])]
 }

@@ -29,24 +29,22 @@ fn answer(t: &[u8], s: &[u8], room: usize) -> Answer
     ensures { result ≡ read_answer s.now room }
 {
     let a = check_by(t, s);
-    if a.number == refusal::ACCEPTED {
-        if room < a.count {
-            return Answer::no_room(a.count);
-        }
-        return a;
+    if a.number == refusal::ACCEPTED && room < a.count {
+        return Answer::no_room(a.count);
     }
     a
 }
 
 // How many records an answer stores.
+#[tactic(auto, using(base::proofs::Ladder::ladder), unfolding(read::specs::Listing::stored_of))]
 fn stored(a: Answer) -> usize
     ensures { result ≡ stored_of a }
 {
-    let number = a.number;
-    if number == refusal::ACCEPTED {
-        return a.count;
+    if a.number == refusal::ACCEPTED {
+        a.count
+    } else {
+        0
     }
-    0
 }
 
 // The units of a string by the table that is lent.
@@ -56,14 +54,11 @@ fn read_by(t: &[u8], s: &[u8], units: &mut [Unit]) -> Answer
         × (units.new ≡ list_after s.now units.old) }
 {
     let a = answer(t, s, units.len());
-    let n = stored(a);
     let mut c = RowCursor::first();
-    let mut i: usize = 0;
-    while i < n {
+    for unit in &mut units[..stored(a)] {
         let r = turn(t, s, c);
-        units[i] = r.unit;
+        *unit = r.unit;
         c = r.cursor;
-        i += 1;
     }
     a
 }

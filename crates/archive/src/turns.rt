@@ -46,50 +46,41 @@ impl RowCursor {
         requires { self.cursor.place + octets < 2 ^ 64 }
         ensures { result ≡ moved_by self octets }
     {
-        let c = self.cursor;
-        let place = c.place + octets;
         RowCursor {
-            cursor: c.placed_at(place),
-            row: self.row,
-            direction: self.direction,
+            cursor: self.cursor.placed_at(self.cursor.place + octets),
+            ..self
         }
     }
 }
 
 // A space, a tab and a newline have neither set nor code.
+#[tactic(auto, using(base::proofs::Ladder::ladder), unfolding(crate::specs::Turns::if_character))]
 fn if_character(k: u8, x: u8) -> u8
     ensures { result ≡ if_character k x }
 {
-    if k % 4 == 0 {
-        return x;
-    }
-    0
+    if k % 4 == 0 { x } else { 0 }
 }
 
 // The set on the side of a class.
+#[tactic(auto, using(base::proofs::Ladder::ladder), unfolding(crate::specs::Turns::set_by))]
 fn set_by(k: u8, gl: u8, gr: u8) -> u8
     ensures { result ≡ set_by k gl gr }
 {
-    if k == ONE_GR {
-        return gr;
-    }
-    gl
+    if k == ONE_GR { gr } else { gl }
 }
 
 // The record of a unit of one octet at a cursor, by its class.
 fn one(c: Cursor, b: u8, k: u8, set: u8, direction: u16) -> Unit
     ensures { result ≡ one_record c b k set direction }
 {
-    let code = if_character(k, b % 128) as u16;
-    let start = (c.place % 0x1_0000_0000) as u32;
     Unit {
         kind: k % 4,
         set: if_character(k, set),
-        code: code,
-        start: start,
+        code: if_character(k, b % 128).into(),
+        start: (c.place % 0x1_0000_0000) as u32,
         length: 1,
-        direction: direction,
-        depth: c.depth as u16,
+        direction,
+        depth: c.depth.into(),
     }
 }
 
@@ -99,14 +90,13 @@ fn with_row(t: Turn) -> RowTurn
     ensures { result ≡ rowed_turn t }
 {
     let next = t.cursor;
-    let unit = t.unit;
     RowTurn {
         cursor: RowCursor {
             cursor: next.placed_at(next.place),
             row: row_of(next.gl, next.gr),
             direction: next.direction(),
         },
-        unit: unit,
+        unit: t.unit,
     }
 }
 
@@ -130,16 +120,14 @@ fn two_left(c: Cursor, b: u8, d: u8, direction: u16) -> Unit
     requires { (b < 128) × (d < 128) }
     ensures { result ≡ two_record c b d c.gl direction }
 {
-    let code = b as u16 * 256 + d as u16;
-    let start = (c.place % 0x1_0000_0000) as u32;
     Unit {
         kind: kind::CHARACTER,
         set: c.gl,
-        code: code,
-        start: start,
+        code: u16::from_be_bytes([b, d]),
+        start: (c.place % 0x1_0000_0000) as u32,
         length: 2,
-        direction: direction,
-        depth: c.depth as u16,
+        direction,
+        depth: c.depth.into(),
     }
 }
 
@@ -175,10 +163,7 @@ fn passed(s: &[u8], c: RowCursor) -> RowCursor
 {
     let j = c.cursor;
     let at = j.place;
-    if s.len() - at < 4 {
-        return c;
-    }
-    if s[at] != 0x1B {
+    if s.len() - at < 4 || s[at] != 0x1B {
         return c;
     }
     let d = told(s[at + 1], s[at + 1 + 1], s[at + 1 + 1 + 1]);

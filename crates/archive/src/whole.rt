@@ -3,39 +3,34 @@
 ghost use Rattle.std.specs.Prelude.{◌≡◌, true, ◌≤◌, ◌<◌, length};
 ghost use Rattle.grammar.specs.Reading.{check_of};
 ghost use Rattle.octet_table.specs.Table.{table};
-ghost use Rattle.state.specs.State.{sets, state};
+ghost use Rattle.state.specs.State.{state};
 ghost use Rattle.archive_laws.specs.Passes.{text_class, TextAt, Leads, LeadsBy, Places};
 
-use crate::quick::{Reach, blanks, quick, reached};
+use crate::quick::{Reach, blanks, quick};
 use base::{Answer, limit, refusal};
 use charset::{NO_SET, Side};
 use designations::designation_at;
 use octet_stretches::class_at;
-use octet_table::{ONE_GR, SPACE, TWO_GR, row_of};
+use octet_table::{ONE_GL, ONE_GR, SPACE, TWO_GR, row_of};
 use state::directions::Step;
 use state::elements::Shape;
 use state::{Sets, State};
 use stretch::characters::settled;
 
 // A class of text: a space, or what a character starts with.
+#[tactic(auto, using(base::proofs::Ladder::ladder), unfolding(archive_laws::specs::Passes::text_class))]
 fn text_class(k: u8) -> bool
     ensures { result ≡ text_class k }
 {
-    if k <= SPACE {
-        return true;
-    }
-    if k < ONE_GR {
-        return false;
-    }
-    k <= TWO_GR
+    matches!(k, ONE_GL..=SPACE | ONE_GR..=TWO_GR)
 }
 
 // Whether text is next at a place.
-fn text_at(t: &[u8], s: &[u8], at: usize, gl: u8, gr: u8) -> bool
+fn text_at(t: &[u8], s: &[u8], at: usize, sets: Sets) -> bool
     requires { (1536 ≤ length t.now) × (at < length s.now) }
-    ensures { t.now ≡ table → result ≡ true → TextAt (sets gl gr) s.now at }
+    ensures { t.now ≡ table → result ≡ true → TextAt sets s.now at }
 {
-    let row = row_of(gl, gr);
+    let row = row_of(sets.gl, sets.gr);
     text_class(class_at(&t[row..row + 256], s, at))
 }
 
@@ -45,14 +40,7 @@ fn begun(t: &[u8], s: &[u8], at: usize, st: State) -> State
     ensures { t.now ≡ table → Leads s.now at st at result 0 }
 {
     let mut directions = st.directions;
-    let sets = st.sets;
-    if directions.marked {
-        return st;
-    }
-    if directions.texted {
-        return st;
-    }
-    if text_at(t, s, at, sets.gl, sets.gr) {
+    if !directions.marked && !directions.texted && text_at(t, s, at, st.sets) {
         directions.texted = true;
         return st.directed(directions);
     }
@@ -60,50 +48,48 @@ fn begun(t: &[u8], s: &[u8], at: usize, st: State) -> State
 }
 
 // The designations at a place, as many as follow each other.
-fn placed(s: &[u8], at: usize, gl: u8, gr: u8) -> Reach
+fn placed(s: &[u8], at: usize, start: Sets) -> Reach
     requires { at ≤ length s.now }
-    ensures { Places s.now at (sets gl gr) result.place (sets result.gl result.gr) × (result.units ≡ 0) }
+    ensures { Places s.now at start result.place result.sets × (result.units ≡ 0) }
 {
-    let mut i = at;
-    let mut left = gl;
-    let mut right = gr;
-    while i < s.len() {
-        if s[i] != 0x1B {
-            return reached(i, 0, left, right);
-        }
-        let d = designation_at(s, i);
+    let mut place = at;
+    let mut sets = start;
+    while place < s.len() && s[place] == 0x1B {
+        let d = designation_at(s, place);
         let set = d.set;
         if NO_SET <= set {
-            return reached(i, 0, left, right);
+            break;
         }
         let side = d.side;
-        i += d.octets;
+        place += d.octets;
         match side {
-            Side::GL => {
-                left = set;
-            }
-            Side::GR => {
-                right = set;
-            }
+            Side::GL => sets.gl = set,
+            Side::GR => sets.gr = set,
         }
     }
-    reached(i, 0, left, right)
+    Reach {
+        place,
+        units: 0,
+        sets,
+    }
 }
 
 // What is passed at a place at once: units and designations where text leaves the
 // directions as they are, else designations, and then tabs and newlines.
 fn passed(t: &[u8], s: &[u8], at: usize, st: State) -> Reach
     requires { (1536 ≤ length t.now) × (at ≤ length s.now) }
-    ensures { LeadsBy t.now s.now at st result.place (state (sets result.gl result.gr) st.directions) result.units }
+    ensures { LeadsBy t.now s.now at st result.place (state result.sets st.directions) result.units }
 {
-    let directions = st.directions;
-    let sets = st.sets;
-    if settled(directions) {
-        return quick(t, s, at, sets.gl, sets.gr);
+    if settled(st.directions) {
+        return quick(t, s, at, st.sets);
     }
-    let d = placed(s, at, sets.gl, sets.gr);
-    let i = blanks(t, s, d.place);
-    reached(i, i - d.place, d.gl, d.gr)
+    let d = placed(s, at, st.sets);
+    let place = blanks(t, s, d.place);
+    Reach {
+        place,
+        units: place - d.place,
+        sets: d.sets,
+    }
 }
 
 // Whether a string is accepted, and what of it is refused. Units and designations are passed at once, and any other element by itself; a mark, which
@@ -121,23 +107,16 @@ fn whole(t: &[u8], s: &[u8]) -> Answer
     while at < s.len() {
         if s[at] != 0x9B {
             st = begun(t, s, at, st);
-            let directions = st.directions;
             let p = passed(t, s, at, st);
             let began = at;
             at = p.place;
             count += p.units;
-            let sets = Sets { gl: p.gl, gr: p.gr };
-            st = State {
-                directions: directions,
-                sets: sets,
-            };
+            st.sets = p.sets;
             if s.len() <= at {
-                return Answer::accepted(at, count);
+                break;
             }
-            if began < at {
-                if !settled(directions) {
-                    continue;
-                }
+            if began < at && !settled(st.directions) {
+                continue;
             }
         }
         let sets = st.sets;

@@ -13,49 +13,35 @@ use state::State;
 use state::elements::Element;
 
 // Whether 9B and these octets are a direction mark.
+#[tactic(auto, using(base::proofs::Ladder::ladder), unfolding(x11r5::specs::Reading::mark_by))]
 fn mark(x: u8, y: u8) -> bool
     ensures { result ≡ mark_by x y }
 {
-    if x == 0x5D {
-        return true;
+    match x {
+        0x5D => true,
+        0x31 | 0x32 => y == 0x5D,
+        _ => false,
     }
-    if x == 0x31 {
-        return y == 0x5D;
-    }
-    if x == 0x32 {
-        return y == 0x5D;
-    }
-    false
 }
 
 // Whether 1B and these octets begin an extended segment.
+#[tactic(auto, using(base::proofs::Ladder::ladder), unfolding(x11r5::specs::Reading::segment_by))]
 fn segment(x: u8, y: u8, d: u8) -> bool
     ensures { result ≡ segment_by x y d }
 {
-    if x == 0x25 {
-        if y == 0x2F {
-            if d < 0x30 {
-                return false;
-            }
-            return d <= 0x34;
-        }
-        return false;
-    }
-    false
+    matches!((x, y, d), (0x25, 0x2F, 0x30..=0x34))
 }
 
 // Whether X11R5 does not have what these octets start with.
+#[tactic(auto, using(base::proofs::Ladder::ladder), unfolding(x11r5::specs::Reading::unsupported_at))]
 fn unsupported(t: &[u8]) -> bool
     ensures { result ≡ unsupported_at t.now }
 {
-    let b = octet(t, 0);
-    if b == 0x9B {
-        return mark(octet(t, 1), octet(t, 2));
+    match octet(t, 0) {
+        0x9B => mark(octet(t, 1), octet(t, 2)),
+        0x1B => segment(octet(t, 1), octet(t, 2), octet(t, 3)),
+        _ => false,
     }
-    if b == 0x1B {
-        return segment(octet(t, 1), octet(t, 2), octet(t, 3));
-    }
-    false
 }
 
 fn unsupported_at(s: &[u8], at: usize) -> bool
@@ -66,6 +52,7 @@ fn unsupported_at(s: &[u8], at: usize) -> bool
 }
 
 // What the base reader refuses at a place is refused as before, or because X11R5 does not have it.
+#[tactic(auto, using(base::proofs::Ladder::ladder))]
 fn refused_at(s: &[u8], place: usize, number: u8, offset: usize) -> Answer
     requires { place + offset ≤ length s.now }
     ensures { result ≡ pick (unsupported_at (from place s.now)) (refused_at refusals.unsupported place)

@@ -2,4 +2,4 @@
 use Rattle.archive.proofs.turns.one.Goals as goal
 
 pub returns : goal.returns
-returns c = rw (c.if_character.ensures, c.if_character-code.ensures)
+returns c = rw (c.into.ensures, c.into-2.ensures, c.if_character.ensures, c.if_character-2.ensures)

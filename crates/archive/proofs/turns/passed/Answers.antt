@@ -2,6 +2,7 @@
 use Rattle.element.proofs.Names.{arith, put}
 use Rattle.archive.proofs.Ready.{inside, few_left, no_escape, none_told, told_fits, placed_is}
 use Rattle.archive.proofs.turns.passed.Goals as goal
+use Rattle.archive.proofs.turns.passed.Goals.{then-s-at-lt4-via-then-s-at-lt4, then-s-at-lt4-via-else-s-at-lt4+then-s-at-ne27}
 
 pub overflow_sub-s : goal.overflow_sub-s
 unfolding put
@@ -9,15 +10,15 @@ overflow_sub-s c = let h = inside _ _ c.requires in omega (arith, h)
 
 pub returns-then-s-at-lt4 : goal.returns-then-s-at-lt4
 unfolding put
-returns-then-s-at-lt4 c = few_left _ _ c.requires c.if-s-at-lt4.true
+returns-then-s-at-lt4 c =
+    elim c.then-s-at-lt4.branch [
+      | then-s-at-lt4-via-then-s-at-lt4 w ↦ few_left _ _ c.requires w.if-s-at-lt4.true
+      | then-s-at-lt4-via-else-s-at-lt4+then-s-at-ne27 w ↦ no_escape _ _ c.requires w.if-s-at-lt4.false w.if-s-at-ne27.true
+    ]
 
 pub bounds-s-at : goal.bounds-s-at
 unfolding put
 bounds-s-at c = inside _ _ c.requires
-
-pub returns-then-s-at-ne27 : goal.returns-then-s-at-ne27
-unfolding put
-returns-then-s-at-ne27 c = no_escape _ _ c.requires c.if-s-at-lt4.false c.if-s-at-ne27.true
 
 pub returns-then-set-ge-NO_SET : goal.returns-then-set-ge-NO_SET
 unfolding put

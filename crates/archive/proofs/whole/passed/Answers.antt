@@ -14,10 +14,9 @@ returns-then-settled c = let r = c.quick.ensures in
 
 pub returns : goal.returns
 returns c = let placed = c.placed-d.ensures.0 in
-    let blanks = c.blanks-i.ensures in
-    rw c.reached.ensures
-    (record {
+    let blanks = c.blanks-place.ensures in
+    record {
       since = omega (arith, placed.since, blanks.since);
       within = blanks.within placed.within;
       leads = λ is. leads_on _ _ _ _ _ _ _ _ (placed.leads _) (blanks_lead _ is _ _ _ _ placed.within blanks);
-    })
+    }

@@ -3,40 +3,33 @@ use Rattle.element.proofs.Names.{arith, refl, GL, GR, put}
 use Rattle.archive_laws.proofs.Passes.{places_none, places_more, designation_some}
 use Rattle.archive.proofs.whole.placed.Goals as goal
 
-pub loop-i-init : goal.loop-i-init
-unfolding put
-loop-i-init c = places_none _ _ _ c.requires
+pub loop-place-init : goal.loop-place-init
+loop-place-init c = places_none _ _ _ c.requires
 
-pub returns-then-s-i-ne27 : goal.returns-then-s-i-ne27
-unfolding put
-returns-then-s-i-ne27 c = rw c.reached.ensures (c.loop-i.invariant, refl)
+pub returns-else-s-place-eq27 : goal.returns-else-s-place-eq27
+returns-else-s-place-eq27 c = (c.loop-place.invariant, refl)
 
 pub returns-then-set-ge-NO_SET : goal.returns-then-set-ge-NO_SET
-unfolding put
-returns-then-set-ge-NO_SET c = rw c.reached-then-set-ge-NO_SET.ensures (c.loop-i.invariant, refl)
+returns-then-set-ge-NO_SET c = (c.loop-place.invariant, refl)
 
-pub overflow_add-i : goal.overflow_add-i
-unfolding put
-overflow_add-i c = omega (arith, (designation_some _ _ _ c.designation_at-d.ensures c.if-set-ge-NO_SET.false).1)
+pub overflow_add-place : goal.overflow_add-place
+overflow_add-place c = omega (arith, (designation_some _ _ _ c.designation_at-d.ensures c.if-set-ge-NO_SET.false).1)
 
-pub loop-i-smaller-in-GL : goal.loop-i-smaller-in-GL
-unfolding put
-loop-i-smaller-in-GL c = let some = designation_some _ _ _ c.designation_at-d.ensures c.if-set-ge-NO_SET.false in omega (arith, some.0, some.1)
+pub loop-place-smaller-in-GL : goal.loop-place-smaller-in-GL
+loop-place-smaller-in-GL c = let some = designation_some _ _ _ c.designation_at-d.ensures c.if-set-ge-NO_SET.false in omega (arith, some.0, some.1)
 
-pub loop-i-preserved-in-GL : goal.loop-i-preserved-in-GL
+pub loop-place-preserved-in-GL : goal.loop-place-preserved-in-GL
 unfolding put
-loop-i-preserved-in-GL c = places_more _ _ _ _ _ c.loop-i.invariant _ c.designation_at-d.ensures c.if-set-ge-NO_SET.false GL
+loop-place-preserved-in-GL c = places_more _ _ _ _ _ c.loop-place.invariant _ c.designation_at-d.ensures c.if-set-ge-NO_SET.false GL
     c.in-GL.is
 
-pub loop-i-smaller : goal.loop-i-smaller
-unfolding put
-loop-i-smaller c = let some = designation_some _ _ _ c.designation_at-d.ensures c.if-set-ge-NO_SET.false in omega (arith, some.0, some.1)
+pub loop-place-smaller : goal.loop-place-smaller
+loop-place-smaller c = let some = designation_some _ _ _ c.designation_at-d.ensures c.if-set-ge-NO_SET.false in omega (arith, some.0, some.1)
 
-pub loop-i-preserved : goal.loop-i-preserved
+pub loop-place-preserved : goal.loop-place-preserved
 unfolding put
-loop-i-preserved c = places_more _ _ _ _ _ c.loop-i.invariant _ c.designation_at-d.ensures c.if-set-ge-NO_SET.false GR
+loop-place-preserved c = places_more _ _ _ _ _ c.loop-place.invariant _ c.designation_at-d.ensures c.if-set-ge-NO_SET.false GR
     c.in-GR.is
 
-pub returns : goal.returns
-unfolding put
-returns c = rw c.reached-2.ensures (c.loop-i.invariant, refl)
+pub returns-after-loop-place : goal.returns-after-loop-place
+returns-after-loop-place c = (c.loop-place.invariant, refl)

@@ -6,7 +6,7 @@ use Rattle.grammar.specs.Reading.{check_of}
 use Rattle.check_string.proofs.Turn.{turn_done, turn_ends, turn_refuses, turn_stops}
 use Rattle.archive_laws.proofs.Turn.{HeadBy, first_by, turn_on, refuses_fits, designates_by, goes_by}
 use Rattle.archive.proofs.whole.whole.Goals as goal
-use Rattle.archive.proofs.whole.whole.Goals.{Joined-s-at, then-s-at+else-s-at-2+then-began-at+else-not-settled, then-s-at+else-s-at-2+else-began-at, else-s-at}
+use Rattle.archive.proofs.whole.whole.Goals.{Joined-s-at, then-s-at+else-s-at-2+else-began-at, else-s-at, then-loop-at-test+then-s-at+then-s-at-2, else-loop-at-test}
 
 -- where the ways meet
 ahead : (j : Joined-s-at)
@@ -15,10 +15,6 @@ ahead : (j : Joined-s-at)
 ahead j =
     let inv = j.loop-at.invariant in
     elim j.if-s-at.branch [
-      | then-s-at+else-s-at-2+then-began-at+else-not-settled w ↦ (
-        rw (w.at-is, w.count-is, w.st-is) (turn_on _ _ _ _ _ inv _ w.begun-st.ensures _ _ _ w.passed-p.ensures),
-        rw w.at-is (omega (arith, w.passed-p.ensures.since)),
-      )
       | then-s-at+else-s-at-2+else-began-at w ↦ (
         rw (w.at-is, w.count-is, w.st-is) (turn_on _ _ _ _ _ inv _ w.begun-st.ensures _ _ _ w.passed-p.ensures),
         rw w.at-is (omega (arith, w.passed-p.ensures.since)),
@@ -47,13 +43,6 @@ unfolding check_of
 overflow_add-count c = let inv = c.loop-at.invariant in
     let p = c.passed-p.ensures in omega (arith, inv.few, p.since, p.within)
 
-pub returns-then-s-at-2 : goal.returns-then-s-at-2
-unfolding check_of
-returns-then-s-at-2 c = λ is. let head = turn_on _ _ _ _ _ c.loop-at.invariant _ c.begun-st.ensures _ _ _
-    c.passed-p.ensures in
-    on_ge _ _ _ _ _ c.if-s-gt-OCTETS.false
-    (c.accepted.ensures ∙ turn_done _ _ _ _ (head.head is) c.if-s-at-2.true)
-
 pub loop-at-smaller-then-not-settled : goal.loop-at-smaller-then-not-settled
 unfolding check_of
 loop-at-smaller-then-not-settled c = omega (arith, c.if-began-at.true, c.passed-p.ensures.within)
@@ -68,7 +57,7 @@ unfolding check_of
 returns-in-Ends c = λ is.
     let here = ahead (goal.at.returns-in-Ends c).Joined-s-at in
     let h = turn_ends _ _ _ _ (here.0.head is) _ c.shape-shape.ensures c.in-Ends.is in
-    on_ge _ _ _ _ _ c.if-s-gt-OCTETS.false (c.accepted-in-Ends.ensures ∙ h)
+    on_ge _ _ _ _ _ c.if-s-gt-OCTETS.false (c.accepted.ensures ∙ h)
 
 pub overflow_add-place : goal.overflow_add-place
 overflow_add-place c =
@@ -146,5 +135,13 @@ loop-at-preserved c =
 
 pub returns : goal.returns
 unfolding check_of
-returns c = λ is. on_ge _ _ _ _ _ c.if-s-gt-OCTETS.false
-    (c.accepted-2.ensures ∙ turn_done _ _ _ _ (c.loop-at.invariant.head is) c.loop-at-test.false)
+returns c = λ is.
+    elim c.loop-at-test.branch [
+      | then-loop-at-test+then-s-at+then-s-at-2 w ↦
+          let head = turn_on _ _ _ _ _ c.loop-at.invariant _ w.begun-st.ensures _ _ _ w.passed-p.ensures in
+          on_ge _ _ _ _ _ c.if-s-gt-OCTETS.false
+          (c.accepted-2.ensures ∙ rw (w.at-is, w.count-is) (turn_done _ _ _ _ (head.head is) w.if-s-at-2.true))
+      | else-loop-at-test w ↦
+          on_ge _ _ _ _ _ c.if-s-gt-OCTETS.false
+          (c.accepted-2.ensures ∙ rw (w.at-is, w.count-is) (turn_done _ _ _ _ (c.loop-at.invariant.head is) w.loop-at-test.false))
+    ]
