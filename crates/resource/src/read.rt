@@ -8,18 +8,22 @@ ghost use Rattle.resource.specs.Scan.{scan_of, octets_of};
 use base::{Answer, limit, refusal};
 use resource_form::BACKSLASH;
 
-// The place of the first fault of a form.
+// The first fault of a form.
 #[derive(Clone, Copy)]
-struct FaultAt(usize);
+struct Fault {
+    place: usize,
+}
 
 // Looks a form over: how many octets it stands for.
-fn look_over(form: &[u8]) -> Result<usize, FaultAt>
+fn look_over(form: &[u8]) -> Result<usize, Fault>
     ensures { result ≡ scan_of (form_reading form.now) }
 {
     let mut at = 0;
     let mut count = 0;
     while at < form.len() {
-        let first = resource_form::first_at(form, at).ok_or(FaultAt(at))?;
+        let Some(first) = resource_form::first_at(form, at) else {
+            return Err(Fault { place: at });
+        };
         at += first.size;
         count += 1;
     }
@@ -74,6 +78,6 @@ pub fn read(form: &[u8], out: &mut [u8]) -> Answer
     }
     match look_over(form) {
         Ok(octets) => give(form, octets, out),
-        Err(FaultAt(place)) => Answer::refused(refusal::BAD_FORM, place),
+        Err(Fault { place }) => Answer::refused(refusal::BAD_FORM, place),
     }
 }
