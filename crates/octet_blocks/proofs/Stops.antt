@@ -170,3 +170,8 @@ led_word l h w takes adds mask i k e =
     ap (λ (x : ℕ). count_trailing_zeros 64 (bit_and (bit_or l h) x) / 8) m
     ∙ led_stops (takes % 256) (adds % 256) (octet_below takes) e₃.1 8 l h w ((l + takes) / 2 ^ 64) ((w + adds) / 2 ^ 64)
     (ap (λ (x : ℕ). l + x) (sym t) ∙ i') (k' ∙ ap (λ (x : ℕ). w + x) a)
+
+-- with the first number taken away by a sum that wraps
+pub led_wrapped : (w rest adds mask : ℕ) → w < 2 ^ 64 → rest ≤ 2 ^ 64 → serve (2 ^ 64 - rest) adds mask ≡ true
+    → count_trailing_zeros 64 (bit_and (bit_or ((w + rest) % 2 ^ 64) ((w + adds) % 2 ^ 64)) mask) / 8 ≡ led_of 8 w
+led_wrapped w rest adds mask few h e = led_word ((w + rest) % 2 ^ 64) ((w + adds) % 2 ^ 64) w (2 ^ 64 - rest) adds mask (omega arith) refl e

@@ -6,13 +6,7 @@ ghost use Rattle.octet_blocks.specs.Blocks.{Within, outside_of};
 fn outside(first: u8, last: u8, b: u8) -> u8
     ensures { result ≡ outside_of first last b }
 {
-    if b < first {
-        return 1;
-    }
-    if last < b {
-        return 1;
-    }
-    0
+    u8::from(b < first || last < b)
 }
 
 // How many of the 64 octets at a place are not of the span.
@@ -21,10 +15,8 @@ fn strays(s: &[u8], at: usize, first: u8, last: u8) -> u8
     ensures { result ≡ 0 → Within first last s.now at (at + 64) }
 {
     let mut n: u8 = 0;
-    let mut j: usize = 0;
-    while j < 64 {
+    for j in 0..64 {
         n += outside(first, last, s[at + j]);
-        j += 1;
     }
     n
 }
@@ -37,12 +29,8 @@ pub fn blocks_end(s: &[u8], at: usize, first: u8, last: u8) -> usize
         return at;
     }
     let mut i = at;
-    while 64 <= s.len() - i {
-        if strays(s, i, first, last) == 0 {
-            i += 64;
-        } else {
-            return i;
-        }
+    while 64 <= s.len() - i && strays(s, i, first, last) == 0 {
+        i += 64;
     }
     i
 }

@@ -10,8 +10,5 @@ pub mod words;
 pub fn octet(s: &[u8], i: usize) -> u8
     ensures { result ≡ slice_index s.now i }
 {
-    if i < s.len() {
-        return s[i];
-    }
-    0
+    *s.get(i).unwrap_or(&0)
 }

@@ -4,6 +4,7 @@ use Prim.Native.Nat.{ℕ, ◌≤◌, ◌<◌}
 use mathlib.Core.Path.{◌≡◌, refl, ap}
 use mathlib.Core.List.{List}
 use lib.ListN.{length}
+use Rattle.std.specs.Prelude.{Ok, Err}
 use Rattle.base.specs.Answers.{answer, refused_at}
 use Rattle.base.specs.Limit as limit
 use Rattle.base.specs.Refusal as refusal
@@ -15,7 +16,7 @@ use Rattle.base.proofs.Stores.{stored_not}
 use Rattle.resource_form.specs.Form.{FormReading, stands_for, fault_at}
 use Rattle.resource_form.specs.Conversion.{Conversion, refuses, gives, read_conversion, given_answer, conversion_answer, conversion_output}
 use Rattle.resource.specs.Scan.{scan_of, octets_of}
-use Rattle.resource.specs.declared.read.Scan.TheVariants.{Octets, FaultAt}
+use Rattle.resource.specs.declared.read.Fault.{Fault}
 
 -- an answer and an output are those of a conversion of n octets
 abbrev pub Converted : Conversion → ℕ → List ℕ → Answer → List ℕ → Type 0
@@ -46,23 +47,25 @@ module _ (n : ℕ) (out : List ℕ) (r : Answer) where
         (on_le (length bs) (length out) r (answer refusal.accepted n (length bs)) (answer refusal.no_room 0 (length bs)) (rw is at h) (rw is at e), f)
 
 -- a reading, by what was found when the form was looked over
-pub reading_faulty : (r : FormReading) (p : ℕ) → FaultAt p ≡ scan_of r → refuses refusal.bad_form p ≡ read_conversion r
+pub reading_faulty : (r : FormReading) (p : ℕ) → Err (record { place = p }) ≡ scan_of r → refuses refusal.bad_form p ≡ read_conversion r
 unfolding scan_of read_conversion
 reading_faulty (stands_for bs) p e = clash (cc e)
-reading_faulty (fault_at q) p e = ap (refuses refusal.bad_form) (let f : p ≡ q = cc e in f)
+reading_faulty (fault_at q) p e =
+    let same : ◌≡◌ {A = Fault} (record { place = p }) (record { place = q }) = cc e in
+    ap (λ (f : Fault). refuses refusal.bad_form f.place) same
 
-pub reading_length : (r : FormReading) (k : ℕ) → Octets k ≡ scan_of r → k ≡ length (octets_of r)
+pub reading_length : (r : FormReading) (k : ℕ) → Ok k ≡ scan_of r → k ≡ length (octets_of r)
 unfolding scan_of octets_of
 reading_length (stands_for bs) k e = let f : k ≡ length bs = cc e in f
 reading_length (fault_at q) k e = clash (cc e)
 
-pub reading_over : (r : FormReading) (k : ℕ) → Octets k ≡ scan_of r → limit.octets < k → refuses refusal.too_long 0 ≡ read_conversion r
+pub reading_over : (r : FormReading) (k : ℕ) → Ok k ≡ scan_of r → limit.octets < k → refuses refusal.too_long 0 ≡ read_conversion r
 unfolding scan_of read_conversion
 reading_over (stands_for bs) k e h =
     on_lt limit.octets (length bs) (refuses refusal.too_long 0) _ _ (let f : k ≡ length bs = cc e in rw f at h) refl
 reading_over (fault_at q) k e h = clash (cc e)
 
-pub reading_within : (r : FormReading) (k : ℕ) → Octets k ≡ scan_of r → k ≤ limit.octets → gives (octets_of r) ≡ read_conversion r
+pub reading_within : (r : FormReading) (k : ℕ) → Ok k ≡ scan_of r → k ≤ limit.octets → gives (octets_of r) ≡ read_conversion r
 unfolding scan_of octets_of read_conversion
 reading_within (stands_for bs) k e h = on_ge limit.octets (length bs) (gives bs) _ _ (let f : k ≡ length bs = cc e in rw f at h) refl
 reading_within (fault_at q) k e h = clash (cc e)

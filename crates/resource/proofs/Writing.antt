@@ -1,12 +1,13 @@
 -- The form of a string from a place on is that of its next octet and that of the rest: so the octets counted and those to come are always those of
 -- the whole form (`count_next`), and the output with the rest stored is always the output with the whole form stored (`StoredUpTo`).
-use Prim.Native.Nat.{ℕ, ◌+◌, ◌≤◌, ◌<◌}
+use Prim.Native.Nat.{ℕ, ◌+◌, ◌-◌, ◌≤◌, ◌<◌}
 use native.Mathlib.Omega.{arith}
 use mathlib.Core.Path.{◌≡◌, refl, ap, ap₂, sym, ◌∙◌}
-use mathlib.Core.List.{List, [], ◌∷◌, ◌++◌}
+use mathlib.Core.List.{List, [], ◌∷◌, ◌++◌, append_assoc}
 use lib.Dec.{eqb}
 use lib.ListN.{length, get_or, length-append}
-use lib.Seq.{sets, length-sets}
+use lib.Seq.{sets, length-sets, sets-eq, drop-drop}
+use borrow.Rule.Slice.PartMut.{put_mid}
 use Rattle.base.specs.Choice.{pick, from}
 use Rattle.base.specs.Limit as limit
 use Rattle.base.specs.Output.{stored_in}
@@ -91,6 +92,13 @@ pub form_as : (b : ℕ) (w : List ℕ)
     → w ≡ octet_form b
 unfolding octet_form
 form_as b w e = e
+
+-- octets copied into the part of a list from a place on
+pub part_sets : (text l part : List ℕ) (at n : ℕ) → n ≡ length text → at + length text ≤ length l → part ≡ text
+    → put_mid at (at + n - at) l part ≡ sets l at text
+part_sets text l part at n e h f =
+    let k : at + n - at ≡ length text = omega arith in
+    rw (k, f, drop-drop (length text) at l, sets-eq text l at h, append_assoc)
 
 -- octets stored that are an octet's form
 pub put_as : (b at r : ℕ) (l m w : List ℕ) → w ≡ octet_form b → (r ≡ at + length w) × (m ≡ sets l at w)

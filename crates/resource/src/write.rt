@@ -15,34 +15,19 @@ fn needed(s: &[u8]) -> usize
     ensures { result ≡ length (resource_form s.now) }
 {
     let mut n: u32 = 0;
-    let mut i = 0;
-    while i < s.len() {
-        n += resource_form::size(s[i]) as u32;
-        i += 1;
+    for &octet in s {
+        n += resource_form::size(octet) as u32;
     }
     n as usize
 }
 
-// Stores an escape of two octets at a place, and answers the place after it.
-fn put_pair(after: u8, at: usize, out: &mut [u8]) -> usize
-    requires { at + 2 ≤ length out.old }
-    ensures { (result ≡ at + 2) × (out.new ≡ sets out.old at (backslash ∷ after ∷ [])) }
+// Stores octets at a place, and answers the place after them.
+fn put<const N: usize>(octets: &[u8; N], at: usize, out: &mut [u8]) -> usize
+    requires { at + length octets.now ≤ length out.old }
+    ensures { (result ≡ at + length octets.now) × (out.new ≡ sets out.old at octets.now) }
 {
-    out[at] = BACKSLASH;
-    out[at + 1] = after;
-    at + 2
-}
-
-// Stores the escape of an octet 00.
-fn put_nul(at: usize, out: &mut [u8]) -> usize
-    requires { at + 4 ≤ length out.old }
-    ensures { (result ≡ at + 4) × (out.new ≡ sets out.old at (backslash ∷ digit_0 ∷ digit_0 ∷ digit_0 ∷ [])) }
-{
-    out[at] = BACKSLASH;
-    out[at + 1] = DIGIT_0;
-    out[at + 2] = DIGIT_0;
-    out[at + 3] = DIGIT_0;
-    at + 4
+    out[at..at + N].copy_from_slice(octets);
+    at + N
 }
 
 // Stores the form of an octet.
@@ -50,17 +35,12 @@ fn put_octet(octet: u8, at: usize, out: &mut [u8]) -> usize
     requires { at + length (octet_form octet) ≤ length out.old }
     ensures { (result ≡ at + length (octet_form octet)) × (out.new ≡ sets out.old at (octet_form octet)) }
 {
-    if octet == BACKSLASH {
-        return put_pair(BACKSLASH, at, out);
+    match octet {
+        BACKSLASH => put(&[BACKSLASH, BACKSLASH], at, out),
+        NEWLINE => put(&[BACKSLASH, LETTER_N], at, out),
+        NUL => put(&[BACKSLASH, DIGIT_0, DIGIT_0, DIGIT_0], at, out),
+        _ => put(&[octet], at, out),
     }
-    if octet == NEWLINE {
-        return put_pair(LETTER_N, at, out);
-    }
-    if octet == NUL {
-        return put_nul(at, out);
-    }
-    out[at] = octet;
-    at + 1
 }
 
 // Stores the form of a string, for which there is room.
@@ -69,10 +49,8 @@ fn store(s: &[u8], out: &mut [u8])
     ensures { out.new ≡ stored_in (resource_form s.now) out.old }
 {
     let mut at = 0;
-    let mut i = 0;
-    while i < s.len() {
-        at = put_octet(s[i], at, out);
-        i += 1;
+    for &octet in s {
+        at = put_octet(octet, at, out);
     }
 }
 

@@ -9,11 +9,11 @@ use mathlib.Core.Logic.{◌⊎◌, inl, inr}
 use lib.Dec.{eqb}
 use lib.ListN.{length, length-append}
 use borrow.Author.Tests.{eqb-true, ne_eqb}
+use Rattle.std.specs.Prelude.{None}
 use Rattle.base.specs.Choice.{pick}
 use Rattle.base.proofs.Bools.{test, clash}
 use Rattle.resource_form.specs.Form.{backslash, newline, nul, octet_form, resource_form, form_first}
 use Rattle.resource_form.specs.Form.{FormReading, stands_for, fault_at, read_from, form_reading}
-use Rattle.resource_form.specs.declared.First.{TheVariants.Bad}
 use Rattle.resource_form.proofs.Readings.{octet_form_few, Reads, whole, faulty, reads}
 use Rattle.resource_form.proofs.Readings.{bad_first, befores, befores_octets, befores_fault, form_before}
 
@@ -55,7 +55,7 @@ pub record FirstFault (t : List ℕ) (p : ℕ) : Type 0 where
   pub after : List ℕ
   pub is : t ≡ resource_form before ++ (octet ∷ after)
   pub place : p ≡ length (resource_form before)
-  pub bad : form_first (octet ∷ after) ≡ Bad
+  pub bad : form_first (octet ∷ after) ≡ None
 
 pub fault_first : (t : List ℕ) (p : ℕ) → form_reading t ≡ fault_at p → FirstFault t p
 fault_first t p e = go (subst (Reads t 0) e (reads t 0 0 (omega arith))) refl
@@ -76,7 +76,7 @@ fault_there t p f =
     ∙ befores_fault f.before at ∙ ap fault_at there
 
 -- it stands at a backslash, a newline or 00
-pub fault_octet : (x : ℕ) (t : List ℕ) → form_first (x ∷ t) ≡ Bad → (x ≡ backslash) ⊎ ((x ≡ newline) ⊎ (x ≡ nul))
+pub fault_octet : (x : ℕ) (t : List ℕ) → form_first (x ∷ t) ≡ None → (x ≡ backslash) ⊎ ((x ≡ newline) ⊎ (x ≡ nul))
 unfolding form_first pick
 fault_octet x t e =
     test (eqb x backslash) (λ f. inl (eqb-true x backslash f))

@@ -1,7 +1,7 @@
 -- The form of octets as the value of an X resource (rule F1), and, stated apart from it, what a form reads as (rules F2, F3).
-use Rattle.std.specs.Prelude.{ℕ, zero, suc, ◌+◌, ◌-◌, Bool, false, List, [], ◌∷◌, ◌++◌, drop, eqb}
+use Rattle.std.specs.Prelude.{ℕ, zero, suc, ◌+◌, ◌-◌, Bool, false, List, [], ◌∷◌, ◌++◌, Option, Some, None, drop, eqb}
 use Rattle.base.specs.Choice.{pick}
-use Rattle.resource_form.specs.declared.First.{First, TheVariants.Stands, TheVariants.Bad}
+use Rattle.resource_form.specs.declared.First.{First}
 
 -- the octets that are written as escapes, and those that stand in an escape after its backslash (rule F1)
 abbrev pub backslash : ℕ
@@ -36,23 +36,27 @@ unfoldable pub zero_first : List ℕ → Bool
 zero_first [] = false
 zero_first (b ∷ t) = eqb b digit_0
 
+-- an octet, and the number of octets that stand for it
+abbrev pub stands : ℕ → ℕ → First
+stands b k = record { octet = b; size = k }
+
 -- after a backslash and a digit 0: two digits 0 more end the escape of an octet 00 (rule F2)
-unfoldable pub form_zeros : List ℕ → First
-form_zeros t = pick (zero_first t) (pick (zero_first (drop 1 t)) (Stands nul 4) Bad) Bad
+unfoldable pub form_zeros : List ℕ → Option First
+form_zeros t = pick (zero_first t) (pick (zero_first (drop 1 t)) (Some (stands nul 4)) None) None
 
 -- after a backslash: the octet that the escape stands for, and the octets of the escape (rule F2)
-unfoldable pub form_escape : List ℕ → First
-form_escape [] = Bad
+unfoldable pub form_escape : List ℕ → Option First
+form_escape [] = None
 form_escape (b ∷ t) =
-    pick (eqb b backslash) (Stands backslash 2)
-    (pick (eqb b letter_n) (Stands newline 2)
-    (pick (eqb b digit_0) (form_zeros t) Bad))
+    pick (eqb b backslash) (Some (stands backslash 2))
+    (pick (eqb b letter_n) (Some (stands newline 2))
+    (pick (eqb b digit_0) (form_zeros t) None))
 
--- what stands first in a form: an escape, or an octet for itself; a raw newline and a raw 00 are bad (rules F2, F3)
-unfoldable pub form_first : List ℕ → First
-form_first [] = Bad
+-- what stands first in a form: an escape, or an octet for itself; with a raw newline or a raw 00 nothing begins (rules F2, F3)
+unfoldable pub form_first : List ℕ → Option First
+form_first [] = None
 form_first (b ∷ t) =
-    pick (eqb b backslash) (form_escape t) (pick (eqb b newline) Bad (pick (eqb b nul) Bad (Stands b 1)))
+    pick (eqb b backslash) (form_escape t) (pick (eqb b newline) None (pick (eqb b nul) None (Some (stands b 1))))
 
 -- what a form reads as: the octets that it stands for, or the place of its first fault (rules F2, F3)
 pub data FormReading : Type 0 where
@@ -65,9 +69,9 @@ put_before b (stands_for bs) = stands_for (b ∷ bs)
 put_before b (fault_at p) = fault_at p
 
 -- the reading at a place by what stands there: its octet before what f reads after so many further octets, or a fault there (rules F2, F3)
-unfoldable pub on_first : ℕ → First → (ℕ → FormReading) → FormReading
-on_first at (Stands b k) f = put_before b (f (k - 1))
-on_first at Bad f = fault_at at
+unfoldable pub on_first : ℕ → Option First → (ℕ → FormReading) → FormReading
+on_first at (Some first) f = put_before first.octet (f (first.size - 1))
+on_first at None f = fault_at at
 
 -- the reading of octets that start at a place, of which k belong to the escape before and are passed (rule F2)
 unfoldable pub read_from : List ℕ → ℕ → ℕ → FormReading

@@ -16,11 +16,11 @@ pub const LETTER_N: u8 = 0x6E;
 
 pub const DIGIT_0: u8 = 0x30;
 
-// What stands first in a form: an octet and the number of octets that stand for it, or nothing that a form may begin with.
+// What stands first in a form: an octet, and the number of octets that stand for it.
 #[derive(Clone, Copy)]
-pub enum First {
-    Stands(u8, usize),
-    Bad,
+pub struct First {
+    pub octet: u8,
+    pub size: usize,
 }
 
 // The octets of the form of an octet. It has no branch, so that counting those of a string is done several octets at a time.
@@ -34,61 +34,48 @@ pub fn size(octet: u8) -> u8
 fn zero_at(form: &[u8], at: usize) -> bool
     ensures { result ≡ zero_first (from at form.now) }
 {
-    if form.len() <= at {
-        return false;
-    }
-    form[at] == DIGIT_0
+    at < form.len() && form[at] == DIGIT_0
 }
 
 // The two digits that end the escape of an octet 00, from a place on.
-fn zeros_at(form: &[u8], at: usize) -> First
+fn zeros_at(form: &[u8], at: usize) -> Option<First>
     ensures { result ≡ form_zeros (from at form.now) }
 {
-    if !zero_at(form, at) {
-        return First::Bad;
+    if zero_at(form, at) && zero_at(form, at + 1) {
+        Some(First {
+            octet: NUL,
+            size: 4,
+        })
+    } else {
+        None
     }
-    if !zero_at(form, at + 1) {
-        return First::Bad;
-    }
-    First::Stands(NUL, 4)
 }
 
-// The escape whose octets after the backslash start at a place.
-pub fn escape_at(form: &[u8], at: usize) -> First
+// The escape whose octets after the backslash start at a place; none where nothing stands there that an escape may go on with.
+pub fn escape_at(form: &[u8], at: usize) -> Option<First>
     ensures { result ≡ form_escape (from at form.now) }
 {
-    if form.len() <= at {
-        return First::Bad;
+    match *form.get(at)? {
+        BACKSLASH => Some(First {
+            octet: BACKSLASH,
+            size: 2,
+        }),
+        LETTER_N => Some(First {
+            octet: NEWLINE,
+            size: 2,
+        }),
+        DIGIT_0 => zeros_at(form, at + 1),
+        _ => None,
     }
-    let b = form[at];
-    if b == BACKSLASH {
-        return First::Stands(BACKSLASH, 2);
-    }
-    if b == LETTER_N {
-        return First::Stands(NEWLINE, 2);
-    }
-    if b == DIGIT_0 {
-        return zeros_at(form, at + 1);
-    }
-    First::Bad
 }
 
-// What stands first in the octets from a place on.
-pub fn first_at(form: &[u8], at: usize) -> First
+// What stands first in the octets from a place on; none where nothing stands there that a form may begin with.
+pub fn first_at(form: &[u8], at: usize) -> Option<First>
     ensures { result ≡ form_first (from at form.now) }
 {
-    if form.len() <= at {
-        return First::Bad;
+    match *form.get(at)? {
+        BACKSLASH => escape_at(form, at + 1),
+        NEWLINE | NUL => None,
+        octet => Some(First { octet, size: 1 }),
     }
-    let b = form[at];
-    if b == BACKSLASH {
-        return escape_at(form, at + 1);
-    }
-    if b == NEWLINE {
-        return First::Bad;
-    }
-    if b == NUL {
-        return First::Bad;
-    }
-    First::Stands(b, 1)
 }

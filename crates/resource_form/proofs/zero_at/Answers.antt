@@ -2,8 +2,8 @@
 use Rattle.resource_form.proofs.Steps.{form-steps}
 use Rattle.resource_form.proofs.zero_at.Goals as goal
 
-pub returns-then-form-at : goal.returns-then-form-at
-returns-then-form-at c = search form-steps depth 9
+pub returns-then-at-form : goal.returns-then-at-form
+returns-then-at-form c = search form-steps depth 9
 
-pub returns : goal.returns
-returns c = search form-steps depth 9
+pub returns-else-at-form : goal.returns-else-at-form
+returns-else-at-form c = search form-steps depth 9

@@ -2,15 +2,17 @@
 use native.Mathlib.Omega.{arith}
 use Rattle.resource_form.proofs.Steps.{form-steps, zero_within}
 use Rattle.resource_form.proofs.zeros_at.Goals as goal
-
-pub returns-then-not-zero_at : goal.returns-then-not-zero_at
-returns-then-not-zero_at c = search form-steps depth 9
+use Rattle.resource_form.proofs.zeros_at.Goals.{else-zero_at-via-then-zero_at+else-zero_at-2, else-zero_at-via-else-zero_at}
 
 pub overflow_add-at : goal.overflow_add-at
-overflow_add-at c = let h = zero_within _ _ _ c.zero_at.ensures c.if-not-zero_at.false in omega (arith, h)
+overflow_add-at c = let h = zero_within _ _ _ c.zero_at.ensures c.if-zero_at.true in omega (arith, h)
 
-pub returns-then-not-zero_at-2 : goal.returns-then-not-zero_at-2
-returns-then-not-zero_at-2 c = search form-steps depth 9
+pub returns-then-zero_at-2 : goal.returns-then-zero_at-2
+returns-then-zero_at-2 c = search form-steps depth 9
 
-pub returns : goal.returns
-returns c = search form-steps depth 9
+pub returns-else-zero_at : goal.returns-else-zero_at
+returns-else-zero_at c =
+    elim c.else-zero_at.branch [
+      | else-zero_at-via-then-zero_at+else-zero_at-2 w ↦ search form-steps depth 9
+      | else-zero_at-via-else-zero_at w ↦ search form-steps depth 9
+    ]

@@ -15,5 +15,5 @@ loop-i-preserved c = blocks_more _ _ _ _ _ _ c.loop-i.invariant (c.strays.ensure
 pub returns-else-strays-eq0 : goal.returns-else-strays-eq0
 returns-else-strays-eq0 c = (λ _. c.loop-i.invariant, λ h. absurd (omega arith))
 
-pub returns : goal.returns
-returns c = (λ _. c.loop-i.invariant, λ h. absurd (omega arith))
+pub returns-after-loop-i : goal.returns-after-loop-i
+returns-after-loop-i c = (λ _. c.loop-i.invariant, λ h. absurd (omega arith))

@@ -3,16 +3,17 @@ use Rattle.std.proofs.Common.{refl, ap, ◌∙◌}
 use Rattle.base.proofs.Ladder.{on_lt, on_ge}
 use Rattle.octet_blocks.specs.Words.{led_of, leading_of}
 use Rattle.octet_blocks.proofs.words.leading.Goals as goal
+use Rattle.octet_blocks.proofs.words.leading.Goals.{else-at-s-via-then-at-s+else-s-at-ge8, else-at-s-via-else-at-s}
 
-pub returns-then-s-at : goal.returns-then-s-at
+pub returns-then-s-at-ge8 : goal.returns-then-s-at-ge8
 unfolding leading_of
-returns-then-s-at c = on_lt _ _ _ _ _ c.if-s-at.true refl
+returns-then-s-at-ge8 c = on_ge _ _ _ _ _ c.if-at-s.true
+    (on_ge _ _ _ _ _ c.if-s-at-ge8.true (c.led.ensures ∙ ap (led_of 8) c.word.ensures))
 
-pub returns-then-s-at-lt8 : goal.returns-then-s-at-lt8
+pub returns-else-at-s : goal.returns-else-at-s
 unfolding leading_of
-returns-then-s-at-lt8 c = on_ge _ _ _ _ _ c.if-s-at.false (on_lt _ _ _ _ _ c.if-s-at-lt8.true refl)
-
-pub returns : goal.returns
-unfolding leading_of
-returns c = on_ge _ _ _ _ _ c.if-s-at.false
-    (on_ge _ _ _ _ _ c.if-s-at-lt8.false (c.led.ensures ∙ ap (led_of 8) c.word.ensures))
+returns-else-at-s c =
+    elim c.else-at-s.branch [
+      | else-at-s-via-then-at-s+else-s-at-ge8 w ↦ on_ge _ _ _ _ _ w.if-at-s.true (on_lt _ _ _ _ _ w.if-s-at-ge8.false refl)
+      | else-at-s-via-else-at-s w ↦ on_lt _ _ _ _ _ w.if-at-s.false refl
+    ]

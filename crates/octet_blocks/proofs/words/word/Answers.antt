@@ -1,8 +1,8 @@
--- `octet_blocks::words::word` meets its contract: each octet is below 256, so nothing is lost.
+-- `octet_blocks::words::word` meets its contract.
 use Rattle.std.proofs.Common.{arith}
 use Rattle.octet_blocks.specs.Words.{word_of}
 use Rattle.octet_blocks.proofs.words.word.Goals as goal
 
 pub returns : goal.returns
 unfolding word_of
-returns c = search arith
+returns c = omega arith

@@ -8,20 +8,18 @@ loop-at-init c = looked_first _
 
 pub overflow_add-at : goal.overflow_add-at
 overflow_add-at c = let h = first_within _ _ _ _ _ c.loop-at-test.true c.first_at.ensures
-    c.in-Stands.is in omega (arith, h)
+    c.in-Some.is in omega (arith, h)
 
-pub returns-in-Bad : goal.returns-in-Bad
-returns-in-Bad c = search looked_bad
-
-pub overflow_add-count : goal.overflow_add-count
-overflow_add-count c = omega (arith, c.loop-at.invariant.less)
+pub returns-in_default : goal.returns-in_default
+returns-in_default c = search looked_bad
 
 pub loop-at-smaller : goal.loop-at-smaller
 loop-at-smaller c = let h = first_within _ _ _ _ _ c.loop-at-test.true c.first_at.ensures
-    c.in-Stands.is in omega (arith, h)
+    c.in-Some.is in omega (arith, h)
 
 pub loop-at-preserved : goal.loop-at-preserved
-loop-at-preserved c = search looked_next
+loop-at-preserved c =
+    looked_next _ _ _ c.in-Some.first.octet c.in-Some.first.size _ c.loop-at-test.true c.first_at.ensures c.in-Some.is c.loop-at.invariant
 
 pub returns : goal.returns
 returns c = search looked_last

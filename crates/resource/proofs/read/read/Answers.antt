@@ -8,12 +8,12 @@ pub returns-then-form-gt-FORM : goal.returns-then-form-gt-FORM
 returns-then-form-gt-FORM c = converted_refused _ _ _ _ _ _ (form_over _ c.if-form-gt-FORM.true) c.refused.ensures
 
 pub give-requires : goal.give-requires
-give-requires c = sym c.in-Octets.is ∙ c.look_over.ensures
+give-requires c = sym c.in-Ok.is ∙ c.look_over.ensures
 
-pub returns-in-FaultAt : goal.returns-in-FaultAt
-returns-in-FaultAt c = let found = sym c.in-FaultAt.is ∙ c.look_over.ensures in
-    converted_refused _ _ _ _ _ _ (reading_faulty _ _ found ∙ form_within _ c.if-form-gt-FORM.false) c.refused-in-FaultAt.ensures
+pub returns-in-Err : goal.returns-in-Err
+returns-in-Err c = let found = sym c.in-Err.is ∙ c.look_over.ensures in
+    converted_refused _ _ _ _ _ _ (reading_faulty _ _ found ∙ form_within _ c.if-form-gt-FORM.false) c.refused-in-Err.ensures
 
-pub returns-in-Octets : goal.returns-in-Octets
-returns-in-Octets c = converted_as _ _ _ _ _ _ (form_within _ c.if-form-gt-FORM.false)
+pub returns-in-Ok : goal.returns-in-Ok
+returns-in-Ok c = converted_as _ _ _ _ _ _ (form_within _ c.if-form-gt-FORM.false)
     c.give.ensures

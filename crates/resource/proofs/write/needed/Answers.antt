@@ -3,18 +3,18 @@ use native.Mathlib.Omega.{arith}
 use Rattle.resource.proofs.Writing.{count_first, count_next, count_last, count_few}
 use Rattle.resource.proofs.write.needed.Goals as goal
 
-pub loop-i-init : goal.loop-i-init
-loop-i-init c = count_first _
+pub loop-octet-init : goal.loop-octet-init
+loop-octet-init c = count_first _
 
 pub overflow_add-n : goal.overflow_add-n
-overflow_add-n c = let next = count_next _ _ _ _ c.loop-i-test.true c.loop-i.invariant c.size.ensures in
+overflow_add-n c = let next = count_next _ _ _ _ c.loop-octet-test.true c.loop-octet.invariant c.size.ensures in
     omega (arith, count_few _ _ _ c.requires next)
 
-pub loop-i-preserved : goal.loop-i-preserved
-loop-i-preserved c = search count_next
+pub loop-octet-preserved : goal.loop-octet-preserved
+loop-octet-preserved c = search count_next
 
 pub overflow_cast-result : goal.overflow_cast-result
-overflow_cast-result c = omega (arith, count_few _ _ _ c.requires c.loop-i.invariant)
+overflow_cast-result c = omega (arith, count_few _ _ _ c.requires c.loop-octet.invariant)
 
 pub returns : goal.returns
 returns c = search count_last

@@ -4,8 +4,8 @@ use lib.ListN.{length}
 use Rattle.resource.proofs.Writing.{Counted}
 use Rattle.resource.proofs.write.needed.Given as goal
 
-abbrev pub invariant-loop-i : goal.invariant-loop-i
-invariant-loop-i l = Counted l.s l.i l.n
+abbrev pub invariant-loop-octet : goal.invariant-loop-octet
+invariant-loop-octet l = Counted l.s l.octet-index l.n
 
-abbrev pub decreases-loop-i : goal.decreases-loop-i
-decreases-loop-i l = length l.s - l.i
+abbrev pub decreases-loop-octet : goal.decreases-loop-octet
+decreases-loop-octet l = length l.s - l.octet-index

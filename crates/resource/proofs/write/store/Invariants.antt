@@ -4,8 +4,8 @@ use lib.ListN.{length}
 use Rattle.resource.proofs.Writing.{StoredUpTo}
 use Rattle.resource.proofs.write.store.Given as goal
 
-abbrev pub invariant-loop-i : goal.invariant-loop-i
-invariant-loop-i l = StoredUpTo l.s l.initial.out l.i l.at l.out
+abbrev pub invariant-loop-octet : goal.invariant-loop-octet
+invariant-loop-octet l = StoredUpTo l.s l.initial.out l.octet-index l.at l.out
 
-abbrev pub decreases-loop-i : goal.decreases-loop-i
-decreases-loop-i l = length l.s - l.i
+abbrev pub decreases-loop-octet : goal.decreases-loop-octet
+decreases-loop-octet l = length l.s - l.octet-index
