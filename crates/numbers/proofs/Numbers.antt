@@ -1,7 +1,7 @@
 -- The choice by number is the writer's choice: shown by one computed test of all 17 classes and 80 numbers, from which the laws follow.
 use Rattle.element.proofs.Names.{◌≡◌, refl, sym, ap, ap₂, ◌∙◌, Bool, true, false, cond, ◌||◌, ◌&&◌, not, List, Option, none, some, ℕ, ◌+◌, ◌-◌, ◌≤◌}
 use Rattle.element.proofs.Names.{◌<◌, arith, length, get_or, List·getD-eq-default, eqb, leb, ltb, eqb-true, eq-eqb, ne_eqb, ltb-true, ltb-false, lt-ltb}
-use Rattle.element.proofs.Names.{le-ltb, leb-true, leb-false, le-leb, lt-leb, off, pick, test, up_to_lem, from-tests, Side, GL, GR, allowed, may_use}
+use Rattle.element.proofs.Names.{le-ltb, leb-true, leb-false, le-leb, lt-leb, off, test, up_to_lem, from-tests, Side, GL, GR, allowed, may_use}
 use Rattle.element.proofs.Names.{form_94x94, form_of}
 use Rattle.element.proofs.Names.{Standing, on, put, Sets}
 use mathlib.Core.Bool.{beq}
@@ -193,23 +193,6 @@ chosen_base x k b u v u' v' eu ev =
     ap (λ (t : Bool). cond (eqb (after_first x k) k || eqb (after_second x k) k) k (cond t (after_first x k) (after_second x k)))
     (sym (leb_base b u v) ∙ ap₂ leb eu ev)
 
--- the choice by tests on the two numbers
-pub chosen_first : (x k a u v : ℕ) → a ≡ after_first x k → a ≡ k → k ≡ chosen_by x k u v
-unfolding chosen_by
-chosen_first x k a u v ea e = rw (← ea, eq-eqb a k e)
-
-pub chosen_tests : {q : ℕ} (x k a b u v : ℕ) → a ≡ after_first x k → b ≡ after_second x k
-    → q ≡ pick (eqb a k) k (pick (eqb b k) k (pick (leb u v) a b))
-    → q ≡ chosen_by x k u v
-unfolding chosen_by pick
-chosen_tests x k a b u v ea eb e = e ∙ rw (← ea, ← eb) (go (eqb a k) (eqb b k) (leb u v))
-  where
-    go : (s t w : Bool) → pick s k (pick t k (pick w a b)) ≡ cond (s || t) k (cond w a b)
-    go true t w = refl
-    go false true w = refl
-    go false false true = refl
-    go false false false = refl
-
 -- ---- classes with one designation, and with none
 
 -- a set of one octet has a place on one side alone
@@ -288,9 +271,6 @@ bounded l b t i =
     test (ltb i (length l)) (λ e. leb-true _ _ (up_to_lem (length l) (λ j. leb (get_or l j 0) b) t i (ltb-true _ _ e)))
     (λ e. omega (arith, List·getD-eq-default l 0 (ltb-false _ _ e)))
 
-pub past_end : (l : List ℕ) {i : ℕ} → length l ≤ i → 0 ≡ get_or l i 0
-past_end l h = sym (List·getD-eq-default l 0 h)
-
 -- what stands at the places below n of a list for which a test holds
 in_table : (l : List ℕ) (n : ℕ) (p : ℕ → Bool) (v : ℕ → ℕ) → up_to n (λ y. implies (p y) (eqb (v y) (get_or l y 0))) ≡ true
     → (x : ℕ) → x < n → p x ≡ true → v x ≡ get_or l x 0
@@ -301,12 +281,6 @@ gl_two x h k = in_table places_in_gl 15 (leb 12) (λ y. y - 10) refl x k (le-leb
 
 pub gr_most : (x : ℕ) → 3 ≤ x → x < 15 → x - 2 ≡ get_or places_in_gr x 0
 gr_most x h k = in_table places_in_gr 15 (leb 3) (λ y. y - 2) refl x k (le-leb 3 x h)
-
--- a set without a place in GL has one in GR
-pub gr_alone : (x l : ℕ) → x < 15 → l ≡ get_or places_in_gl x 0 → 5 ≤ l → get_or places_in_gr x 0 < 13
-gr_alone x l h el b =
-    ltb-true _ _
-    (up_to_where 15 (λ y. not (ltb (get_or places_in_gl y 0) 5)) (λ y. ltb (get_or places_in_gr y 0) 13) refl x h (rw (← el, le-ltb l 5)))
 
 -- the numbers by a class's places
 module _ (x l r k : ℕ) (el : l ≡ get_or places_in_gl x 0) (er : r ≡ get_or places_in_gr x 0) where
@@ -321,10 +295,6 @@ module _ (x l r k : ℕ) (el : l ≡ get_or places_in_gl x 0) (er : r ≡ get_or
   pub second_gr : x < 15 → r < 13 → with_gr r k ≡ after_second x k
   unfolding after_second
   second_gr h m = rw (lt-ltb x 15, ← er, lt-ltb r 13)
-
-  pub second_gl : x < 15 → 13 ≤ r → with_gl l k ≡ after_second x k
-  unfolding after_second
-  second_gl h m = rw (lt-ltb x 15, ← el, ← er, le-ltb r 13)
 
 pub first_space : (k : ℕ) → with_gl 0 k ≡ after_first 15 k
 unfolding after_first

@@ -8,62 +8,61 @@ pub mod class;
 pub mod size;
 mod slots;
 
-// The place of GL that serves each class, 5 where none does: of sets as the table of sets has them (`places_tied`).
-pub const PLACES_IN_GL: [u8; class::ALL] = [0, 5, 1, 5, 5, 5, 5, 5, 5, 5, 5, 5, 2, 3, 4, 0, 0];
+// The place of GL that serves each class, 5 where none does: of sets as the table of sets has them (`places_tied`). No Option: the loops of `plan`
+// and `emit` compare it with the places that there are, and 5 is none of them.
+pub static PLACES_IN_GL: [u8; class::ALL] = [0, 5, 1, 5, 5, 5, 5, 5, 5, 5, 5, 5, 2, 3, 4, 0, 0];
 
 // That of GR, 16 where none does.
-pub const PLACES_IN_GR: [u8; class::ALL] = [
+pub static PLACES_IN_GR: [u8; class::ALL] = [
     16, 0, 16, 1, 2, 3, 4, 5, 6, 7, 8, 9, 10, 11, 12, 16, 16,
 ];
 
+// The sets that may stand in GL and in GR, by place.
+static SETS_IN_GL: [u8; size::GL] = [0, 2, 12, 13, 14];
+
+static SETS_IN_GR: [u8; size::GR] = [1, 3, 4, 5, 6, 7, 8, 9, 10, 11, 12, 13, 14];
+
+// The number at a place of a table, 0 past its end.
+fn number_at(table: &[u8], place: usize) -> u8
+    ensures { result ≡ get_or table.now place 0 }
+{
+    table.get(place).copied().unwrap_or(0)
+}
+
 // The class of a unit by its row's tag.
+#[tactic(auto, using(base::proofs::Ladder::ladder), unfolding(crate::specs::Numbers::class_of, base::specs::Choice::pick))]
 pub fn class_of(tag: u8) -> usize
     ensures { (result ≡ class_of tag) × (result < 17) }
 {
-    let x = tag as usize;
-    if x < class::FREE { x } else { class::FREE }
+    usize::from(tag).min(class::FREE)
 }
 
 // The place of GL that serves a class, 5 where none does.
 pub fn place_in_gl(x: usize) -> usize
     ensures { result ≡ get_or places_in_gl x 0 }
 {
-    if x < class::ALL {
-        return PLACES_IN_GL[x] as usize;
-    }
-    0
+    usize::from(number_at(&PLACES_IN_GL, x))
 }
 
 // The place of GR that serves a class, 16 where none does.
 pub fn place_in_gr(x: usize) -> usize
     ensures { result ≡ get_or places_in_gr x 0 }
 {
-    if x < class::ALL {
-        return PLACES_IN_GR[x] as usize;
-    }
-    0
+    usize::from(number_at(&PLACES_IN_GR, x))
 }
 
 // The set at a place of GL, 0 at those that are none.
-pub fn set_in_gl(g: usize) -> usize
+pub fn set_in_gl(g: usize) -> u8
     ensures { (result ≡ get_or sets_in_gl g 0) × (result < 15) }
 {
-    let sets = b"\x00\x02\x0C\x0D\x0E";
-    if g < size::GL {
-        return sets[g] as usize;
-    }
-    0
+    number_at(&SETS_IN_GL, g)
 }
 
 // The set at a place of GR, 0 at the spare ones.
-pub fn set_in_gr(r: usize) -> usize
+pub fn set_in_gr(r: usize) -> u8
     ensures { (result ≡ get_or sets_in_gr r 0) × (result < 15) }
 {
-    let sets = b"\x01\x03\x04\x05\x06\x07\x08\x09\x0A\x0B\x0C\x0D\x0E";
-    if r < size::GR {
-        return sets[r] as usize;
-    }
-    0
+    number_at(&SETS_IN_GR, r)
 }
 
 // Where a row keeps what the rest costs after the second designation, for a class that has two.
@@ -79,6 +78,7 @@ pub fn second_slot(x: usize, k: usize) -> usize
 
 // The number after the choice for a unit of class x under number k, where u and v are what the rest costs after the first designation
 // and after the second.
+#[tactic(auto, using(base::proofs::Ladder::ladder), unfolding(crate::specs::Numbers::chosen_by))]
 pub fn chosen(x: usize, k: usize, u: u8, v: u8) -> usize
     ensures { result ≡ chosen_by x k u v }
 {
@@ -97,17 +97,9 @@ pub fn chosen(x: usize, k: usize, u: u8, v: u8) -> usize
 }
 
 // Whether a unit of class x changes the costs, where last is the class that changed them last.
+#[tactic(auto, using(base::proofs::Ladder::ladder), unfolding(crate::specs::Numbers::changes))]
 pub fn changed(last: usize, x: usize) -> bool
     ensures { result ≡ changes last x }
 {
-    if x == class::FREE {
-        return false;
-    }
-    if x == last {
-        return false;
-    }
-    if x == class::SPACE {
-        return last != 0;
-    }
-    true
+    x != class::FREE && x != last && (x != class::SPACE || last != 0)
 }

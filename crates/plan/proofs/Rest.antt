@@ -223,8 +223,8 @@ module _ {o before : List ℕ} {n i base last : ℕ} {cur : List ℕ} (v : Known
   known_bound : base ≤ 1074400000
   known_bound = omega (arith, v.values 1 (omega arith), rest_most o before n v.octets (n - i) i (numbered 1) refl v.inside)
 
-  pub known_sum : {w r : ℕ} → w ≤ 16389 → r ≤ 128 → Fits w64 (base + w) × Fits w64 (base + w + r)
-  known_sum hw hr = (omega (arith, known_bound), omega (arith, known_bound))
+  pub known_sum : {w r : ℕ} → w ≤ 16389 → r ≤ 128 → Fits w64 (w + r) × Fits w64 (base + (w + r))
+  known_sum hw hr = (omega arith, omega (arith, known_bound))
 
   known_low : (j : ℕ) → get_or cur j 0 ≤ 208
   known_low j =
@@ -233,8 +233,8 @@ module _ {o before : List ℕ} {n i base last : ℕ} {cur : List ℕ} (v : Known
       omega (arith, v.values j h, v.values 1 (omega arith), near (units_in o before i (n - i)) (numbered j) (numbered 1)))
       (λ e. let m = ltb-false j 80 e in omega (arith, List·getD-eq-default cur 0 (let z : length cur ≤ j = omega arith in z)))
 
-  pub known_result : Fits w64 (get_or cur 1 0) × Fits w64 (base + get_or cur 1 0)
-  known_result = (omega (arith, known_low 1), omega (arith, known_bound, known_low 1))
+  pub known_result : Fits w64 (base + get_or cur 1 0)
+  known_result = omega (arith, known_bound, known_low 1)
 
   pub known_smooth : (x : ℕ) → x < 17 → Smooth x cur
   known_smooth x hx =
@@ -248,7 +248,6 @@ module _ {o before : List ℕ} {n i base last : ℕ} {cur : List ℕ} (v : Known
 -- the row before row i lies in the room
 pub record RowLies (i : ℕ) (room : List ℕ) : Type 0 where
   pub next : i ≡ suc (i - 1)
-  pub less : i - 1 < i
   pub start : Fits w64 (72 * (i - 1))
   pub tag : Fits w64 (72 * (i - 1) + 65)
   pub read : 72 * (i - 1) + 65 < length room
@@ -257,7 +256,7 @@ pub record RowLies (i : ℕ) (room : List ℕ) : Type 0 where
 pub row_lies : {o before : List ℕ} {n i base last : ℕ} {cur room : List ℕ} → Known o before n i base last cur × Planned o before n i room → 0 < i
     → RowLies i room
 row_lies (v, p) h =
-    record { next = omega arith; less = omega arith; start = omega arith; tag = omega arith; read = omega arith; costs = omega arith }
+    record { next = omega arith; start = omega arith; tag = omega arith; read = omega arith; costs = omega arith }
 
 -- ---- one turn of the plan: the unit before row i, which is read in the room as it then is
 
@@ -290,7 +289,7 @@ module _ {o before : List ℕ} {n i j base last : ℕ} {cur room : List ℕ} (e 
       planned_step o before n j base cur room after hj v'.values (subst (λ (m : ℕ). Planned o before n m room) e p)
       (subst (λ (y : ℕ). RowKept y cur room (72 * j) after) its_class s)
 
-  pub turn_known : {r last' : ℕ} {after : List ℕ} → Turned last x cur r last' after → Known o before n j (base + w + r) last' after
+  pub turn_known : {r last' : ℕ} {after : List ℕ} → Turned last x cur r last' after → Known o before n j (base + (w + r)) last' after
   turn_known {r} {last'} {after} t =
       test (changes last x)
       (λ q. more (λ k hk. omega (arith, its_size, rw its_class at ((t.moved q).1 k hk), least_rest o before n j base cur hj v'.values k hk))
@@ -299,7 +298,7 @@ module _ {o before : List ℕ} {n i j base last : ℕ} {cur room : List ℕ} (e 
       more (λ k hk. rw (t.still q).2 (omega (arith, its_size, (t.still q).0, v'.values k hk, skip-rest o before n j hj d (numbered k))))
       (rw (t.still q).1 (settled-skip o before n j hj d last v'.settled)))
     where
-      more : CostsAre o before n j (base + w + r) after → Settled o before n j last' → Known o before n j (base + w + r) last' after
+      more : CostsAre o before n j (base + (w + r)) after → Settled o before n j last' → Known o before n j (base + (w + r)) last' after
       more values settled =
           record {
             values = values;

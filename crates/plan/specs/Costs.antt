@@ -10,13 +10,6 @@ surcharges p =
     p ∷ p ∷ p ∷ p ∷ p ∷ p ∷ p ∷ p ∷ p ∷ p ∷ p ∷ p ∷ p ∷ p ∷ p ∷ 0
     ∷ p ∷ p ∷ p ∷ p ∷ p ∷ p ∷ p ∷ p ∷ p ∷ p ∷ p ∷ p ∷ p ∷ p ∷ p ∷ p ∷ []
 
--- what the plan holds beside the costs: the places of GL and GR that serve each class, and the surcharges of either price
-pub record Tables (left right fours threes : List ℕ) : Type 0 where
-  pub in_gl : left ≡ places_in_gl
-  pub in_gr : right ≡ places_in_gr
-  pub by_four : fours ≡ surcharges 4
-  pub by_three : threes ≡ surcharges 3
-
 -- the classes that GL alone serves: those of sets 0 and 2, and that of a space
 abbrev pub OfGL : ℕ → Type 0
 OfGL x = (x < class.free) × (size.gr ≤ get_or places_in_gr x 0)

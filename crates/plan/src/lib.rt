@@ -24,22 +24,19 @@ pub fn plan(work: &mut [u8], n: usize, segments: &[u8]) -> usize
     fours[15] = 0;
     let mut threes = [3u8; 32];
     threes[15] = 0;
-    let left = numbers::PLACES_IN_GL;
-    let right = numbers::PLACES_IN_GR;
+    let prices = costs::Prices { fours, threes };
     let mut cur = [0u8; size::NUMBERS];
     let mut base: usize = 0;
     let mut last = class::FREE;
-    let mut i = rows::rows_of(n, work.len());
-    while 0 < i {
-        i -= 1;
+    for i in (0..rows::rows_of(n, work.len())).rev() {
         let row = layout::ROW * i;
         let tag = work[row + layout::TAG];
         let size = rows::size_at(tag, work, row, m);
         let x = numbers::class_of(tag);
         table::keep(x, &cur, work, row);
-        let t = costs::unit_before(last, x, &left, &right, &fours, &threes, &mut cur);
-        base = base + size + t.base;
-        last = t.last;
+        let taken = costs::unit_before(last, x, &prices, &mut cur);
+        base += size + taken.base;
+        last = taken.last;
     }
-    base + (cur[1] as usize)
+    base + usize::from(cur[1])
 }

@@ -14,14 +14,11 @@ fn lesser_column(
     cur: &mut [u8; size::NUMBERS],
     r: usize,
 )
-    requires { (r < sizes.columns) × ((g : ℕ) → g < sizes.gl → (u + get_or p g 0 ≤ 255) × (v + get_or q g 0 ≤ 255))
-        × (length cur.old ≡ sizes.numbers) }
+    requires { (r < sizes.columns) × ((g : ℕ) → g < sizes.gl → (u + get_or p g 0 ≤ 255) × (v + get_or q g 0 ≤ 255)) }
     ensures { ColumnFilled (λ g. min (u + get_or p g 0) (v + get_or q g 0)) r sizes.gl cur.old cur.new }
 {
-    let mut g: usize = 0;
-    while g < size::GL {
-        cur[size::COLUMNS * g + r] = table::lesser(u + p[g], v + q[g]);
-        g += 1;
+    for g in 0..size::GL {
+        cur[size::COLUMNS * g + r] = (u + p[g]).min(v + q[g]);
     }
 }
 
@@ -36,30 +33,24 @@ pub fn lesser_costs(
     q: [u8; size::GL],
     cur: &mut [u8; size::NUMBERS],
 )
-    requires { SumsFit a.now i p × SumsFit c.now j q × (length cur.old ≡ sizes.numbers) }
+    requires { SumsFit a.now i p × SumsFit c.now j q }
     ensures { Columns (λ g r. min (get_or a.now (i + r) 0 + get_or p g 0)
         (get_or c.now (j + r) 0 + get_or q g 0)) sizes.columns cur.new }
 {
-    let mut r: usize = 0;
-    while r < size::COLUMNS {
-        let u = a[i + r];
-        let v = c[j + r];
-        lesser_column(u, p, v, q, cur, r);
-        r += 1;
+    for r in 0..size::COLUMNS {
+        lesser_column(a[i + r], p, c[j + r], q, cur, r);
     }
 }
 
 // Column r before a unit that GL alone serves, from its costs a with set 0 in GL and b with set 2: p and q are nothing where that set
 // serves the unit, and else two designations' price, with which it is never the lesser.
 pub fn gl_column(a: u8, p: u8, b: u8, q: u8, three: u8, cur: &mut [u8; size::NUMBERS], r: usize)
-    requires { (r < sizes.columns) × (a + p + three ≤ 255) × (b + q + three ≤ 255) × (length cur.old ≡ sizes.numbers) }
+    requires { (r < sizes.columns) × (a + p + three ≤ 255) × (b + q + three ≤ 255) }
     ensures { ColumnFilled (λ g. get_or (from_gl a p b q three) g 0) r sizes.gl cur.old cur.new }
 {
-    let first = table::lesser(a + p, b + three);
-    let second = table::lesser(b + q, a + three);
-    let other = table::lesser(a + p, b + q) + three;
-    cur[r] = first;
-    cur[size::COLUMNS + r] = second;
+    let other = (a + p).min(b + q) + three;
+    cur[r] = (a + p).min(b + three);
+    cur[size::COLUMNS + r] = (b + q).min(a + three);
     cur[32 + r] = other;
     cur[48 + r] = other;
     cur[64 + r] = other;

@@ -11,29 +11,16 @@ use base::limit;
 pub mod layout;
 pub mod tag;
 
-// An octet as a number of the machine.
-pub fn wide(x: u8) -> usize
-    ensures { (result ≡ x) × (result ≤ 255) }
-{
-    x as usize
-}
-
-// The octets from a place on, of m.
-fn rest(m: usize, place: usize) -> usize
-    ensures { result ≡ m - place }
-{
-    if place < m { m - place } else { 0 }
-}
-
 // The octet at a place of the row that starts at a place of the room, 0 beyond the room's end. One test, for the rest is the same for all places of
 // a row.
 fn octet_at(work: &[u8], row: usize, place: usize) -> u8
     ensures { result ≡ get_or work.now (row + place) 0 }
 {
-    if place < rest(work.len(), row) {
-        return work[row + place];
+    if place < work.len().saturating_sub(row) {
+        work[row + place]
+    } else {
+        0
     }
-    0
 }
 
 // The n of the segment of the row that starts at a place.
@@ -42,63 +29,55 @@ pub fn count_at(work: &[u8], row: usize) -> usize
 {
     let high = octet_at(work, row, layout::HIGH);
     let low = octet_at(work, row, layout::LOW);
-    wide(high % 64) * 256 + wide(low)
+    usize::from(high % 64) * 256 + usize::from(low)
 }
 
 // Where its octets start.
 pub fn start_at(work: &[u8], row: usize) -> usize
     ensures { result ≡ start_from work.now row }
 {
-    let a = wide(octet_at(work, row, layout::START));
-    let b = wide(octet_at(work, row, layout::START + 1));
-    let c = wide(octet_at(work, row, layout::START + 2));
-    let d = wide(octet_at(work, row, layout::START + 3));
-    ((a * 256 + b) * 256 + c) * 256 + d
+    let a = octet_at(work, row, layout::START);
+    let b = octet_at(work, row, layout::START + 1);
+    let c = octet_at(work, row, layout::START + 2);
+    let d = octet_at(work, row, layout::START + 3);
+    u32::from_be_bytes([a, b, c, d]) as usize
 }
 
 // The octets of a segment's part that lie in the m octets in which the segments stand.
 pub fn part_of(n: usize, start: usize, m: usize) -> usize
     ensures { result ≡ part_of n start m }
 {
-    let left = rest(m, start);
-    if n <= left { n } else { left }
+    n.min(m.saturating_sub(start))
 }
 
 // The octets of the unit of a tag in the row that starts at a place, where the segments stand in m octets.
+#[tactic(auto, using(base::proofs::Ladder::ladder), unfolding(crate::specs::Rows::size_of))]
 pub fn size_at(tag: u8, work: &[u8], row: usize, m: usize) -> usize
     ensures { (result ≡ size_of tag (part_from m work.now row)) × (result ≤ 16389) }
 {
-    if tag < tag::DOUBLE {
-        return 1;
+    match tag {
+        ..tag::DOUBLE => 1,
+        ..tag::SPACE => 2,
+        ..tag::LEFT_TO_RIGHT => 1,
+        ..tag::REVERT => 3,
+        ..tag::SEGMENT => 2,
+        ..tag::SPARE => {
+            let n = count_at(work, row);
+            let start = start_at(work, row);
+            6 + part_of(n, start, m)
+        }
+        _ => 2,
     }
-    if tag < tag::SPACE {
-        return 2;
-    }
-    if tag < tag::LEFT_TO_RIGHT {
-        return 1;
-    }
-    if tag < tag::REVERT {
-        return 3;
-    }
-    if tag < tag::SEGMENT {
-        return 2;
-    }
-    if tag < tag::SPARE {
-        let n = count_at(work, row);
-        let start = start_at(work, row);
-        return 6 + part_of(n, start, m);
-    }
-    2
 }
 
 // The rows that are written, of n in a room of m octets.
+#[tactic(auto, using(base::proofs::Ladder::ladder), unfolding(crate::specs::Rows::rows_of))]
 pub fn rows_of(n: usize, m: usize) -> usize
     ensures { (result ≡ rows_of n m) × (result ≤ limits.units) × (layouts.row * result ≤ m) }
 {
-    if n <= limit::UNITS {
-        if layout::ROW * n <= m {
-            return n;
-        }
+    if n <= limit::UNITS && layout::ROW * n <= m {
+        n
+    } else {
+        0
     }
-    0
 }

@@ -1,4 +1,4 @@
-// The tags of units. Below SPACE a character of the set of that number.
+// The tags of units. Below SPACE a character of the set of that number. Numbers and no enum: rows hold them, and any octet is a tag (specs/Rows).
 
 // the first set of two octets
 pub const DOUBLE: u8 = charset::FIRST_DOUBLE;

@@ -2,18 +2,11 @@
 #![tactic(auto)]
 
 ghost use Rattle.std.specs.Prelude.{◌≡◌, cond, ◌+◌, ◌-◌, ◌*◌, ◌%◌, ◌≤◌, ◌<◌, min, eqb, length, get_or};
-ghost use Rattle.table.specs.Table.{FilledTo, PlacesFilled, Charges, ColumnRead, RowRead, Kept};
+ghost use Rattle.table.specs.Table.{FilledTo, PlacesFilled, Charges, ColumnRead, Kept};
 ghost use Rattle.numbers.specs.Size as sizes;
 
 use numbers::{class, size};
 use rows::layout;
-
-// The lesser of two costs.
-pub fn lesser(a: u8, b: u8) -> u8
-    ensures { result ≡ min a b }
-{
-    if a <= b { a } else { b }
-}
 
 // What a set costs a class more: two designations' price where it does not serve it, else nothing.
 pub fn unserved(x: usize, class: usize) -> u8
@@ -22,24 +15,13 @@ pub fn unserved(x: usize, class: usize) -> u8
     if x == class { 6 } else { 0 }
 }
 
-// The price, but nothing in the row of a place.
-fn charge(price: u8, place: usize, g: usize) -> u8
-    ensures { result ≡ cond (eqb g place) 0 price }
-{
-    if g == place { 0 } else { price }
-}
-
-// The price in each row, but nothing in the row of a place.
+// The price in each row, but nothing in the row of a place. Written out, as the next: in a loop each place is stored by itself, and the
+// processor waits where the array is then read whole.
 pub fn charges(price: u8, place: usize) -> [u8; size::GL]
     ensures { Charges price place result }
 {
-    [
-        charge(price, place, 0),
-        charge(price, place, 1),
-        charge(price, place, 2),
-        charge(price, place, 3),
-        charge(price, place, 4),
-    ]
+    let charge = |g: usize| if g == place { 0 } else { price };
+    [charge(0), charge(1), charge(2), charge(3), charge(4)]
 }
 
 // The costs of the five rows in a column.
@@ -56,31 +38,12 @@ pub fn column(costs: &[u8; size::NUMBERS], r: usize) -> [u8; size::GL]
     ]
 }
 
-// The 16 costs from a place on.
-fn row_of(costs: &[u8; size::NUMBERS], from: usize) -> [u8; size::COLUMNS]
-    requires { from + sizes.columns ≤ sizes.numbers }
-    ensures { RowRead costs.now from result }
-{
-    let mut row = [0u8; size::COLUMNS];
-    let mut r: usize = 0;
-    while r < size::COLUMNS {
-        row[r] = costs[from + r];
-        r += 1;
-    }
-    row
-}
-
-// Keeps 16 costs, from a place on. Through an array of its own, which cannot lie in the work room: so the compiler stores all 16 at once.
+// Keeps 16 costs, from a place on.
 fn keep_row(cur: &[u8; size::NUMBERS], from: usize, work: &mut [u8], at: usize)
     requires { (from + sizes.columns ≤ sizes.numbers) × (at + sizes.columns ≤ length work.old) }
     ensures { PlacesFilled (λ r. get_or cur.now (from + r) 0) at sizes.columns work.old work.new }
 {
-    let row = row_of(cur, from);
-    let mut r: usize = 0;
-    while r < size::COLUMNS {
-        work[at + r] = row[r];
-        r += 1;
-    }
+    work[at..at + size::COLUMNS].copy_from_slice(&cur[from..from + size::COLUMNS]);
 }
 
 // Keeps the costs of the five rows in a column.
@@ -88,10 +51,8 @@ fn keep_column(cur: &[u8; size::NUMBERS], r: usize, work: &mut [u8], at: usize)
     requires { (r < sizes.columns) × (at + sizes.gl ≤ length work.old) }
     ensures { PlacesFilled (λ g. get_or cur.now (sizes.columns * g + r) 0) at sizes.gl work.old work.new }
 {
-    let mut g: usize = 0;
-    while g < size::GL {
+    for g in 0..size::GL {
         work[at + g] = cur[size::COLUMNS * g + r];
-        g += 1;
     }
 }
 
@@ -102,38 +63,23 @@ pub fn keep(x: usize, cur: &[u8; size::NUMBERS], work: &mut [u8], row: usize)
     if x < class::DOUBLE {
         return;
     }
-    if work.len() < layout::TAG {
-        return;
-    }
-    if work.len() - layout::TAG < row {
+    if work.len().saturating_sub(row) < layout::TAG {
         return;
     }
     if x < class::SPACE {
         keep_row(cur, size::COLUMNS * (x - 10), work, row);
         keep_column(cur, x - 2, work, row + size::COLUMNS);
-        return;
-    }
-    if x == class::SPACE {
+    } else if x == class::SPACE {
         keep_row(cur, 0, work, row);
         keep_row(cur, size::COLUMNS, work, row + size::COLUMNS);
     }
 }
 
-// A cost less 128, and 0 for those below.
-fn lowered(v: u8) -> u8
-    ensures { result ≡ v - 128 }
-{
-    if v < 128 { 0 } else { v - 128 }
-}
-
-// Takes 128 from each cost.
+// Takes 128 from each cost, and leaves 0 of those below.
 pub fn lower(cur: &mut [u8])
     ensures { FilledTo (λ k. k) (λ k. get_or cur.old k 0 - 128) (length cur.old) cur.old cur.new }
 {
-    let mut k: usize = 0;
-    while k < cur.len() {
-        let v = cur[k];
-        cur[k] = lowered(v);
-        k += 1;
+    for v in cur.iter_mut() {
+        *v = v.saturating_sub(128);
     }
 }

@@ -1,5 +1,5 @@
 -- `plan::plan` meets its contract. The invariant: what the rows from i on cost is known from all numbers, and those rows are planned.
-use Rattle.element.proofs.Names.{arith, refl}
+use Rattle.element.proofs.Names.{arith, refl, ℕ, ◌+◌, ap}
 use lib.ListN.{replicate}
 use Rattle.numbers.proofs.Numbers.{bounded}
 use Rattle.plan.proofs.Rest.{known_none, planned_none, known_sum, known_result, known_smooth, row_lies, turn_near, turn_known, turn_planned}
@@ -13,9 +13,6 @@ loop-i-init c = let rows = c.rows_of-i.ensures in
       planned_none _ _ _,
     )
 
-pub overflow_sub-i : goal.overflow_sub-i
-overflow_sub-i c = c.loop-i-test.true
-
 pub overflow_mul-row : goal.overflow_mul-row
 overflow_mul-row c = (row_lies c.loop-i.invariant c.loop-i-test.true).start
 
@@ -25,41 +22,33 @@ overflow_add-tag c = (row_lies c.loop-i.invariant c.loop-i-test.true).tag
 pub bounds-work-row : goal.bounds-work-row
 bounds-work-row c = (row_lies c.loop-i.invariant c.loop-i-test.true).read
 
-pub unit_before-t-requires : goal.unit_before-t-requires
-unit_before-t-requires c = let known = c.loop-i.invariant in (
-  record {
-    class_of = c.class_of-x.ensures.1;
-    low = known.0.low;
-    smooth = known_smooth known.0;
-    near = turn_near (row_lies known c.loop-i-test.true).next known.0 known.1 c.class_of-x.ensures.0 c.size_at-size.ensures.0;
-    long = known.0.long;
-  },
-  record { in_gl = refl; in_gr = refl; by_four = refl; by_three = refl },
-)
+pub unit_before-taken-requires : goal.unit_before-taken-requires
+unit_before-taken-requires c = let known = c.loop-i.invariant in
+    record {
+      class_of = c.class_of-x.ensures.1;
+      low = known.0.low;
+      smooth = known_smooth known.0;
+      near = turn_near (row_lies known c.loop-i-test.true).next known.0 known.1 c.class_of-x.ensures.0 c.size_at-size.ensures.0;
+      long = known.0.long;
+    }
 
 pub overflow_add-base : goal.overflow_add-base
-overflow_add-base c = (known_sum c.loop-i.invariant.0 c.size_at-size.ensures.1 c.unit_before-t.ensures.small).0
+overflow_add-base c = (known_sum c.loop-i.invariant.0 c.size_at-size.ensures.1 c.unit_before-taken.ensures.small).0
 
 pub overflow_add-base-in-loop-i : goal.overflow_add-base-in-loop-i
-overflow_add-base-in-loop-i c = (known_sum c.loop-i.invariant.0 c.size_at-size.ensures.1 c.unit_before-t.ensures.small).1
-
-pub loop-i-smaller : goal.loop-i-smaller
-loop-i-smaller c = (row_lies c.loop-i.invariant c.loop-i-test.true).less
+overflow_add-base-in-loop-i c = (known_sum c.loop-i.invariant.0 c.size_at-size.ensures.1 c.unit_before-taken.ensures.small).1
 
 pub loop-i-preserved : goal.loop-i-preserved
 loop-i-preserved c = let known = c.loop-i.invariant in
     let next = (row_lies known c.loop-i-test.true).next in
     let its_class = c.class_of-x.ensures.0 in
     let its_size = c.size_at-size.ensures.0 in (
-      turn_known next known.0 known.1 its_class its_size c.unit_before-t.ensures,
+      turn_known next known.0 known.1 its_class its_size c.unit_before-taken.ensures,
       turn_planned next known.0 known.1 its_class its_size (c.keep.ensures.there (row_lies known c.loop-i-test.true).costs),
     )
 
-pub overflow_cast-result : goal.overflow_cast-result
-overflow_cast-result c = (known_result c.loop-i.invariant.0).0
-
 pub overflow_add-result : goal.overflow_add-result
-overflow_add-result c = (known_result c.loop-i.invariant.0).1
+overflow_add-result c = omega (arith, known_result c.loop-i.invariant.0, c.from.ensures)
 
 pub returns : goal.returns
-returns c = plan_end (search arith) c.loop-i.invariant.0 c.loop-i.invariant.1 refl
+returns c = plan_end (search arith) c.loop-i.invariant.0 c.loop-i.invariant.1 (ap (λ (v : ℕ). c.loop-i.base + v) c.from.ensures)

@@ -9,6 +9,3 @@ abbrev pub invariant-loop-i : goal.invariant-loop-i
 invariant-loop-i l =
     Known l.segments l.initial.work (rows_of l.n (length l.initial.work)) l.i l.base l.last l.cur
     × Planned l.segments l.initial.work (rows_of l.n (length l.initial.work)) l.i l.work
-
-abbrev pub decreases-loop-i : goal.decreases-loop-i
-decreases-loop-i l = l.i

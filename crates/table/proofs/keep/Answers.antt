@@ -1,16 +1,10 @@
 -- `table::keep` meets its contract, by the class.
 use Rattle.element.proofs.Names.{arith}
-use Rattle.table.proofs.Keeping.{kept_none, kept_absent, kept_character, kept_space}
+use Rattle.table.proofs.Keeping.{kept_none, kept_character, kept_space}
 use Rattle.table.proofs.keep.Goals as goal
 
 pub returns-then-x-lt-DOUBLE : goal.returns-then-x-lt-DOUBLE
 returns-then-x-lt-DOUBLE c = kept_none (λ t. omega arith)
-
-pub returns-then-work-lt-TAG : goal.returns-then-work-lt-TAG
-returns-then-work-lt-TAG c = kept_absent (omega arith)
-
-pub returns-then-work-row : goal.returns-then-work-row
-returns-then-work-row c = kept_absent (omega arith)
 
 pub returns-then-x-lt-SPACE : goal.returns-then-x-lt-SPACE
 returns-then-x-lt-SPACE c = let cur = c.args.cur.now in

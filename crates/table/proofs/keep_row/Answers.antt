@@ -1,14 +1,11 @@
--- `table::keep_row` meets its contract. The invariant: the first r costs of the row are kept.
-use Rattle.element.proofs.Names.{arith, refl, length-set}
-use Rattle.table.proofs.Filled.{filled_none, filled_more, filled_end, filled_same}
+-- `table::keep_row` meets its contract: a part is written whole.
+use Rattle.element.proofs.Names.{arith, ap, ◌∙◌, List, ℕ, get_or}
+use Rattle.std.proofs.Common.{rules}
+use Rattle.std.proofs.lemmas.List.{places}
+use Rattle.table.proofs.Filled.{filled_part}
 use Rattle.table.proofs.keep_row.Goals as goal
 
-pub loop-r-init : goal.loop-r-init
-loop-r-init c = (search arith, refl, filled_none _ _ _, c.row_of-row.ensures)
-
-pub loop-r-preserved : goal.loop-r-preserved
-loop-r-preserved c = let inv = c.loop-r.invariant in
-    (omega arith, simp length-set inv.1, filled_more _ _ _ _ _ _ (λ q h z. omega arith) inv.2 (omega arith) refl, inv.3)
-
 pub returns : goal.returns
-returns c = filled_same c.loop-r.invariant.3.each (filled_end 16 c.loop-r.invariant.2 (search arith) (search arith))
+returns c = let copied = c.copy_from_slice.ensures.after in
+    filled_part _ 16 _ _ _ _ (omega arith) (omega (arith, c.copy_from_slice.ensures.len))
+    (omega arith) (λ r h. ap (λ (l : List ℕ). get_or l r 0) copied ∙ search (rules, places))
