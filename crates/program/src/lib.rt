@@ -9,8 +9,8 @@ ghost use Rattle.program.specs.Printed.{room, printed_of};
 
 use base::{Answer, refusal};
 
-// The octets of work room: 72 × (909 + 1).
-const WORK_ROOM: usize = 65520;
+// The octets of work room, for 909 units.
+const WORK_ROOM: usize = 72 * (909 + 1);
 
 // The answer, and how many octets are printed.
 #[repr(C)]
@@ -51,25 +51,14 @@ pub fn print(s: &[u8], out: &mut [u8]) -> Printed
         × (out.new ≡ stored_in (printed_of s.now) out.old)
         × (octets ≤ length out.old → result.length ≤ length out.old) }
 {
-    let a = shorten(s, out);
-    if a.number == refusal::ACCEPTED {
-        return Printed {
-            answer: a,
-            length: a.count,
-        };
-    }
-    // 10: the octets that the shortest form needs
-    if 0 < a.count {
-        return Printed {
-            answer: a,
-            length: a.count,
-        };
-    }
-    let n = refusal_line::refused(a.number, a.place, out);
-    Printed {
-        answer: a,
-        length: n,
-    }
+    let answer = shorten(s, out);
+    // a count beside a refusal: the output is too short, and the shortest form needs so many octets
+    let length = if answer.number == refusal::ACCEPTED || 0 < answer.count {
+        answer.count
+    } else {
+        refusal_line::refused(answer.number, answer.place, out)
+    };
+    Printed { answer, length }
 }
 
 // What is printed for the first n octets of an input's room, or for all of it where n is not less.
@@ -79,9 +68,5 @@ pub fn print_input(input: &[u8; 65536], n: usize, out: &mut [u8]) -> Printed
         × (out.new ≡ stored_in (printed_of (take n input.now)) out.old)
         × (octets ≤ length out.old → result.length ≤ length out.old) }
 {
-    let all: &[u8] = input;
-    if n < all.len() {
-        return print(&all[..n], out);
-    }
-    print(all, out)
+    print(&input[..n.min(input.len())], out)
 }
