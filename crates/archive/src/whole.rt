@@ -7,7 +7,7 @@ ghost use Rattle.state.specs.State.{state};
 ghost use Rattle.archive_laws.specs.Passes.{text_class, TextAt, Leads, LeadsBy, Places};
 
 use crate::quick::{Reach, blanks, quick};
-use base::{Answer, limit, refusal};
+use base::{Answer, Refusal, limit};
 use charset::{NO_SET, Side};
 use designations::designation_at;
 use octet_stretches::class_at;
@@ -99,7 +99,7 @@ fn whole(t: &[u8], s: &[u8]) -> Answer
     ensures { t.now ≡ table → result ≡ check_of s.now }
 {
     if limit::OCTETS < s.len() {
-        return Answer::refused(refusal::TOO_LONG, 0);
+        return Refusal::TooLong.at(0);
     }
     let mut at: usize = 0;
     let mut count: usize = 0;

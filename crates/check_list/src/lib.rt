@@ -12,7 +12,7 @@ ghost use Rattle.check_list.specs.Turn.{begun, turn_of, room_after, looked_at, q
 use base::{Unit, limit};
 use record_rules::judge;
 use record_rules::plain::{plain, settled};
-use state::directions::{Directions, Step};
+use state::directions::Directions;
 
 mod record;
 
@@ -70,11 +70,14 @@ pub fn turn(progress: Progress, unit: Unit, i: usize, segments: &[u8], work: &mu
 {
     let directions = progress?;
     match judge(unit, segments, directions) {
-        Step::Goes(next) => {
+        Ok(next) => {
             record::put(unit, i, work);
             Ok(next)
         }
-        Step::Stops(number) => Err(Offence { place: i, number }),
+        Err(refusal) => Err(Offence {
+            place: i,
+            number: refusal.number(),
+        }),
     }
 }
 

@@ -13,7 +13,7 @@ ghost use Rattle.emit.specs.Emit.{rows_answer, rows_output, Ready};
 ghost use Rattle.numbers.specs.Size as sizes;
 ghost use Rattle.numbers.specs.Class as classes;
 
-use base::{Answer, limit, refusal};
+use base::{Answer, Refusal, limit};
 use numbers::size;
 use rows::{layout, tag};
 
@@ -109,14 +109,14 @@ pub fn write_rows(work: &mut [u8], n: usize, segments: &[u8], out: &mut [u8]) ->
         × (length work.new ≡ length work.old) }
 {
     if limit::UNITS < n {
-        return Answer::refused(refusal::TOO_LONG, 0);
+        return Refusal::TooLong.at(0);
     }
     if work.len() < layout::ROW * (n + 1) {
-        return Answer::refused(refusal::NO_WORK_ROOM, 0);
+        return Refusal::NoWorkRoom.at(0);
     }
     let count = plan::plan(work, n, segments);
     if limit::OCTETS < count {
-        return Answer::refused(refusal::TOO_LONG, 0);
+        return Refusal::TooLong.at(0);
     }
     if out.len() < count {
         return Answer::no_room(count);

@@ -7,7 +7,7 @@ ghost use Rattle.base.specs.Choice.{pick, from};
 ghost use Rattle.base.specs.Refusal as refusals;
 ghost use Rattle.x11r5.specs.Reading.{mark_by, segment_by, unsupported_at, unended_check_of};
 
-use base::{Answer, limit, refusal};
+use base::{Answer, Refusal, limit};
 use octet_blocks::octet;
 use state::State;
 use state::elements::Element;
@@ -59,7 +59,7 @@ fn refused_at(s: &[u8], place: usize, number: u8, offset: usize) -> Answer
         (refused_at number (place + offset)) }
 {
     if unsupported_at(s, place) {
-        return Answer::refused(refusal::UNSUPPORTED, place);
+        return Refusal::Unsupported.at(place);
     }
     Answer::refused(number, place + offset)
 }
@@ -69,7 +69,7 @@ pub fn check(s: &[u8]) -> Answer
     ensures { result ≡ unended_check_of s.now }
 {
     if limit::OCTETS < s.len() {
-        return Answer::refused(refusal::TOO_LONG, 0);
+        return Refusal::TooLong.at(0);
     }
     let mut at: usize = 0;
     let mut count: usize = 0;
@@ -88,7 +88,7 @@ pub fn check(s: &[u8]) -> Answer
             }
             Element::Found(part, next) => {
                 if unsupported_at(s, at) {
-                    return Answer::refused(refusal::UNSUPPORTED, at);
+                    return Refusal::Unsupported.at(at);
                 }
                 at += part.skip + part.octets;
                 st = next;

@@ -7,7 +7,7 @@ ghost use Rattle.r5_pen.specs.Pen.{looking_at, ample_for, looked_first, begun_at
 ghost use Rattle.r5_pen.specs.Pen.{passed_text, passed_by, looked_by, checked_by};
 ghost use Rattle.r5_pen.specs.Pen.{stored_text, output_text, stored_by, output_by, turn_of, output_of, finish_answer, finish_output};
 
-use base::{Answer, Unit, kind, limit, refusal};
+use base::{Answer, Refusal, Unit, kind, limit, refusal};
 use charset::{Side, may_use};
 use unit_octets::{put_designation, stores};
 
@@ -249,14 +249,14 @@ pub fn finish(pen: Pen, n: usize, out: &mut [u8]) -> Answer
     ensures { (result ≡ finish_answer pen n (length out.old)) × (out.new ≡ finish_output pen n out.old) }
 {
     if limit::UNITS < n {
-        return Answer::refused(refusal::TOO_LONG, 0);
+        return Refusal::TooLong.at(0);
     }
     if pen.number != refusal::ACCEPTED {
         return Answer::refused(pen.number, pen.place);
     }
     let at = pen.at;
     if limit::OCTETS < at {
-        return Answer::refused(refusal::TOO_LONG, 0);
+        return Refusal::TooLong.at(0);
     }
     if out.len() <= at {
         return Answer::no_room(at + 1);

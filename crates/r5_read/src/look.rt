@@ -5,7 +5,7 @@ ghost use Rattle.base.specs.Refusal as refusals;
 ghost use Rattle.r5_read.specs.Look.{Looked, given_end, settled_by};
 
 use crate::stops::{first_stop, null_from};
-use base::{Answer, refusal};
+use base::{Answer, Refusal, refusal};
 use r5_check::check;
 
 // The answer where the string is refused; else it is accepted so far, and its octets end at a place.
@@ -19,7 +19,7 @@ pub struct Look {
 fn endless(n: usize) -> Answer
     ensures { result ≡ refused_at refusals.not_ended n }
 {
-    Answer::refused(refusal::NOT_ENDED, n)
+    Refusal::NotEnded.at(n)
 }
 
 // Most strings have nothing before their 00 at which the quick look stops; others are checked here.

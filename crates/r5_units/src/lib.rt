@@ -9,7 +9,7 @@ ghost use Rattle.x11r5.specs.Records.{record_refusal};
 ghost use Rattle.r5_units.specs.Unit.{refusal_by_kind, single_of, space_set, text_set, text_code, stands_on};
 ghost use Rattle.r5_units.specs.Unit.{width_of, designated_width, control_octet, text_octets};
 
-use base::{Unit, kind, refusal};
+use base::{Refusal, Unit, kind, refusal};
 use charset::FIRST_DOUBLE;
 use record_rules::judge;
 use record_rules::plain::plain;
@@ -23,7 +23,7 @@ fn by_kind(kind: u8) -> u8
     if kind < kind::LEFT_TO_RIGHT {
         return refusal::ACCEPTED;
     }
-    refusal::UNSUPPORTED
+    Refusal::Unsupported
 }
 
 // Whether a record is a space, or a character of one octet with a code that each such set uses.
@@ -68,8 +68,8 @@ pub fn refusal_of(unit: Unit, segments: &[u8]) -> u8
     match step {
         Step::Goes(_) => by_kind(unit.kind),
         Step::Stops(number) => {
-            if number == refusal::BAD_UNIT {
-                return refusal::BAD_UNIT;
+            if number == Refusal::BadUnit {
+                return Refusal::BadUnit;
             }
             by_kind(unit.kind)
         }

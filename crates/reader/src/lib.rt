@@ -5,7 +5,7 @@ ghost use Rattle.std.specs.Prelude.{◌≡◌, length};
 ghost use Rattle.reader.specs.Step.{stepped, may_stand, counted_of, ended_of, after_of, step_at};
 ghost use Rattle.reader.specs.Reader.{opened, item_at, moved};
 
-use base::{Answer, Unit, limit, refusal};
+use base::{Answer, Refusal, Unit, limit, refusal};
 use charset::Side;
 use state::State;
 use units::Outcome;
@@ -96,12 +96,12 @@ pub fn step(s: &[u8], place: usize, count: usize, state: State) -> Stepped
     ensures { result ≡ step_at s.now place count state }
 {
     if limit::OCTETS < s.len() {
-        return stands(place, count, state, Answer::refused(refusal::TOO_LONG, 0));
+        return stands(place, count, state, Refusal::TooLong.at(0));
     }
     if may_stand(s.len(), place, state) {
         return after(count, units::next_unit(s, place, state));
     }
-    stands(place, count, state, Answer::refused(refusal::BAD_UNIT, 0))
+    stands(place, count, state, Refusal::BadUnit.at(0))
 }
 
 // A reader at the start of a string.

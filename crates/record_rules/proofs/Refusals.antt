@@ -6,7 +6,10 @@ use Rattle.base.proofs.Bools.{◌&◌, each}
 use Rattle.base.proofs.Ladder.{on_le}
 use Rattle.base.specs.Kind as kind
 use Rattle.base.specs.Refusal as refusal
-use Rattle.segment.specs.Segment.{Name, Ends, Bad, Endless}
+use Rattle.std.proofs.Common.{Result, Ok, Err}
+use Rattle.segment.specs.Segment.{Name, Ends, Bad, Endless, name_seen}
+use Rattle.segment.specs.declared.BadName.{BadName}
+use Rattle.segment.specs.declared.BadName.TheVariants.{Octet, Endless as CodeEndless}
 use Rattle.segment.specs.Segment.{segment_part, name_of, whole_of, content_of}
 use Rattle.state.specs.Directions.{counts_as_text}
 use Rattle.grammar.specs.Units.{char, ext, unit_of, text_octets, code_used, segment, good}
@@ -130,3 +133,9 @@ module _ (o : List ℕ) (e s n : ℕ) (d : Directions) where
             by (Ends k) q = absurd (never k q)
             by (Bad k) q = refused (6 + k) (rw q)
             by Endless q = refused (5 + n) (rw q)
+
+-- a name that the code finds no end of
+pub not_ended : (r : Result ℕ BadName) → ((k : ℕ) → r ≡ Ok k → ⊥) → (k : ℕ) → name_seen r ≡ Ends k → ⊥
+not_ended (Ok j) n k e = n j refl
+not_ended (Err (Octet j)) n k e = clash (cc e)
+not_ended (Err CodeEndless) n k e = clash (cc e)

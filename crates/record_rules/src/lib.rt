@@ -2,18 +2,19 @@
 #![tactic(auto)]
 
 ghost use Rattle.std.specs.Prelude.{◌≡◌};
+ghost use Rattle.state.specs.Directions.{step_seen};
 ghost use Rattle.grammar.specs.Records.{unit_read};
 ghost use Rattle.shortest.specs.Records.{fault};
 
-use base::{Unit, kind, refusal};
-use state::directions::{Directions, Step, counts_as_text};
+use base::{Refusal, Unit, kind};
+use state::directions::{Directions, counts_as_text};
 
 mod own;
 pub mod plain;
 
-// What a record does to the directions, or the number of its refusal; its segment stands in the octets lent.
-pub fn judge(unit: Unit, segments: &[u8], directions: Directions) -> Step
-    ensures { result ≡ fault (unit_read segments.now unit) directions }
+// What a record does to the directions, or its refusal; its segment stands in the octets lent.
+pub fn judge(unit: Unit, segments: &[u8], directions: Directions) -> Result<Directions, Refusal>
+    ensures { step_seen result ≡ fault (unit_read segments.now unit) directions }
 {
     match unit.kind {
         kind::CHARACTER => own::character(unit.set, unit.code, directions),
@@ -28,6 +29,6 @@ pub fn judge(unit: Unit, segments: &[u8], directions: Directions) -> Step
             segments,
             directions,
         ),
-        _ => Step::Stops(refusal::BAD_UNIT),
+        _ => Err(Refusal::BadUnit),
     }
 }

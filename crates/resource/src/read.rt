@@ -5,7 +5,7 @@ ghost use Rattle.resource_form.specs.Form.{form_reading};
 ghost use Rattle.resource_form.specs.Conversion.{read_conversion, from_form, conversion_answer, conversion_output};
 ghost use Rattle.resource.specs.Scan.{scan_of, octets_of};
 
-use base::{Answer, limit, refusal};
+use base::{Answer, Refusal, limit};
 use resource_form::BACKSLASH;
 
 // The first fault of a form.
@@ -59,7 +59,7 @@ fn give(form: &[u8], octets: usize, out: &mut [u8]) -> Answer
         × (out.new ≡ conversion_output (read_conversion (form_reading form.now)) out.old) }
 {
     if limit::OCTETS < octets {
-        return Answer::refused(refusal::TOO_LONG, 0);
+        return Refusal::TooLong.at(0);
     }
     if out.len() < octets {
         return Answer::no_room(octets);
@@ -74,10 +74,10 @@ pub fn read(form: &[u8], out: &mut [u8]) -> Answer
         × (out.new ≡ conversion_output (from_form form.now) out.old) }
 {
     if limit::FORM < form.len() {
-        return Answer::refused(refusal::TOO_LONG, 0);
+        return Refusal::TooLong.at(0);
     }
     match look_over(form) {
         Ok(octets) => give(form, octets, out),
-        Err(Fault { place }) => Answer::refused(refusal::BAD_FORM, place),
+        Err(Fault { place }) => Refusal::BadForm.at(place),
     }
 }

@@ -6,7 +6,7 @@ ghost use Rattle.base.specs.Output.{stored_in};
 ghost use Rattle.resource_form.specs.Form.{backslash, digit_0, octet_form, resource_form};
 ghost use Rattle.resource_form.specs.Conversion.{to_form, conversion_answer, conversion_output};
 
-use base::{Answer, limit, refusal};
+use base::{Answer, Refusal, limit};
 use resource_form::{BACKSLASH, DIGIT_0, LETTER_N, NEWLINE, NUL};
 
 // The octets of a string's form. They are counted in 32 bits, which suffice and are done four at a time.
@@ -60,7 +60,7 @@ pub fn write(s: &[u8], out: &mut [u8]) -> Answer
         × (out.new ≡ conversion_output (to_form s.now) out.old) }
 {
     if limit::OCTETS < s.len() {
-        return Answer::refused(refusal::TOO_LONG, 0);
+        return Refusal::TooLong.at(0);
     }
     let n = needed(s);
     if out.len() < n {

@@ -10,7 +10,7 @@ ghost use Rattle.runs.specs.Runs.{shown_of};
 ghost use Rattle.runs.specs.Steps.{position};
 ghost use Rattle.run_lists.specs.Listed.{word_of, upper_of, words_after, runs_step, end_of, given_from, checked_runs, next_runs_of, stand, Onward};
 
-use base::{Answer, limit, refusal};
+use base::{Answer, Refusal, limit, refusal};
 use charset::NO_SET;
 use designations::designation_at;
 use pieces::Piece;
@@ -154,7 +154,7 @@ fn list_quickly(s: &[u8], l: Stand, out: &mut [u64]) -> Stand
 fn end_of(n: usize, k: usize, answer: Answer) -> Answer
     ensures { result ≡ end_of n k answer }
 {
-    if k == 0 && answer.number != refusal::BAD_UNIT {
+    if k == 0 && answer.number != Refusal::BadUnit {
         answer
     } else {
         Answer::accepted(n, k)
@@ -211,10 +211,10 @@ pub fn next_runs(s: &[u8], p: RunPosition, out: &mut [u64]) -> RunsStep
         × (out.new ≡ words_after (next_runs_of s.now p (length out.old)).runs out.old) }
 {
     if limit::OCTETS < s.len() {
-        return stays(p, Answer::refused(refusal::TOO_LONG, 0));
+        return stays(p, Refusal::TooLong.at(0));
     }
     if reader::may_stand(s.len(), p.place, p.state) {
         return list_checked(s, p, out);
     }
-    stays(p, Answer::refused(refusal::BAD_UNIT, 0))
+    stays(p, Refusal::BadUnit.at(0))
 }

@@ -7,7 +7,7 @@ ghost use Rattle.runs.specs.Runs.{shown_of};
 ghost use Rattle.runs.specs.Steps.{first_position, stays, run_step_to, stop_at, run_from, known_of, checked_from, next_run_of};
 
 use crate::Bounds;
-use base::{Answer, limit, refusal};
+use base::{Answer, Refusal, limit, refusal};
 use charset::NO_SET;
 use designations::designation_at;
 use pieces::Piece;
@@ -70,7 +70,7 @@ fn step_to(place: usize, state: State, run: Bounds) -> RunStep
 pub fn stopped(s: &[u8], at: usize, st: State) -> Answer
     ensures { result ≡ (stop_at at st (element_of (from at s.now) st)).run.answer }
 {
-    let none = Answer::refused(refusal::BAD_UNIT, 0);
+    let none = Refusal::BadUnit.at(0);
     match element::element(s, at, st) {
         Element::End => none,
         Element::Refused(number, offset) => Answer::refused(number, at + offset),
@@ -172,10 +172,10 @@ pub fn next_run(s: &[u8], p: RunPosition) -> RunStep
     ensures { result ≡ next_run_of s.now p }
 {
     if limit::OCTETS < s.len() {
-        return stays(p, Answer::refused(refusal::TOO_LONG, 0));
+        return stays(p, Refusal::TooLong.at(0));
     }
     if reader::may_stand(s.len(), p.place, p.state) {
         return checked_from(s, p);
     }
-    stays(p, Answer::refused(refusal::BAD_UNIT, 0))
+    stays(p, Refusal::BadUnit.at(0))
 }

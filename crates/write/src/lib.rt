@@ -6,7 +6,7 @@ ghost use Rattle.shortest.specs.Records.{writer_answer, writer_output};
 ghost use Rattle.shortest.specs.Demand3.{Demand3For};
 ghost use Rattle.write.specs.Stowed.{quick_end, Passed, finish_answer, finish_output};
 
-use base::{Answer, Unit, limit, refusal};
+use base::{Answer, Refusal, Unit, limit};
 use check_list::Progress;
 
 // Checks the records from a place on quickly, and puts them into their rows, up to the first that this check does not let through, whose
@@ -38,7 +38,7 @@ pub fn finish(
         × (length work.new ≡ length work.old) }
 {
     if limit::UNITS < n {
-        return Answer::refused(refusal::TOO_LONG, 0);
+        return Refusal::TooLong.at(0);
     }
     match progress {
         Ok(_) => emit::write_rows(work, n, segments, out),

@@ -1,7 +1,7 @@
 -- `record_rules::own::segment` meets its contract, refusal by refusal.
-use Rattle.element.proofs.Names.{arith, sym, ◌∙◌}
+use Rattle.element.proofs.Names.{arith, refl, sym, ◌∙◌}
 use Rattle.segment.proofs.Steps.{ends_within}
-use Rattle.record_rules.proofs.Refusals.{part_outside, part_low, part_high, part_many, part_found, part_ragged, part_bad}
+use Rattle.record_rules.proofs.Refusals.{part_outside, part_low, part_high, part_many, part_found, part_ragged, part_bad, not_ended}
 use Rattle.record_rules.proofs.own.segment.Goals as goal
 use Rattle.record_rules.proofs.own.segment.Goals.{then-m-start-via-then-m-start, then-m-start-via-else-m-start+then-m-start-2}
 use Rattle.record_rules.proofs.own.segment.Goals.{then-m-start-via-else-m-start+else-m-start-2+then-d-lt48}
@@ -23,25 +23,25 @@ pub returns-in_default : goal.returns-in_default
 returns-in_default c = part_bad c.args.segments.now _ _ _ _ c.if-m-start.false
     c.if-m-start-2.false c.if-d-lt48.false c.if-d-gt52.false c.if-n-gt16383.false
     _ c.name_end.ensures
-    c.in_default.not-Ends
+    (not_ended c.name_end.result c.in_default.not-Ok)
 
 pub overflow_sub-size : goal.overflow_sub-size
 overflow_sub-size c = let h = ends_within c.args.segments.now _ _ _ c.if-m-start-2.false
-    c.name_end.ensures c.in-Ends.is in
+    c.in-Ok.ensures refl in
     omega (arith, h)
 
 pub overflow_sub-size-2 : goal.overflow_sub-size-2
 overflow_sub-size-2 c = let h = ends_within c.args.segments.now _ _ _ c.if-m-start-2.false
-    c.name_end.ensures c.in-Ends.is in
+    c.in-Ok.ensures refl in
     omega (arith, h)
 
 pub returns-then-whole : goal.returns-then-whole
 returns-then-whole c = rw c.counts_as_text-text.ensures at c.step.ensures ∙
     part_found c.args.segments.now _ _ _ _ c.if-m-start.false
-    c.if-m-start-2.false c.if-d-lt48.false c.if-d-gt52.false c.if-n-gt16383.false _ c.name_end.ensures
-    c.in-Ends.is (sym c.whole.ensures ∙ c.if-whole.true)
+    c.if-m-start-2.false c.if-d-lt48.false c.if-d-gt52.false c.if-n-gt16383.false _ c.in-Ok.ensures
+    refl (sym c.whole.ensures ∙ c.if-whole.true)
 
 pub returns : goal.returns
 returns c = part_ragged c.args.segments.now _ _ _ _ c.if-m-start.false
-    c.if-m-start-2.false c.if-d-lt48.false c.if-d-gt52.false c.if-n-gt16383.false _ c.name_end.ensures
-    c.in-Ends.is (sym c.whole.ensures ∙ c.if-whole.false)
+    c.if-m-start-2.false c.if-d-lt48.false c.if-d-gt52.false c.if-n-gt16383.false _ c.in-Ok.ensures
+    refl (sym c.whole.ensures ∙ c.if-whole.false)
