@@ -16,7 +16,6 @@ use charset::{FIRST_DOUBLE, NO_SET};
 use designations::designation_at;
 use state::directions::Directions;
 use state::{Sets, State};
-use units::Outcome;
 
 pub mod marks;
 pub mod octets;
@@ -109,11 +108,11 @@ pub fn by_element(s: &[u8], c: Cursor) -> Turn
     ensures { result ≡ element_turn s.now c }
 {
     match units::next_unit(s, c.place, c.state()) {
-        Outcome::Gives(unit, place, next) => Turn {
-            cursor: cursor_at(place, next),
-            unit,
+        Ok(given) => Turn {
+            cursor: cursor_at(given.place, given.state),
+            unit: given.unit,
         },
-        Outcome::Stops(..) => Turn {
+        Err(_) => Turn {
             cursor: c,
             unit: Unit::BLANK,
         },

@@ -4,7 +4,6 @@ ghost use Rattle.cursor.specs.Cursor.{state_in, element_turn, mark_turn, marked_
 
 use crate::{Cursor, Turn, by_element, cursor_at};
 use base::{Unit, kind, limit};
-use state::directions::Step;
 
 // A mark of a kind and so many octets; where the direction rule refuses it, what its element says.
 fn mark_turn(s: &[u8], c: Cursor, kind: u8, octets: u32) -> Turn
@@ -12,10 +11,8 @@ fn mark_turn(s: &[u8], c: Cursor, kind: u8, octets: u32) -> Turn
     ensures { result ≡ mark_turn c.place kind octets (state_in c) (element_turn s.now c) }
 {
     let st = c.state();
-    let directions = st.directions;
-    let step = directions.step(false, kind);
-    match step {
-        Step::Goes(next) => Turn {
+    match st.directions.step(false, kind) {
+        Ok(next) => Turn {
             cursor: cursor_at(c.place + octets as usize, st.directed(next)),
             unit: Unit {
                 kind,
@@ -27,7 +24,7 @@ fn mark_turn(s: &[u8], c: Cursor, kind: u8, octets: u32) -> Turn
                 depth: next.depth as u16,
             },
         },
-        Step::Stops(number) => by_element(s, c),
+        Err(_) => by_element(s, c),
     }
 }
 

@@ -73,17 +73,16 @@ pub fn piece_at(s: &[u8], at: usize, st: State) -> Option<Piece>
         return None;
     }
     let b = s[at];
-    let e = element::element(s, at, st);
-    match e {
-        Element::End => None,
-        Element::Refused(number, offset) => None,
-        Element::Silent(octets, next) => Some(Piece {
+    match element::element(s, at, st) {
+        Ok(Element::End) => None,
+        Err(_) => None,
+        Ok(Element::Silent(octets, next)) => Some(Piece {
             start: at,
             end: at + octets,
             state: next,
             kind: PieceKind::Control,
         }),
-        Element::Found(part, after) => {
+        Ok(Element::Found(part, after)) => {
             let size = part.skip + part.octets;
             Some(Piece {
                 start: at,

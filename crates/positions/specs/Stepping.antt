@@ -4,8 +4,6 @@ use Rattle.base.specs.Answers.{answer}
 use Rattle.base.specs.Choice.{pick}
 use Rattle.base.specs.Refusal as refusal
 use Rattle.reader.specs.Step.{step_at}
-use Rattle.reader.specs.declared.Item.{Item}
-use Rattle.reader.specs.declared.Item.TheVariants.{Given, Ended}
 use Rattle.state.specs.Directions.{directions}
 use Rattle.state.specs.State.{sets, state, fresh}
 use Rattle.state.specs.declared.State.{State}

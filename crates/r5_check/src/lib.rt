@@ -10,7 +10,7 @@ ghost use Rattle.x11r5.specs.Reading.{mark_by, segment_by, unsupported_at, unend
 use base::{Answer, Refusal, limit};
 use octet_blocks::octet;
 use state::State;
-use state::elements::Element;
+use state::elements::{Element, Refused};
 
 // Whether 9B and these octets are a direction mark.
 #[tactic(auto, using(base::proofs::Ladder::ladder), unfolding(x11r5::specs::Reading::mark_by))]
@@ -53,15 +53,15 @@ fn unsupported_at(s: &[u8], at: usize) -> bool
 
 // What the base reader refuses at a place is refused as before, or because X11R5 does not have it.
 #[tactic(auto, using(base::proofs::Ladder::ladder))]
-fn refused_at(s: &[u8], place: usize, number: u8, offset: usize) -> Answer
+fn refused_at(s: &[u8], place: usize, refusal: Refusal, offset: usize) -> Answer
     requires { place + offset ≤ length s.now }
     ensures { result ≡ pick (unsupported_at (from place s.now)) (refused_at refusals.unsupported place)
-        (refused_at number (place + offset)) }
+        (refused_at (refusals.number_of refusal) (place + offset)) }
 {
     if unsupported_at(s, place) {
         return Refusal::Unsupported.at(place);
     }
-    Answer::refused(number, place + offset)
+    refusal.at(place + offset)
 }
 
 // Whether the octets before a 00 are accepted, and what of them is refused.
@@ -76,17 +76,17 @@ pub fn check(s: &[u8]) -> Answer
     let mut st = State::FRESH;
     while at < s.len() {
         match element::element(s, at, st) {
-            Element::End => {
+            Ok(Element::End) => {
                 return Answer::accepted(at, count);
             }
-            Element::Refused(number, offset) => {
-                return refused_at(s, at, number, offset);
+            Err(Refused(refusal, offset)) => {
+                return refused_at(s, at, refusal, offset);
             }
-            Element::Silent(octets, next) => {
+            Ok(Element::Silent(octets, next)) => {
                 at += octets;
                 st = next;
             }
-            Element::Found(part, next) => {
+            Ok(Element::Found(part, next)) => {
                 if unsupported_at(s, at) {
                     return Refusal::Unsupported.at(at);
                 }

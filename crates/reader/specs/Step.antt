@@ -14,8 +14,6 @@ use Rattle.state.specs.declared.State.{State}
 use Rattle.units.specs.Next.{next_of}
 use Rattle.units.specs.Next.{Outcome}
 use Rattle.units.specs.Next.{Gives, Stops}
-use Rattle.reader.specs.declared.Item.{Item}
-use Rattle.reader.specs.declared.Item.TheVariants.{Given, Ended}
 use Rattle.reader.specs.declared.Stepped.{Stepped}
 
 -- what an item says: a unit, with its kind, set, code, start and length; or an answer, with its number, place and count

@@ -2,13 +2,14 @@
 #![tactic(auto)]
 
 ghost use Rattle.std.specs.Prelude.{◌≡◌, length};
+ghost use Rattle.units.specs.Next.{number_if, outcome_seen};
 ghost use Rattle.reader.specs.Step.{stepped, may_stand, counted_of, ended_of, after_of, step_at};
 ghost use Rattle.reader.specs.Reader.{opened, item_at, moved};
 
-use base::{Answer, Refusal, Unit, limit, refusal};
+use base::{Answer, Refusal, Unit, limit};
 use charset::Side;
 use state::State;
-use units::Outcome;
+use units::{Given, Stopped};
 
 // What is handed out: a unit, or the answer once there is no further unit.
 pub type Item = Result<Unit, Answer>;
@@ -50,15 +51,14 @@ fn counted(count: usize) -> usize
     count.saturating_add(1)
 }
 
-// The answer at the end, or at a refusal, after so many units.
+// The answer at the end, where nothing is refused, or at a refusal, after so many units.
 #[tactic(auto, using(base::proofs::Ladder::ladder), unfolding(crate::specs::Step::ended_of))]
-fn ended(number: u8, place: usize, count: usize) -> Answer
-    ensures { result ≡ ended_of number place count }
+fn ended(refusal: Option<Refusal>, place: usize, count: usize) -> Answer
+    ensures { result ≡ ended_of (number_if refusal) place count }
 {
-    if number == refusal::ACCEPTED {
-        Answer::accepted(place, count)
-    } else {
-        Answer::refused(number, place)
+    match refusal {
+        None => Answer::accepted(place, count),
+        Some(refusal) => refusal.at(place),
     }
 }
 
@@ -76,17 +76,20 @@ fn stands(place: usize, count: usize, state: State, answer: Answer) -> Stepped
 
 // The step to the next unit; where there is none, to where the reading stops.
 #[tactic(auto, using(base::proofs::Ladder::ladder), unfolding(crate::specs::Step::after_of))]
-fn after(count: usize, o: Outcome) -> Stepped
-    ensures { result ≡ after_of count o }
+fn after(count: usize, o: Result<Given, Stopped>) -> Stepped
+    ensures { result ≡ after_of count (outcome_seen o) }
 {
     match o {
-        Outcome::Gives(unit, next, to) => Stepped {
-            place: next,
+        Ok(given) => Stepped {
+            place: given.place,
             count: counted(count),
-            state: to,
-            item: Ok(unit),
+            state: given.state,
+            item: Ok(given.unit),
         },
-        Outcome::Stops(number, at, start, to) => stands(start, count, to, ended(number, at, count)),
+        Err(stop) => {
+            let answer = ended(stop.refusal, stop.place, count);
+            stands(stop.start, count, stop.state, answer)
+        }
     }
 }
 

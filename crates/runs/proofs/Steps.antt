@@ -4,6 +4,12 @@
 use Rattle.element.proofs.Names.{ℕ, suc, ◌+◌, ◌≤◌, ◌<◌, arith, ◌≡◌, refl, ap, sym, ◌∙◌, true, false, List, [], ◌∷◌, ltb, length, eq-eqb, lt-ltb}
 use Rattle.element.proofs.Names.{pick, from, Answer, test, pick_by, no_set, designated_of, fresh, State, Element, End, Refused, Silent, Found}
 use Rattle.element.proofs.Sizes.{Fit, silent, found}
+use Rattle.element.proofs.Names.{refused_at}
+use Rattle.base.specs.Refusal as refusal
+use Rattle.std.proofs.Common.{Ok}
+use Rattle.state.specs.Elements.{element_seen}
+use Rattle.state.specs.declared.elements.Element.{Element as CodeElement}
+use Rattle.state.specs.declared.elements.Element.TheVariants.{End as CodeEnd, Silent as CodeSilent, Found as CodeFound}
 use Rattle.grammar.specs.Reading.{Octets, none_refused}
 use Rattle.grammar.proofs.Places.{ahead, at_end, at_refused, at_passed, step_passed}
 use Rattle.stretch.specs.Characters.{settled_of}
@@ -66,6 +72,14 @@ joined_other p (q ∷ qs) e = rw e
 pub stopped_as : (s : List ℕ) (at : ℕ) (st : State) (r : Answer) (e x : Element) → e ≡ element_at s at st → e ≡ x
     → r ≡ (stop_at at st x).run.answer → r ≡ (stop_at at st (element_at s at st)).run.answer
 stopped_as s at st r e x is k h = h ∙ ap (λ (z : Element). (stop_at at st z).run.answer) (sym k ∙ is)
+
+-- where the element is not refused
+pub stopped_found : (s : List ℕ) (at : ℕ) (st : State) (x : CodeElement) {r : Answer} → element_seen (Ok x) ≡ element_at s at st
+    → r ≡ refused_at refusal.bad_unit 0 → r ≡ (stop_at at st (element_at s at st)).run.answer
+unfolding stop_at
+stopped_found s at st CodeEnd is h = stopped_as s at st _ _ _ is refl h
+stopped_found s at st (CodeSilent k next) is h = stopped_as s at st _ _ _ is refl h
+stopped_found s at st (CodeFound p next) is h = stopped_as s at st _ _ _ is refl h
 
 pub stop_as : (at : ℕ) (st : State) (e : Element) → run_step_to at st (no_run (stop_at at st e).run.answer) ≡ stop_at at st e
 unfolding stop_at

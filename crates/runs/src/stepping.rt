@@ -13,7 +13,7 @@ use designations::designation_at;
 use pieces::Piece;
 use run_ends::text_end;
 use state::State;
-use state::elements::Element;
+use state::elements::Refused;
 use stretch::characters::settled;
 
 // A place of a string and the state there, and whether the whole string is known to be accepted.
@@ -70,12 +70,9 @@ fn step_to(place: usize, state: State, run: Bounds) -> RunStep
 pub fn stopped(s: &[u8], at: usize, st: State) -> Answer
     ensures { result ≡ (stop_at at st (element_of (from at s.now) st)).run.answer }
 {
-    let none = Refusal::BadUnit.at(0);
     match element::element(s, at, st) {
-        Element::End => none,
-        Element::Refused(number, offset) => Answer::refused(number, at + offset),
-        Element::Silent(octets, next) => none,
-        Element::Found(part, next) => none,
+        Err(Refused(refusal, offset)) => refusal.at(at + offset),
+        Ok(_) => Refusal::BadUnit.at(0),
     }
 }
 
