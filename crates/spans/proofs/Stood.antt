@@ -165,6 +165,11 @@ unfolding by_form
 two_form s c n f octets (inl e) = rw e refl
 two_form s c n f octets (inr e) = rw e refl
 
+pub two_moved : (f : Form) (c : Cursor) (j : ℕ) → (f ≡ left_twos) ⊎ (f ≡ right_twos) → moved_by f c j ≡ placed_at (c.place + 2 * j) c
+unfolding moved_by
+two_moved f c j (inl e) = rw e refl
+two_moved f c j (inr e) = rw e refl
+
 module _ (s : List ℕ) (c : Cursor) (n : ℕ) where
   abbrev to : Sets
   to = (state_in c).sets
