@@ -38,6 +38,7 @@ impl Pen {
 }
 
 // How many of n records are to be looked at before the pen begins: all, where they have room in any case, and else none.
+#[tactic(auto, unfolding(crate::specs::Pen::looked_first, base::specs::Choice::pick))]
 pub fn looked_first(n: usize, room: usize) -> usize
     ensures { result ≡ looked_first n room }
 {
@@ -46,16 +47,17 @@ pub fn looked_first(n: usize, room: usize) -> usize
 
 // Where the pen begins in a list of n records, of which so many at the start are refused for nothing. They need not be looked at where all have room in any
 // case, and counting begins with the first.
+#[tactic(auto, unfolding(crate::specs::Pen::begun_at, base::specs::Choice::pick))]
 pub fn begin(run: usize, n: usize, room: usize) -> Pen
     ensures { result ≡ begun_at run n room }
 {
-    if ample(n, room) {
-        if run < n {
-            return looking_at(run);
-        }
-        return Pen::STORING;
+    if !ample(n, room) {
+        looking_at(0)
+    } else if run < n {
+        looking_at(run)
+    } else {
+        Pen::STORING
     }
-    looking_at(0)
 }
 
 // Before a record, to check it, with nothing counted.
@@ -63,90 +65,75 @@ fn looking_at(index: usize) -> Pen
     ensures { result ≡ looking_at index }
 {
     Pen {
-        at: 0,
-        index: index,
-        place: 0,
-        number: refusal::ACCEPTED,
-        gl: 0,
-        gr: 3,
+        index,
         stores: false,
+        ..Pen::STORING
     }
 }
 
 // So many octets more; once the count is over the limit it stays.
+#[tactic(auto, unfolding(crate::specs::Pen::counted, base::specs::Choice::pick))]
 fn count(sum: usize, more: u8) -> usize
     ensures { result ≡ counted sum more }
 {
     if limit::OCTETS < sum {
-        return sum;
+        sum
+    } else {
+        sum + more as usize
     }
-    sum + more as usize
 }
 
 // The pen at the next record, with the same sets.
+#[tactic(auto, unfolding(crate::specs::Pen::stayed_at, base::specs::Choice::pick))]
 fn stayed(pen: Pen, at: usize, index: usize) -> Pen
     ensures { result ≡ stayed_at pen at index }
 {
-    Pen {
-        at: at,
-        index: index,
-        place: pen.place,
-        number: pen.number,
-        gl: pen.gl,
-        gr: pen.gr,
-        stores: pen.stores,
-    }
+    Pen { at, index, ..pen }
 }
 
 // The pen at the next record, with a set on a side.
+#[tactic(auto, unfolding(crate::specs::Pen::moved_to, base::specs::Choice::pick))]
 fn moved(pen: Pen, left: bool, set: u8, at: usize, index: usize) -> Pen
     ensures { result ≡ moved_to pen left set at index }
 {
     let gl = r5_units::standing(left, set, pen.gl);
     let gr = r5_units::standing(left, pen.gr, set);
     Pen {
-        at: at,
-        index: index,
-        place: pen.place,
-        number: pen.number,
-        gl: gl,
-        gr: gr,
-        stores: pen.stores,
+        at,
+        index,
+        gl,
+        gr,
+        ..pen
     }
 }
 
 // A record is refused: no other of the n is looked at.
+#[tactic(auto, unfolding(crate::specs::Pen::stopped_by, base::specs::Choice::pick))]
 fn stopped(pen: Pen, number: u8, n: usize) -> Pen
     ensures { result ≡ stopped_by pen number n }
 {
     Pen {
-        at: pen.at,
         index: n,
         place: pen.index,
-        number: number,
-        gl: pen.gl,
-        gr: pen.gr,
-        stores: pen.stores,
+        number,
+        ..pen
     }
 }
 
 // After the last of n records the storing begins, if the octets are within the limit and have room with the 00.
+#[tactic(auto, unfolding(crate::specs::Pen::turned_over, base::specs::Choice::pick))]
 fn turned_over(pen: Pen, n: usize, room: usize) -> Pen
     ensures { result ≡ turned_over pen n room }
 {
-    if pen.index < n {
-        return pen;
+    if pen.index < n || limit::OCTETS < pen.at || room <= pen.at {
+        pen
+    } else {
+        Pen::STORING
     }
-    if limit::OCTETS < pen.at {
-        return pen;
-    }
-    if room <= pen.at {
-        return pen;
-    }
-    Pen::STORING
 }
 
 // A character of a set is counted, with the designation of the set where it stands on neither side.
+#[tactic(auto, unfolding(crate::specs::Pen::passed_text, base::specs::Choice::pick))]
 fn pass_text(pen: Pen, set: u8, index: usize) -> Pen
     ensures { result ≡ passed_text pen set index }
 {
@@ -159,6 +146,7 @@ fn pass_text(pen: Pen, set: u8, index: usize) -> Pen
 }
 
 // A record that is refused for nothing: its octets are counted.
+#[tactic(auto, unfolding(crate::specs::Pen::passed_by, base::specs::Choice::pick))]
 fn pass(pen: Pen, unit: Unit, index: usize) -> Pen
     ensures { result ≡ passed_by pen unit index }
 {
@@ -171,35 +159,35 @@ fn pass(pen: Pen, unit: Unit, index: usize) -> Pen
 }
 
 // Whether n units have room, whatever they are, within the limit and in the output: each has at most six octets, with its designation.
+#[tactic(auto, unfolding(crate::specs::Pen::ample_for, base::specs::Choice::pick))]
 fn ample(n: usize, room: usize) -> bool
     ensures { result ≡ ample_for n room }
 {
-    if 10922 < n {
-        return false;
-    }
-    6 * n < room
+    n <= 10922 && 6 * n < room
 }
 
 // A record that is refused for nothing: its octets are counted, but where all have room in any case.
+#[tactic(auto, unfolding(crate::specs::Pen::looked_by, base::specs::Choice::pick))]
 fn look(pen: Pen, unit: Unit, index: usize, n: usize, room: usize) -> Pen
     ensures { result ≡ looked_by pen unit index n room }
 {
     if ample(n, room) {
-        return stayed(pen, pen.at, index);
+        stayed(pen, pen.at, index)
+    } else {
+        pass(pen, unit, index)
     }
-    pass(pen, unit, index)
 }
 
 // A record is checked and looked at; the index is that of the next.
+#[tactic(auto, unfolding(crate::specs::Pen::checked_by, base::specs::Choice::pick))]
 fn check(pen: Pen, unit: Unit, index: usize, n: usize, segments: &[u8], room: usize) -> Pen
     ensures { result ≡ checked_by pen unit index n segments.now room }
 {
     let number = r5_units::refusal_of(unit, segments);
-    if number == refusal::ACCEPTED {
-        let looked = look(pen, unit, index, n, room);
-        return turned_over(looked, n, room);
+    if number != refusal::ACCEPTED {
+        return stopped(pen, number, n);
     }
-    stopped(pen, number, n)
+    turned_over(look(pen, unit, index, n, room), n, room)
 }
 
 // A character is stored where it has room, with the designation of its set where that stands on neither side.
@@ -231,20 +219,22 @@ fn store(pen: Pen, unit: Unit, index: usize, out: &mut [u8]) -> Pen
 }
 
 // The next of n records, to which the pen points; its segment stands in the octets lent.
+#[tactic(auto, unfolding(crate::specs::Pen::turn_of, crate::specs::Pen::output_of, base::specs::Choice::pick))]
 pub fn turn(pen: Pen, unit: Unit, n: usize, segments: &[u8], out: &mut [u8]) -> Pen
     ensures { (result ≡ turn_of pen unit n segments.now (length out.old))
         × (out.new ≡ output_of pen unit n out.old) }
 {
     if n <= pen.index {
-        return pen;
+        pen
+    } else if pen.stores {
+        store(pen, unit, pen.index + 1, out)
+    } else {
+        check(pen, unit, pen.index + 1, n, segments, out.len())
     }
-    if pen.stores {
-        return store(pen, unit, pen.index + 1, out);
-    }
-    check(pen, unit, pen.index + 1, n, segments, out.len())
 }
 
 // The answer for a list of n records; where it accepts the 00 is stored.
+#[tactic(auto, unfolding(crate::specs::Pen::finish_answer, crate::specs::Pen::finish_output, base::specs::Choice::pick))]
 pub fn finish(pen: Pen, n: usize, out: &mut [u8]) -> Answer
     ensures { (result ≡ finish_answer pen n (length out.old)) × (out.new ≡ finish_output pen n out.old) }
 {

@@ -17,44 +17,40 @@ use state::directions::{Directions, Step};
 use unit_octets::{on_side, stores};
 
 // What a good unit of a kind is refused for.
+#[tactic(auto, unfolding(crate::specs::Unit::refusal_by_kind, base::specs::Choice::pick))]
 fn by_kind(kind: u8) -> u8
     ensures { result ≡ refusal_by_kind kind }
 {
     if kind < kind::LEFT_TO_RIGHT {
-        return refusal::ACCEPTED;
+        refusal::ACCEPTED
+    } else {
+        refusal::UNSUPPORTED
     }
+<<<<<<< HEAD
     Refusal::Unsupported
+=======
+>>>>>>> e66f3b294236422b90759cb6a273d38a4b9b80d8
 }
 
 // Whether a record is a space, or a character of one octet with a code that each such set uses.
+#[tactic(auto, unfolding(crate::specs::Unit::single_of, base::specs::Choice::pick))]
 fn single(unit: Unit) -> bool
     ensures { result ≡ single_of unit }
 {
-    if kind::SPACE < unit.kind {
-        return false;
-    }
-    if FIRST_DOUBLE <= text_set(unit, 0) {
-        return false;
-    }
     // that of a space is looked at as 21
     let code = text_code(unit) as u32 + unit.kind as u32;
-    if code < 0x21 {
-        return false;
-    }
-    code <= 0x7E
+    unit.kind <= kind::SPACE && text_set(unit, 0) < FIRST_DOUBLE && matches!(code, 0x21..=0x7E)
 }
 
 // What a record is refused for, 0 for nothing: characters and spaces are asked quickly first, and where the base writer gives no 11 the kind decides.
 pub fn refusal_of(unit: Unit, segments: &[u8]) -> u8
     ensures { result ≡ record_refusal (unit_read segments.now unit) }
 {
-    if single(unit) {
-        return refusal::ACCEPTED;
-    }
-    if plain(unit) {
+    if single(unit) || plain(unit) {
         return refusal::ACCEPTED;
     }
     // a record of its own, so that the compiler keeps the fields of the one given in registers
+<<<<<<< HEAD
     let whole = Unit {
         kind: unit.kind,
         set: unit.set,
@@ -73,10 +69,17 @@ pub fn refusal_of(unit: Unit, segments: &[u8]) -> u8
             }
             by_kind(unit.kind)
         }
+=======
+    let whole = Unit { ..unit };
+    match judge(whole, segments, Directions::NONE) {
+        Step::Stops(refusal::BAD_UNIT) => refusal::BAD_UNIT,
+        _ => by_kind(unit.kind),
+>>>>>>> e66f3b294236422b90759cb6a273d38a4b9b80d8
     }
 }
 
 // The set of a character; of a space set 2 where that stands in GL, and else set 0, so that both are written alike: words and spaces alternate.
+#[tactic(auto, unfolding(crate::specs::Unit::text_set, base::specs::Choice::pick))]
 pub fn text_set(unit: Unit, gl: u8) -> u8
     ensures { result ≡ text_set unit gl }
 {
@@ -89,6 +92,7 @@ pub fn text_set(unit: Unit, gl: u8) -> u8
 }
 
 // The set that a space takes, by that which stands in GL.
+#[tactic(auto, unfolding(crate::specs::Unit::space_set, base::specs::Choice::pick))]
 fn space_set(gl: u8) -> u8
     ensures { result ≡ space_set gl }
 {
@@ -96,6 +100,7 @@ fn space_set(gl: u8) -> u8
 }
 
 // The code of a character, or that of a space.
+#[tactic(auto, unfolding(crate::specs::Unit::text_code, base::specs::Choice::pick))]
 pub fn text_code(unit: Unit) -> u16
     ensures { result ≡ text_code unit }
 {
@@ -107,16 +112,15 @@ pub fn text_code(unit: Unit) -> u16
 }
 
 // Whether a set stands on one of the two sides.
+#[tactic(auto, unfolding(crate::specs::Unit::stands_on, base::specs::Choice::pick))]
 pub fn stands(set: u8, gl: u8, gr: u8) -> bool
     ensures { result ≡ stands_on set gl gr }
 {
-    if gl == set {
-        return true;
-    }
-    gr == set
+    gl == set || gr == set
 }
 
 // The set on a side.
+#[tactic(auto, unfolding(base::specs::Choice::pick))]
 pub fn standing(left: bool, gl: u8, gr: u8) -> u8
     ensures { result ≡ pick left gl gr }
 {
@@ -124,26 +128,23 @@ pub fn standing(left: bool, gl: u8, gr: u8) -> u8
 }
 
 // The octets of a set's characters.
+#[tactic(auto, unfolding(crate::specs::Unit::width_of, base::specs::Choice::pick))]
 pub fn width(set: u8) -> u8
     ensures { result ≡ width_of set }
 {
-    if FIRST_DOUBLE <= set {
-        return 2;
-    }
-    1
+    if FIRST_DOUBLE <= set { 2 } else { 1 }
 }
 
 // The octets of a character and of the designation of its set.
+#[tactic(auto, unfolding(crate::specs::Unit::designated_width, base::specs::Choice::pick))]
 pub fn designated_width(set: u8) -> u8
     ensures { result ≡ designated_width set }
 {
-    if FIRST_DOUBLE <= set {
-        return 6;
-    }
-    4
+    if FIRST_DOUBLE <= set { 6 } else { 4 }
 }
 
 // The octet of a tab or a newline.
+#[tactic(auto, unfolding(crate::specs::Unit::control_octet, base::specs::Choice::pick))]
 pub fn control(kind: u8) -> u8
     ensures { result ≡ control_octet kind }
 {
