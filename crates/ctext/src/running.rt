@@ -19,11 +19,9 @@ pub extern "C" fn ctext_next_run(s: &[u8], p: RunReader) -> RunHanded
     ensures { result ≡ next_run_handed s.now p }
 {
     let t = runs::stepping::next_run(s, position_in(p));
-    let position = t.position;
-    let run = t.run;
     RunHanded {
-        reader: reader_of(position),
-        run: run,
+        reader: reader_of(t.position),
+        run: t.run,
     }
 }
 
@@ -35,10 +33,8 @@ pub extern "C" fn ctext_next_runs(s: &[u8], p: RunReader, out: &mut [u64]) -> Ru
         × (out.new ≡ words_after (next_runs_of s.now (position_in p) (length out.old)).runs out.old) }
 {
     let t = run_lists::next_runs(s, position_in(p), out);
-    let position = t.position;
-    let answer = t.answer;
     RunsHanded {
-        reader: reader_of(position),
-        answer: answer,
+        reader: reader_of(t.position),
+        answer: t.answer,
     }
 }

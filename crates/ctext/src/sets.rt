@@ -16,15 +16,14 @@ pub extern "C" fn ctext_set_row(set: u8) -> Charset
 }
 
 // The set that a designation names by its form, its side (0 is GL, 1 is GR) and its final octet.
+#[tactic(auto, using(base::proofs::Ladder::ladder))]
 #[unsafe(no_mangle)]
 pub extern "C" fn ctext_set_of(form: u8, side: u8, last: u8) -> u8
     ensures { result ≡ pick (eqb side 0) (set_of form GL last) (pick (eqb side 1) (set_of form GR last) no_set) }
 {
-    if side == 0 {
-        return set_of(form, Side::GL, last);
+    match side {
+        0 => set_of(form, Side::GL, last),
+        1 => set_of(form, Side::GR, last),
+        _ => NO_SET,
     }
-    if side == 1 {
-        return set_of(form, Side::GR, last);
-    }
-    NO_SET
 }

@@ -17,9 +17,6 @@ pub extern "C" fn ctext_open() -> Position
 pub extern "C" fn ctext_next(s: &[u8], p: Position) -> Handed
     ensures { result ≡ next_handed s.now p }
 {
-    let st = state_in(p);
-    let t = reader::step(s, p.place, p.count, st);
-    let state = t.state;
-    let item = t.item;
-    hand(position_of(t.place, t.count, state), item)
+    let t = reader::step(s, p.place, p.count, state_in(p));
+    hand(position_of(t.place, t.count, t.state), t.item)
 }

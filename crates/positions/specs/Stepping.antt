@@ -1,8 +1,10 @@
 -- A reader that steps, for C: its position is a place, a count and a state of `reader`'s, with the state's fields laid out for C.
-use Rattle.std.specs.Prelude.{ℕ, Bool, not, List, eqb}
+use Rattle.std.specs.Prelude.{ℕ, Bool, not, List, eqb, Result, Ok, Err}
 use Rattle.base.specs.Answers.{answer}
 use Rattle.base.specs.Choice.{pick}
 use Rattle.base.specs.Refusal as refusal
+use Rattle.base.specs.declared.Answer.{Answer}
+use Rattle.base.specs.declared.Unit.{Unit as UnitRecord}
 use Rattle.reader.specs.Step.{step_at}
 use Rattle.state.specs.Directions.{directions}
 use Rattle.state.specs.State.{sets, state, fresh}
@@ -37,9 +39,9 @@ abbrev pub opened_reader : Position
 opened_reader = packed_reader 0 0 fresh
 
 -- an item, and the position after it
-unfoldable pub item_handed : Position → Item → Handed
-item_handed p (Given u) = record { position = p; answer = answer refusal.accepted 0 0; unit = u; given = 1 }
-item_handed p (Ended a) = record { position = p; answer = a; unit = blank; given = 0 }
+unfoldable pub item_handed : Position → Result UnitRecord Answer → Handed
+item_handed p (Ok u) = record { position = p; answer = answer refusal.accepted 0 0; unit = u; given = 1 }
+item_handed p (Err a) = record { position = p; answer = a; unit = blank; given = 0 }
 
 -- the step of a reader that stands at a position
 unfoldable pub next_handed : List ℕ → Position → Handed

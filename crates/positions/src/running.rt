@@ -2,7 +2,6 @@
 ghost use Rattle.std.specs.Prelude.{◌≡◌};
 ghost use Rattle.positions.specs.Running.{position_in, packed_runs, opened_runs};
 
-use crate::stepping::flag;
 use base::Answer;
 use runs::Bounds;
 use runs::stepping::RunPosition;
@@ -40,6 +39,7 @@ pub struct RunsHanded {
     pub answer: Answer,
 }
 
+#[tactic(auto, unfolding(crate::specs::Running::position_in))]
 pub fn position_in(p: RunReader) -> RunPosition
     ensures { result ≡ position_in p }
 {
@@ -58,21 +58,20 @@ pub fn position_in(p: RunReader) -> RunPosition
     }
 }
 
+#[tactic(auto, unfolding(crate::specs::Running::packed_runs, crate::specs::Stepping::flag_of, base::specs::Choice::pick))]
 pub fn reader_of(p: RunPosition) -> RunReader
     ensures { result ≡ packed_runs p }
 {
-    let state = p.state;
-    let directions = state.directions;
-    let sets = state.sets;
+    let State { directions, sets } = p.state;
     RunReader {
         levels: directions.levels,
         place: p.place,
         gl: sets.gl,
         gr: sets.gr,
         depth: directions.depth,
-        marked: flag(directions.marked),
-        texted: flag(directions.texted),
-        checked: flag(p.checked),
+        marked: u8::from(directions.marked),
+        texted: u8::from(directions.texted),
+        checked: u8::from(p.checked),
     }
 }
 

@@ -1,6 +1,6 @@
 // Where a reader stands, and what a step of it hands out, laid out for C.
 ghost use Rattle.std.specs.Prelude.{◌≡◌};
-ghost use Rattle.positions.specs.Stepping.{flag_of, state_unpacked, opened_reader, packed_reader, item_handed};
+ghost use Rattle.positions.specs.Stepping.{state_unpacked, opened_reader, packed_reader, item_handed};
 
 use base::{Answer, Unit};
 use reader::Item;
@@ -8,7 +8,7 @@ use state::directions::Directions;
 use state::{Sets, State};
 
 // Where a reader stands: its place, the units handed out before, the sets in force and the open directions. A flag is 0 for no, and
-// anything else for yes.
+// anything else for yes. Its fields, and no State, here and in `running`: the layout is C's.
 #[repr(C)]
 #[derive(Clone, Copy)]
 pub struct Position {
@@ -23,6 +23,7 @@ pub struct Position {
 }
 
 // The position after a step; and where `given` is 1 the unit that was handed out, else the answer.
+// A flag beside two values, and no Result: the layout is C's (`ctext_next`).
 #[repr(C)]
 #[derive(Clone, Copy)]
 pub struct Handed {
@@ -32,15 +33,7 @@ pub struct Handed {
     pub given: u8,
 }
 
-pub fn flag(b: bool) -> u8
-    ensures { result ≡ flag_of b }
-{
-    if b {
-        return 1;
-    }
-    0
-}
-
+#[tactic(auto, unfolding(crate::specs::Stepping::state_unpacked))]
 pub fn state_in(p: Position) -> State
     ensures { result ≡ state_unpacked p }
 {
@@ -55,20 +48,20 @@ pub fn state_in(p: Position) -> State
     }
 }
 
+#[tactic(auto, unfolding(crate::specs::Stepping::packed_reader, crate::specs::Stepping::flag_of, base::specs::Choice::pick))]
 pub fn position_of(place: usize, count: usize, st: State) -> Position
     ensures { result ≡ packed_reader place count st }
 {
-    let directions = st.directions;
-    let sets = st.sets;
+    let State { directions, sets } = st;
     Position {
         levels: directions.levels,
-        place: place,
-        count: count,
+        place,
+        count,
         gl: sets.gl,
         gr: sets.gr,
         depth: directions.depth,
-        marked: flag(directions.marked),
-        texted: flag(directions.texted),
+        marked: u8::from(directions.marked),
+        texted: u8::from(directions.texted),
     }
 }
 
@@ -79,19 +72,20 @@ pub fn opened() -> Position
     position_of(0, 0, State::FRESH)
 }
 
+#[tactic(auto, unfolding(crate::specs::Stepping::item_handed))]
 pub fn hand(p: Position, item: Item) -> Handed
     ensures { result ≡ item_handed p item }
 {
     match item {
-        Item::Given(unit) => Handed {
+        Ok(unit) => Handed {
             position: p,
             answer: Answer::accepted(0, 0),
-            unit: unit,
+            unit,
             given: 1,
         },
-        Item::Ended(answer) => Handed {
+        Err(answer) => Handed {
             position: p,
-            answer: answer,
+            answer,
             unit: Unit::BLANK,
             given: 0,
         },

@@ -82,7 +82,7 @@ fn joined(start: usize, end: usize, part: u64) -> u64
     start as u64 + end as u64 * 0x1_0000 + part
 }
 
-// A run as a word.
+// A run as a word, and no struct: the list that C lends holds words (`ctext_next_runs`).
 fn word(run: Piece) -> u64
     requires { (run.start ≤ limits.octets) × (run.end ≤ limits.octets) }
     ensures { result ≡ word_of (shown_of 0 (viewed run)) }

@@ -12,6 +12,7 @@ use pieces::Piece;
 pub mod stepping;
 
 // Where a run starts and ends in the string, the answer, and the set, octet width and direction in force.
+// An answer beside the numbers, and no Result: the layout is C's (`ctext_run`).
 #[repr(C)]
 #[derive(Clone, Copy)]
 pub struct Bounds {

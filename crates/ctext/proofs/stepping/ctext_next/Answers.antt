@@ -4,4 +4,4 @@ use Rattle.ctext.proofs.stepping.ctext_next.Goals as goal
 
 pub returns : goal.returns
 unfolding next_handed
-returns c = rw (← c.state_in-st.ensures, ← c.step-t.ensures, ← c.position_of.ensures) c.hand.ensures
+returns c = rw (← c.state_in.ensures, ← c.step-t.ensures, ← c.position_of.ensures) c.hand.ensures
