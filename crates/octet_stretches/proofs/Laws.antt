@@ -1,6 +1,8 @@
 -- Stretches as the code finds them: where they end (`fits`), units of one octet by their entries (`ones_one`, `ones_four`), characters of two octets
 -- of a span (`doubles_pass`, `doubles_on`). Each is a constructor of `Stretched`, with its numbers as the code has them (`by_numbers`).
 use Rattle.element.proofs.Names.{ℕ, ◌+◌, ◌-◌, ◌*◌, ◌/◌, ◌%◌, ◌≤◌, arith, ◌≡◌, refl, sym, subst, List, length, test, ltb, ltb-true, ltb-false}
+use Rattle.std.proofs.Common.{◌<◌, ◌∙◌, get_or, take}
+use Rattle.std.proofs.lemmas.List.{get_or-take}
 use Rattle.octet_blocks.specs.Blocks.{Within}
 use Rattle.octet_blocks.proofs.Counted.{within_less}
 use Rattle.octet_stretches.specs.Stretched.{Entry, Ones, Stretched}
@@ -48,11 +50,15 @@ module _ {row s : List ℕ} where
         each = λ j l m. let e : j ≡ at = omega arith in rw e (c.octet, rw (← c.is) h);
       }
 
-  pub ones_four : {at k l m n : ℕ} → Entry row s at k → k ≤ 4 → Entry row s (at + 1) l → l ≤ 4 → Entry row s (at + 1 + 1) m → m ≤ 4
-      → Entry row s (at + 1 + 1 + 1) n → n ≤ 4 → Ones row s at (at + 4)
+  pub ones_four : {at k l m n : ℕ} → Entry row s at k → k ≤ 4 → Entry row s (at + 1) l → l ≤ 4 → Entry row s (at + 2) m → m ≤ 4
+      → Entry row s (at + 3) n → n ≤ 4 → Ones row s at (at + 4)
   ones_four {at = at} a ha b hb c hc d hd =
-      let e : at + 1 + 1 + 1 + 1 ≡ at + 4 = omega arith in
-      subst (Ones row s at) e (ones_both (ones_both (ones_both (ones_one a ha) (ones_one b hb)) (ones_one c hc)) (ones_one d hd))
+      let e : at + 1 + 1 ≡ at + 2 = omega arith in
+      let f : at + 2 + 1 ≡ at + 3 = omega arith in
+      let g : at + 3 + 1 ≡ at + 4 = omega arith in
+      let two = subst (Ones row s at) e (ones_both (ones_one a ha) (ones_one b hb)) in
+      let three = subst (Ones row s at) f (ones_both two (ones_one c hc)) in
+      subst (Ones row s at) g (ones_both three (ones_one d hd))
 
   -- those of blocks, and then those by their entries
   pub ones_more : {at i j : ℕ} → Stretched row s at i (i - at) → Ones row s i j → Stretched row s at (at + (j - at)) (j - at)
@@ -77,3 +83,31 @@ module _ {row s : List ℕ} where
     doubles_on even l k p =
         let g : i ≡ at + m = omega (arith, e, f, w.since, even) in
         by_numbers (omega arith) refl (by.more doubles_pass (rw g at p))
+
+-- ---- a row of 256 entries that is the first part of a longer one
+
+entry_part : (row part : List ℕ) → part ≡ take 256 row → (i : ℕ) → i < 256 → get_or part i 0 ≡ get_or row i 0
+entry_part row part same i h = rw (same, get_or-take 256 row i 0 h)
+
+module _ {row part s : List ℕ} (same : part ≡ take 256 row) where
+  pub entry_whole : {at k : ℕ} → Entry part s at k → Entry row s at k
+  entry_whole c = record { inside = c.inside; octet = c.octet; is = c.is ∙ entry_part row part same _ c.octet }
+
+  pub ones_whole : {at i : ℕ} → Ones part s at i → Ones row s at i
+  ones_whole o =
+      record {
+        since = o.since;
+        within = o.within;
+        each = λ j l m. let e = o.each j l m in (e.0, rw (entry_part row part same _ e.0) at e.1);
+      }
+
+  pub stretched_whole : {at i n : ℕ} → Stretched part s at i n → Stretched row s at i n
+  stretched_whole by.none = by.none
+  stretched_whole (by.more a b) = by.more (stretched_whole a) (stretched_whole b)
+  stretched_whole (by.ones o) = by.ones (ones_whole o)
+  stretched_whole (by.ones_left h e w) = by.ones_left h (entry_whole e) w
+  stretched_whole (by.ones_94 e w) = by.ones_94 (entry_whole e) w
+  stretched_whole (by.ones_96 e f w) = by.ones_96 (entry_whole e) (rw (entry_part row part same 0xA0 (omega arith)) at f) w
+  stretched_whole (by.two h l a b) = by.two h l (entry_whole a) (entry_whole b)
+  stretched_whole (by.twos_left e w) = by.twos_left (entry_whole e) w
+  stretched_whole (by.twos_right e w) = by.twos_right (entry_whole e) w

@@ -4,23 +4,16 @@ ghost use Rattle.octet_stretches.specs.Stretched.{Entry};
 
 use octet_table::ONE_GR;
 
-fn wide(b: u8) -> usize
-    ensures { (result ≡ b) × (result < 256) }
-{
-    b as usize
-}
-
 // The entry of the octet at a place.
-pub fn entry_at(row: &[u8], s: &[u8], at: usize) -> u8
-    requires { (256 ≤ length row.now) × (at < length s.now) }
+pub fn entry_at(row: &[u8; 256], s: &[u8], at: usize) -> u8
+    requires { at < length s.now }
     ensures { Entry row.now s.now at result }
 {
-    row[wide(s[at])]
+    row[usize::from(s[at])]
 }
 
 // Whether A0 is a character in a row: then the set in GR uses all of its 96 octets.
-pub fn full_right(row: &[u8]) -> bool
-    requires { 256 ≤ length row.now }
+pub fn full_right(row: &[u8; 256]) -> bool
     ensures { result ≡ true → get_or row.now 0xA0 0 ≡ 4 }
 {
     row[0xA0] == ONE_GR

@@ -24,19 +24,16 @@ pub struct Stretch {
     pub units: usize,
 }
 
-// How many octets are near, where so many are left.
-fn near_octets(left: usize) -> usize
-    ensures { (result ≤ left) × (0 < left → 0 < result) }
-{
-    if left < NEAR {
-        return left;
-    }
-    NEAR
+impl Stretch {
+    const NONE: Stretch = Stretch {
+        octets: 0,
+        units: 0,
+    };
 }
 
 // The stretch at a place, up to an end that is near.
-fn near(row: &[u8], s: &[u8], at: usize, end: usize) -> Stretch
-    requires { (256 ≤ length row.now) × (at < end) × (end ≤ length s.now) }
+fn near(row: &[u8; 256], s: &[u8], at: usize, end: usize) -> Stretch
+    requires { (at < end) × (end ≤ length s.now) }
     ensures { Stretched row.now s.now at (at + result.octets) result.units }
 {
     let k = entry_at(row, s, at);
@@ -53,15 +50,12 @@ fn near(row: &[u8], s: &[u8], at: usize, end: usize) -> Stretch
     if k == TWO_GR {
         return pairs(row, s, at, end, TWO_GR);
     }
-    Stretch {
-        octets: 0,
-        units: 0,
-    }
+    Stretch::NONE
 }
 
 // What follows a stretch of this entry, by blocks, and then four by four where its units have one octet.
-fn far(row: &[u8], s: &[u8], at: usize, k: u8) -> Stretch
-    requires { (256 ≤ length row.now) × Entry row.now s.now at k }
+fn far(row: &[u8; 256], s: &[u8], at: usize, k: u8) -> Stretch
+    requires { Entry row.now s.now at k }
     ensures { Stretched row.now s.now at (at + result.octets) result.units }
 {
     if k == TWO_GL {
@@ -78,11 +72,11 @@ fn far(row: &[u8], s: &[u8], at: usize, k: u8) -> Stretch
 }
 
 // The stretch at a place of the string: octet by octet, and where nothing ends it near, by blocks.
-fn found(row: &[u8], s: &[u8], at: usize) -> Stretch
-    requires { (256 ≤ length row.now) × (at < length s.now) }
+fn found(row: &[u8; 256], s: &[u8], at: usize) -> Stretch
+    requires { at < length s.now }
     ensures { Stretched row.now s.now at (at + result.octets) result.units }
 {
-    let a = near(row, s, at, at + near_octets(s.len() - at));
+    let a = near(row, s, at, at + (s.len() - at).min(NEAR));
     if a.octets < NEAR {
         return a;
     }
@@ -101,14 +95,13 @@ fn found(row: &[u8], s: &[u8], at: usize) -> Stretch
 pub fn stretch_by(row: &[u8], s: &[u8], at: usize) -> Stretch
     ensures { Stretched row.now s.now at (at + result.octets) result.units }
 {
+    let Some(row) = row.first_chunk() else {
+        return Stretch::NONE;
+    };
     if at < s.len() {
-        if 256 <= row.len() {
-            return found(row, s, at);
-        }
-    }
-    Stretch {
-        octets: 0,
-        units: 0,
+        found(row, s, at)
+    } else {
+        Stretch::NONE
     }
 }
 
@@ -116,22 +109,26 @@ pub fn stretch_by(row: &[u8], s: &[u8], at: usize) -> Stretch
 pub fn singles_by(row: &[u8], s: &[u8], at: usize) -> usize
     ensures { Ones row.now s.now at result }
 {
+    let Some(row) = row.first_chunk() else {
+        return at;
+    };
     if at < s.len() {
-        if 256 <= row.len() {
-            return singles(row, s, fours(row, s, at), s.len());
-        }
+        singles(row, s, fours(row, s, at), s.len())
+    } else {
+        at
     }
-    at
 }
 
 // The class of the octet at a place; that of an unused octet where there is none.
 pub fn class_at(row: &[u8], s: &[u8], at: usize) -> u8
     ensures { ClassAt row.now s.now at result }
 {
+    let Some(row) = row.first_chunk() else {
+        return UNUSED;
+    };
     if at < s.len() {
-        if 256 <= row.len() {
-            return entry_at(row, s, at);
-        }
+        entry_at(row, s, at)
+    } else {
+        UNUSED
     }
-    UNUSED
 }

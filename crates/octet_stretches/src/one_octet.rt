@@ -7,57 +7,44 @@ use octet_blocks::blocks::blocks_end;
 use octet_table::{ONE_GR, SPACE};
 
 // The place after the units of one octet that start at a place, up to an end.
-pub fn singles(row: &[u8], s: &[u8], at: usize, end: usize) -> usize
-    requires { (256 ≤ length row.now) × (at ≤ end) × (end ≤ length s.now) }
+pub fn singles(row: &[u8; 256], s: &[u8], at: usize, end: usize) -> usize
+    requires { (at ≤ end) × (end ≤ length s.now) }
     ensures { Ones row.now s.now at result }
 {
-    let mut i = at;
-    while i < end {
-        if entry_at(row, s, i) <= ONE_GR {
-            i += 1;
-        } else {
+    for i in at..end {
+        if ONE_GR < entry_at(row, s, i) {
             return i;
         }
     }
-    i
+    end
 }
 
 // Whether the four octets at a place are units by themselves.
-fn four(row: &[u8], s: &[u8], at: usize) -> bool
-    requires { (256 ≤ length row.now) × (at + 4 ≤ length s.now) }
+fn four(row: &[u8; 256], s: &[u8], at: usize) -> bool
+    requires { at + 4 ≤ length s.now }
     ensures { result ≡ true → Ones row.now s.now at (at + 4) }
 {
-    if entry_at(row, s, at) <= ONE_GR {
-        if entry_at(row, s, at + 1) <= ONE_GR {
-            if entry_at(row, s, at + 1 + 1) <= ONE_GR {
-                return entry_at(row, s, at + 1 + 1 + 1) <= ONE_GR;
-            }
-            return false;
-        }
-        return false;
-    }
-    false
+    entry_at(row, s, at) <= ONE_GR
+        && entry_at(row, s, at + 1) <= ONE_GR
+        && entry_at(row, s, at + 2) <= ONE_GR
+        && entry_at(row, s, at + 3) <= ONE_GR
 }
 
 // The place after the units of one octet that start at a place, four by four.
-pub fn fours(row: &[u8], s: &[u8], at: usize) -> usize
-    requires { (256 ≤ length row.now) × (at ≤ length s.now) }
+pub fn fours(row: &[u8; 256], s: &[u8], at: usize) -> usize
+    requires { at ≤ length s.now }
     ensures { Ones row.now s.now at result }
 {
     let mut i = at;
-    while 4 <= s.len() - i {
-        if four(row, s, i) {
-            i += 4;
-        } else {
-            return i;
-        }
+    while 4 <= s.len() - i && four(row, s, i) {
+        i += 4;
     }
     i
 }
 
 // The place after the blocks of units of one octet that start at a place, where the octet there has this entry.
-pub fn ones(row: &[u8], s: &[u8], at: usize, k: u8) -> usize
-    requires { (256 ≤ length row.now) × Entry row.now s.now at k }
+pub fn ones(row: &[u8; 256], s: &[u8], at: usize, k: u8) -> usize
+    requires { Entry row.now s.now at k }
     ensures { Stretched row.now s.now at result (result - at) }
 {
     if k <= SPACE {

@@ -10,33 +10,23 @@ use octet_blocks::words::leading;
 use octet_table::TWO_GL;
 
 // Whether a character of two octets stands at a place, both of which have this entry.
-fn pair(row: &[u8], s: &[u8], at: usize, k: u8) -> bool
-    requires { (256 ≤ length row.now) × (at + 2 ≤ length s.now) × (5 ≤ k) × (k ≤ 6) }
+fn pair(row: &[u8; 256], s: &[u8], at: usize, k: u8) -> bool
+    requires { (at + 2 ≤ length s.now) × (5 ≤ k) × (k ≤ 6) }
     ensures { result ≡ true → Stretched row.now s.now at (at + 2) 1 }
 {
-    if entry_at(row, s, at) == k {
-        return entry_at(row, s, at + 1) == k;
-    }
-    false
+    entry_at(row, s, at) == k && entry_at(row, s, at + 1) == k
 }
 
 // The characters of two octets that start at a place, of this entry, up to an end.
-pub fn pairs(row: &[u8], s: &[u8], at: usize, end: usize, k: u8) -> Stretch
-    requires { (256 ≤ length row.now) × (at ≤ end) × (end ≤ length s.now) × (5 ≤ k) × (k ≤ 6) }
+pub fn pairs(row: &[u8; 256], s: &[u8], at: usize, end: usize, k: u8) -> Stretch
+    requires { (at ≤ end) × (end ≤ length s.now) × (5 ≤ k) × (k ≤ 6) }
     ensures { Stretched row.now s.now at (at + result.octets) result.units }
 {
     let mut i = at;
     let mut n: usize = 0;
-    while 2 <= end - i {
-        if pair(row, s, i, k) {
-            i += 2;
-            n += 1;
-        } else {
-            return Stretch {
-                octets: i - at,
-                units: n,
-            };
-        }
+    while 2 <= end - i && pair(row, s, i, k) {
+        i += 2;
+        n += 1;
     }
     Stretch {
         octets: i - at,
@@ -66,8 +56,8 @@ pub fn twos(s: &[u8], at: usize, first: u8, last: u8) -> Stretch
 
 // The characters of two octets in GL that start at a place: a word of eight octets at a time up to an end that is near, and octet by octet where
 // no word is left.
-pub fn doubles(row: &[u8], s: &[u8], at: usize, end: usize) -> Stretch
-    requires { (256 ≤ length row.now) × (at < end) × (end ≤ length s.now) × Entry row.now s.now at 5 }
+pub fn doubles(row: &[u8; 256], s: &[u8], at: usize, end: usize) -> Stretch
+    requires { (at < end) × (end ≤ length s.now) × Entry row.now s.now at 5 }
     ensures { Stretched row.now s.now at (at + result.octets) result.units }
 {
     let mut i = at;

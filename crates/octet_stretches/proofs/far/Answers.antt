@@ -3,24 +3,14 @@ use Rattle.element.proofs.Names.{arith}
 use Rattle.octet_stretches.proofs.Laws.{fits, ones_more, twos_gl, twos_gr}
 use Rattle.octet_stretches.proofs.far.Goals as goal
 
-pub twos-requires : goal.twos-requires
-twos-requires c = omega (arith, c.requires.1.inside)
-
 pub returns-then-k-eq-TWO_GL : goal.returns-then-k-eq-TWO_GL
-returns-then-k-eq-TWO_GL c = let w = c.twos.ensures in twos_gl c.requires.1 c.if-k-eq-TWO_GL.true w.0 w.1
-
-pub twos-requires-then-k-eq-TWO_GR : goal.twos-requires-then-k-eq-TWO_GR
-twos-requires-then-k-eq-TWO_GR c = omega (arith, c.requires.1.inside)
+returns-then-k-eq-TWO_GL c = let w = c.twos.ensures in twos_gl c.requires c.if-k-eq-TWO_GL.true w.0 w.1
 
 pub returns-then-k-eq-TWO_GR : goal.returns-then-k-eq-TWO_GR
-returns-then-k-eq-TWO_GR c = let w = c.twos-then-k-eq-TWO_GR.ensures in twos_gr c.requires.1 c.if-k-eq-TWO_GR.true w.0 w.1
-
-pub ones-requires : goal.ones-requires
-ones-requires c = c.requires
+returns-then-k-eq-TWO_GR c = let w = c.twos-then-k-eq-TWO_GR.ensures in twos_gr c.requires c.if-k-eq-TWO_GR.true w.0 w.1
 
 pub fours-requires : goal.fours-requires
-fours-requires c = let pre = c.requires in
-    (pre.0, (fits c.ones.ensures).1 (omega (arith, pre.1.inside)))
+fours-requires c = (fits c.ones.ensures).1 (omega (arith, c.requires.inside))
 
 pub overflow_sub-n : goal.overflow_sub-n
 overflow_sub-n c = omega (arith, (fits c.ones.ensures).0, c.fours.ensures.since)

@@ -6,19 +6,16 @@ use Rattle.octet_stretches.proofs.one_octet.ones.Goals as goal
 
 pub returns-then-k-le-SPACE : goal.returns-then-k-le-SPACE
 returns-then-k-le-SPACE c = let pre = c.requires in
-    ones_left c.if-k-le-SPACE.true pre.1 (c.blocks_end.ensures.0 (omega (arith, pre.1.inside)))
-
-pub full_right-requires : goal.full_right-requires
-full_right-requires c = c.requires.0
+    ones_left c.if-k-le-SPACE.true pre (c.blocks_end.ensures.0 (omega (arith, pre.inside)))
 
 pub returns-then-full_right : goal.returns-then-full_right
 returns-then-full_right c = let pre = c.requires in
-    ones_96 (entry_is c.if-k-eq-ONE_GR.true pre.1) (c.full_right.ensures c.if-full_right.true)
-    (c.blocks_end-then-full_right.ensures.0 (omega (arith, pre.1.inside)))
+    ones_96 (entry_is c.if-k-eq-ONE_GR.true pre) (c.full_right.ensures c.if-full_right.true)
+    (c.blocks_end-then-full_right.ensures.0 (omega (arith, pre.inside)))
 
 pub returns-then-k-eq-ONE_GR : goal.returns-then-k-eq-ONE_GR
 returns-then-k-eq-ONE_GR c = let pre = c.requires in
-    ones_94 (entry_is c.if-k-eq-ONE_GR.true pre.1) (c.blocks_end-then-k-eq-ONE_GR.ensures.0 (omega (arith, pre.1.inside)))
+    ones_94 (entry_is c.if-k-eq-ONE_GR.true pre) (c.blocks_end-then-k-eq-ONE_GR.ensures.0 (omega (arith, pre.inside)))
 
 pub returns : goal.returns
 returns c = by_numbers refl (omega arith) none

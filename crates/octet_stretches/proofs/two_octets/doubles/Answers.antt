@@ -2,7 +2,7 @@
 -- GL, so as many characters of two octets as are whole; and then those that are found octet by octet.
 use Rattle.element.proofs.Names.{ℕ, ◌+◌, ◌≤◌, arith, ◌≡◌, List}
 use Rattle.octet_blocks.specs.Blocks.{Within}
-use Rattle.octet_blocks.proofs.Counted.{within_none, blocks_more}
+use Rattle.octet_blocks.proofs.Counted.{blocks_more}
 use Rattle.octet_blocks.proofs.Octets.{leading_passed, leading_few}
 use Rattle.octet_stretches.proofs.Laws.{fits, doubles_pass, doubles_on}
 use Rattle.octet_stretches.proofs.two_octets.doubles.Goals.{After-leading-n, After-pairs-b}
@@ -31,56 +31,29 @@ after_pairs : (c : After-pairs-b)
 after_pairs c =
     let words = c.pairs_to-a.ensures in
     let inv = c.loop-i.invariant in
-    doubles_on c.requires.3 inv.0 words.0 words.1 inv.2 _ _ c.pairs-b.ensures
-
-pub loop-i-init : goal.loop-i-init
-loop-i-init c = let pre = c.requires in (within_none _ _ _ _ (omega (arith, pre.1, pre.2)), pre.1, omega arith)
-
-pub overflow_sub-s : goal.overflow_sub-s
-overflow_sub-s c = c.loop-i.invariant.0.within
-
-pub overflow_add-i : goal.overflow_add-i
-overflow_add-i c = let w = after_leading (goal.at.overflow_add-i c).After-leading-n in omega (arith, w.0.within)
-
-pub pairs_to-requires : goal.pairs_to-requires
-pairs_to-requires c = omega (arith, c.loop-i.invariant.0.since)
+    doubles_on c.requires.2 inv.0 words.0 words.1 inv.2 _ _ c.pairs-b.ensures
 
 pub returns-then-n-lt8 : goal.returns-then-n-lt8
-returns-then-n-lt8 c = doubles_pass c.requires.3
+returns-then-n-lt8 c = doubles_pass c.requires.2
     (blocks_more _ _ _ _ _ _ c.loop-i.invariant.0 (after_leading (goal.at.returns-then-n-lt8 c).After-leading-n).0) c.pairs_to.ensures.0 c.pairs_to.ensures.1
 
-pub overflow_add-i-in-loop-i : goal.overflow_add-i-in-loop-i
-overflow_add-i-in-loop-i c = omega (arith, c.loop-i-test.true, c.loop-i.invariant.0.within)
-
-pub pairs_to-requires-then-end-i : goal.pairs_to-requires-then-end-i
-pairs_to-requires-then-end-i c = omega (arith, c.loop-i.invariant.0.since)
-
 pub returns-then-end-i : goal.returns-then-end-i
-returns-then-end-i c = doubles_pass c.requires.3
+returns-then-end-i c = doubles_pass c.requires.2
     (eight _ _ _ _ c.loop-i.invariant.0 (after_leading (goal.at.returns-then-end-i c).After-leading-n) (omega arith)) c.pairs_to-then-end-i.ensures.0
     c.pairs_to-then-end-i.ensures.1
-
-pub loop-i-smaller : goal.loop-i-smaller
-loop-i-smaller c = omega (arith, c.loop-i-test.true)
 
 pub loop-i-preserved : goal.loop-i-preserved
 loop-i-preserved c = let inv = c.loop-i.invariant in
     (eight _ _ _ _ inv.0 (after_leading (goal.at.loop-i-preserved c).After-leading-n) (omega arith), c.if-end-i.false, omega (arith, inv.0.since, inv.2))
 
-pub pairs_to-a-requires : goal.pairs_to-a-requires
-pairs_to-a-requires c = c.loop-i.invariant.0.since
-
-pub pairs-b-requires : goal.pairs-b-requires
-pairs-b-requires c = let pre = c.requires in (pre.0, omega (arith, c.loop-i.invariant.1), pre.2, omega arith, omega arith)
-
 pub overflow_add-result : goal.overflow_add-result
 overflow_add-result c = let p = fits (after_pairs (goal.at.overflow_add-result c).After-pairs-b) in
-    let pre = c.requires in omega (arith, p.1 (omega (arith, pre.1, pre.2)))
+    let pre = c.requires in omega (arith, p.1 (omega (arith, pre.0, pre.1)))
 
 pub overflow_add-result-2 : goal.overflow_add-result-2
 overflow_add-result-2 c = let p = fits (after_pairs (goal.at.overflow_add-result-2 c).After-pairs-b) in
     let pre = c.requires in
-    omega (arith, p.0, p.1 (omega (arith, pre.1, pre.2)))
+    omega (arith, p.0, p.1 (omega (arith, pre.0, pre.1)))
 
 pub returns : goal.returns
 returns c = after_pairs (goal.at.returns c).After-pairs-b

@@ -5,13 +5,7 @@ use Rattle.octet_stretches.proofs.Laws.{fits, by_numbers}
 use Rattle.octet_stretches.proofs.two_octets.pairs.Goals as goal
 
 pub loop-i-init : goal.loop-i-init
-loop-i-init c = (none, c.requires.1)
-
-pub overflow_sub-end : goal.overflow_sub-end
-overflow_sub-end c = c.loop-i.invariant.1
-
-pub pair-requires : goal.pair-requires
-pair-requires c = let pre = c.requires in (pre.0, omega (arith, c.loop-i-test.true, pre.2), pre.3, pre.4)
+loop-i-init c = (none, c.requires.0)
 
 pub overflow_add-n : goal.overflow_add-n
 overflow_add-n c = let inv = c.loop-i.invariant in omega (arith, (fits inv.0).0, inv.1)
@@ -22,12 +16,6 @@ loop-i-preserved c = let inv = c.loop-i.invariant in
 
 pub overflow_sub-result : goal.overflow_sub-result
 overflow_sub-result c = omega (arith, (fits c.loop-i.invariant.0).0)
-
-pub returns-else-pair : goal.returns-else-pair
-returns-else-pair c = let inv = c.loop-i.invariant in by_numbers (omega (arith, (fits inv.0).0)) refl inv.0
-
-pub overflow_sub-result-2 : goal.overflow_sub-result-2
-overflow_sub-result-2 c = omega (arith, (fits c.loop-i.invariant.0).0)
 
 pub returns : goal.returns
 returns c = let inv = c.loop-i.invariant in by_numbers (omega (arith, (fits inv.0).0)) refl inv.0
