@@ -15,6 +15,8 @@ ghost use Rattle.numbers.specs.Class as classes;
 
 use base::{Answer, Refusal, limit};
 use numbers::size;
+use base::{Answer, limit, refusal};
+use numbers::{PLACES_IN_GL, PLACES_IN_GR, size};
 use rows::{layout, tag};
 
 // The number after the choice for a unit of class x under number k, by what its row keeps. Where l or r, the places of GL and GR that serve
@@ -34,22 +36,13 @@ fn choose(x: usize, k: usize, l: usize, r: usize, work: &[u8], row: usize) -> us
     numbers::chosen(x, k, work[row + k % size::COLUMNS], work[row + slot])
 }
 
-// These write one octet and two, and answer the next place.
-fn put_one(a: u8, out: &mut [u8], at: usize) -> usize
-    requires { at + 1 ≤ length out.old }
-    ensures { Written out.old at (a ∷ []) result out.new }
+// Writes N octets, and answers the next place.
+fn put<const N: usize>(octets: [u8; N], out: &mut [u8], at: usize) -> usize
+    requires { at + length octets ≤ length out.old }
+    ensures { Written out.old at octets.entry result out.new }
 {
-    out[at] = a;
-    at + 1
-}
-
-fn put_two(a: u8, b: u8, out: &mut [u8], at: usize) -> usize
-    requires { at + 2 ≤ length out.old }
-    ensures { Written out.old at (a ∷ b ∷ []) result out.new }
-{
-    out[at] = a;
-    out[at + 1] = b;
-    at + 2
+    out[at..at + N].copy_from_slice(&octets);
+    at + N
 }
 
 // Writes the unit of the row that starts at a place, on a side, and answers the next place.
@@ -64,16 +57,15 @@ fn put_row(work: &[u8], row: usize, left: bool, segments: &[u8], out: &mut [u8],
     if unit_octets::two_octets(tag) {
         let high = unit_octets::on_side(left, work[row + layout::HIGH]);
         let low = unit_octets::on_side(left, work[row + layout::LOW]);
-        return put_two(high, low, out, at);
-    }
-    if tag < tag::TAB {
+        put([high, low], out, at)
+    } else if tag < tag::TAB {
         let octet = unit_octets::single(tag, left, work[row + layout::LOW]);
-        return put_one(octet, out, at);
+        put([octet], out, at)
+    } else if tag < tag::LEFT_TO_RIGHT {
+        put([unit_octets::control(tag)], out, at)
+    } else {
+        unit_octets::put_other(tag, work, row, segments, out, at)
     }
-    if tag < tag::LEFT_TO_RIGHT {
-        return put_one(unit_octets::control(tag), out, at);
-    }
-    unit_octets::put_other(tag, work, row, segments, out, at)
 }
 
 // Writes n rows by their plan from the output's first place on, and answers the next place.
@@ -82,22 +74,18 @@ fn emit(work: &[u8], n: usize, segments: &[u8], out: &mut [u8]) -> usize
         × (length (writing (units_in segments.now work.now 0 n) fresh.sets) ≤ length out.old) }
     ensures { Written out.old 0 (writing (units_in segments.now work.now 0 n) fresh.sets) result out.new }
 {
-    let in_gl = numbers::PLACES_IN_GL;
-    let in_gr = numbers::PLACES_IN_GR;
-    let mut i: usize = 0;
     let mut k: usize = 1;
     let mut at: usize = 0;
-    while i < n {
+    for i in 0..n {
         let row = layout::ROW * i;
         let x = numbers::class_of(work[row + layout::TAG]);
-        let l = rows::wide(in_gl[x]);
-        let r = rows::wide(in_gr[x]);
+        let l = usize::from(PLACES_IN_GL[x]);
+        let r = usize::from(PLACES_IN_GR[x]);
         let j = choose(x, k, l, r, work, row);
         let a = unit_octets::put_change(k, j, out, at);
         let left = j / size::COLUMNS == l;
         at = put_row(work, row, left, segments, out, a);
         k = j;
-        i += 1;
     }
     at
 }

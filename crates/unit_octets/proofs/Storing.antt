@@ -1,16 +1,19 @@
 -- Octets stored one after the other, and that they are those of designations and units.
 use Rattle.element.proofs.Names.{◌≡◌, refl, sym, ap, ap₂, ◌∙◌, subst, Bool, true, false, List, [], ◌∷◌, ◌++◌, ℕ}
-use Rattle.element.proofs.Names.{◌+◌, ◌-◌, ◌*◌, ◌/◌, ◌%◌, ◌≤◌, ◌<◌, arith, add-one, ltb, leb, eqb, eq-eqb, ltb-true, ltb-false, lt-ltb, le-ltb, le-leb}
-use Rattle.element.proofs.Names.{lt-leb, eqb-true, ne_eqb, length, get_or, set, take, drop, length-append, length-take, length-drop, sets, test, pick_last}
+use Rattle.element.proofs.Names.{◌+◌, ◌*◌, ◌/◌, ◌%◌, ◌≤◌, ◌<◌, arith, ltb, leb, eqb, eq-eqb, ltb-true, ltb-false, lt-ltb, le-ltb, le-leb}
+use Rattle.element.proofs.Names.{lt-leb, eqb-true, ne_eqb, length, get_or, set, take, drop, length-append, sets, test, pick_last}
 use Rattle.element.proofs.Names.{pick_by, pick, Side, GL, form_96, form_94x94, row_of, form_of, on}
-use lib.Seq.{length-sets, take-suc, take_all, take-take, get_or-drop}
+use mathlib.Core.List.{append_assoc}
+use lib.Seq.{length-sets, drop-drop}
+use borrow.Rule.Slice.PartMut.{put_mid}
+use Rattle.std.proofs.lemmas.List.Edits.{sets-eq}
 use Rattle.base.proofs.Stores.{sets_append}
 use Rattle.charset.specs.Charsets.{width_of_form}
 use Rattle.charset.proofs.Laws.{narrow_form, wide_form}
 use Rattle.grammar.specs.Units.{Control, control, ext, wide, top, octets, lead, designation}
-use Rattle.rows.specs.Rows.{high_octet, low_octet, start_from, count_of, part_of, text_tagged, mark_tagged, other_tagged}
+use Rattle.rows.specs.Rows.{high_octet, low_octet, start_from, count_of, text_tagged, mark_tagged, other_tagged}
 use Rattle.rows.specs.Tag as tag
-use Rattle.rows.proofs.Units.{part_length, other_segment, other_mark}
+use Rattle.rows.proofs.Units.{other_segment, other_mark}
 use Rattle.shortest.specs.Writing.{designated}
 use Rattle.numbers.specs.Numbers.{sets_in_gl, sets_in_gr, change}
 use Rattle.unit_octets.specs.Octets.{Written, Stored, side_of, sign_of}
@@ -30,20 +33,11 @@ written_none l at = record { next = omega arith; now = refl }
 pub written_1 : (l : List ℕ) (at a : ℕ) → Written l at (a ∷ []) (at + 1) (set l at a)
 written_1 l at a = record { next = refl; now = refl }
 
--- one octet more
-written_more : {l m : List ℕ} {at r : ℕ} {xs : List ℕ} (y next : ℕ) → r + 1 ≡ next → Written l at xs r m
-    → Written l at (xs ++ (y ∷ [])) next (set m r y)
-written_more {m = m} {r = r} y next e p = rw (sym e) (written_both p (written_1 m r y))
-
-pub written_2 : (l : List ℕ) (at a b : ℕ) → Written l at (a ∷ b ∷ []) (at + 2) (set (set l at a) (at + 1) b)
-written_2 l at a b = written_more b (at + 2) (omega arith) (written_1 l at a)
-
-pub written_3 : (l : List ℕ) (at a b c : ℕ) → Written l at (a ∷ b ∷ c ∷ []) (at + 3) (set (set (set l at a) (at + 1) b) (at + 2) c)
-written_3 l at a b c = written_more c (at + 3) (omega arith) (written_2 l at a b)
-
-pub written_4 : (l : List ℕ) (at a b c d : ℕ)
-    → Written l at (a ∷ b ∷ c ∷ d ∷ []) (at + 4) (set (set (set (set l at a) (at + 1) b) (at + 2) c) (at + 3) d)
-written_4 l at a b c d = written_more d (at + 4) (omega arith) (written_3 l at a b c)
+-- a part of the list that is written whole
+pub written_part : {l part xs : List ℕ} {at k r : ℕ} → part ≡ xs → k ≡ length xs → r ≡ at + length xs → at + length xs ≤ length l
+    → Written l at xs r (put_mid at k l part)
+written_part {l} {part} {xs} {at} {k} {r} e ek er h =
+    record { next = er; now = rw (e, ek, drop-drop (length xs) at l) (sym (sets-eq xs l at h ∙ append_assoc (take at l) xs (drop (at + length xs) l))) }
 
 pub written_length : {l m : List ℕ} {at r : ℕ} {xs : List ℕ} → Written l at xs r m → length m ≡ length l
 written_length {l} {m} {at} {r} {xs} a = ap length a.now ∙ length-sets l at xs
@@ -83,27 +77,6 @@ unfolding pick
 stored_none l at =
     test (leb (at + 0) (length l)) (λ e. record { next = rw e (let z : at ≡ at + 0 = omega arith in z); now = rw e })
     (λ e. record { next = rw e; now = rw e })
-
--- ---- a copy
-
-part : (o : List ℕ) (s k : ℕ) → k ≤ length o - s → length (take k (drop s o)) ≡ k
-part o s k h = part_length o k s ∙ omega arith
-
-pub copy_more : (l m o : List ℕ) (at s k n : ℕ) → k < n → n ≤ length o - s → m ≡ sets l at (take k (drop s o))
-    → set m (at + k) (get_or o (s + k) 0) ≡ sets l at (take (k + 1) (drop s o))
-copy_more l m o at s k n h f e =
-    ap (λ (x : List ℕ). set x (at + k) (get_or o (s + k) 0)) e
-    ∙ ap (λ (j : ℕ). set (sets l at (take k (drop s o))) (at + j) (get_or o (s + k) 0)) (sym (part o s k (omega arith)))
-    ∙ sets_append (take k (drop s o)) (get_or o (s + k) 0 ∷ []) l at
-    ∙ ap (sets l at)
-    (ap (λ (y : ℕ). take k (drop s o) ++ (y ∷ [])) (sym (get_or-drop s o k 0))
-    ∙ sym (take-suc (drop s o) k 0 (simp length-drop (omega arith))) ∙ ap (λ (j : ℕ). take j (drop s o)) (sym (add-one k)))
-
-pub copy_done : (l m o : List ℕ) (at s k n : ℕ) → k ≤ n → n ≤ k → n ≤ length o - s → m ≡ sets l at (take k (drop s o))
-    → Written l at (take n (drop s o)) (at + n) m
-copy_done l m o at s k n h h' f e =
-    let q : k ≡ n = omega arith in
-    record { next = omega (arith, part o s n f); now = e ∙ ap (λ (j : ℕ). sets l at (take j (drop s o))) q }
 
 -- ---- designations
 
@@ -168,32 +141,14 @@ module _ (d : Side) (t a b : ℕ) where
       (let e : (a % 128 * 256 + b % 128) / 256 ≡ a % 128 = omega arith in e)
       (let e : (a % 128 * 256 + b % 128) % 256 ≡ b % 128 = omega arith in e))
 
--- a segment's octets: two threes, then the part
-pub segment_parts : (o : List ℕ) (e n m s : ℕ) → m ≡ part_of n s (length o)
-    → octets GL (ext e (take n (drop s o))) ≡ (0x1B ∷ 0x25 ∷ 0x2F ∷ []) ++ ((e ∷ (128 + m / 128) ∷ (128 + m % 128) ∷ []) ++ take m (drop s o))
+-- a segment's octets: six, then its part
+pub segment_octets : (d : ℕ) (p : List ℕ) → octets GL (ext d p) ≡ (0x1B ∷ 0x25 ∷ 0x2F ∷ d ∷ (128 + length p / 128) ∷ (128 + length p % 128) ∷ []) ++ p
 unfolding octets
-segment_parts o e n m s h =
-    let l : length (take n (drop s o)) ≡ m = part_length o n s ∙ sym h in
-    rw l (ap (λ (xs : List ℕ). 0x1B ∷ 0x25 ∷ 0x2F ∷ e ∷ (128 + m / 128) ∷ (128 + m % 128) ∷ xs) (take-least n m (drop s o) l))
-  where
-    take-least : (n m : ℕ) (xs : List ℕ) → length (take n xs) ≡ m → take n xs ≡ take m xs
-    take-least n m xs l = sym (take_all m (take n xs) (omega arith)) ∙ take-take m n xs (omega (arith, l, length-take n xs))
+segment_octets d p = refl
 
-pub segment_length : (o : List ℕ) (e n s : ℕ) → length (octets GL (ext e (take n (drop s o)))) ≡ 6 + part_of n s (length o)
+pub segment_length : (d : ℕ) (p : List ℕ) → length (octets GL (ext d p)) ≡ 6 + length p
 unfolding octets
-segment_length o e n s = omega (arith, part_length o n s)
-
--- the two threes have room, and after them the part
-module _ {l mid last : List ℕ} {at p q a b c x y z : ℕ} (m : ℕ) (h : at + (6 + m) ≤ length l) (lead : Stored l at (a ∷ b ∷ c ∷ []) p mid)
-    (count : Stored mid p (x ∷ y ∷ z ∷ []) q last) where
-  pub lead_written : Written l at (a ∷ b ∷ c ∷ []) p mid
-  lead_written = stored_written (omega arith) lead
-
-  pub count_written : Written mid p (x ∷ y ∷ z ∷ []) q last
-  count_written = stored_written (omega (arith, lead_written.next, written_length lead_written)) count
-
-  pub copy_room : q + m ≤ length last
-  copy_room = omega (arith, lead_written.next, written_length lead_written, count_written.next, written_length count_written)
+segment_length d p = omega arith
 
 -- a unit that is no character or space
 module _ (o w : List ℕ) (row t : ℕ) where

@@ -26,16 +26,15 @@ pub fn on_side(left: bool, b: u8) -> u8
 }
 
 // Whether a tag is that of a character of two octets.
+#[tactic(auto, using(base::proofs::Ladder::ladder))]
 pub fn two_octets(tag: u8) -> bool
     ensures { result ≡ pick (ltb tag tags.double) false (ltb tag tags.space) }
 {
-    if tag < tag::DOUBLE {
-        return false;
-    }
-    tag < tag::SPACE
+    matches!(tag, tag::DOUBLE..tag::SPACE)
 }
 
 // The octet of a space, or of a character of one octet on a side: the two in one, since words and spaces alternate.
+#[tactic(auto, using(base::proofs::Ladder::ladder))]
 pub fn single(tag: u8, left: bool, b: u8) -> u8
     ensures { result ≡ pick (eqb tag tags.space) 0x20 (top (side_of left) + b % 128) }
 {
@@ -47,6 +46,7 @@ pub fn single(tag: u8, left: bool, b: u8) -> u8
 }
 
 // The octet of a tab or a newline.
+#[tactic(auto, using(base::proofs::Ladder::ladder))]
 pub fn control(tag: u8) -> u8
     ensures { result ≡ pick (eqb tag tags.tab) 0x09 0x0A }
 {
@@ -54,16 +54,17 @@ pub fn control(tag: u8) -> u8
 }
 
 // The octet of a designation that says the side and the form.
+#[tactic(auto, using(base::proofs::Ladder::ladder), unfolding(crate::specs::Octets::sign_of))]
 fn sign(left: bool, set: u8) -> u8
     ensures { result ≡ sign_of left set }
 {
     if left {
-        return 0x28;
+        0x28
+    } else if form_of(set) == FORM_96 {
+        0x2D
+    } else {
+        0x29
     }
-    if form_of(set) == FORM_96 {
-        return 0x2D;
-    }
-    0x29
 }
 
 // Stores the designation of a set, and answers the next place.
@@ -73,9 +74,10 @@ pub fn put_designation(left: bool, set: u8, out: &mut [u8], at: usize) -> usize
     let s = sign(left, set);
     let last = final_of(set);
     if octets_of(set) == 2 {
-        return stores::put_four(0x1B, 0x24, s, last, out, at);
+        stores::put([0x1B, 0x24, s, last], out, at)
+    } else {
+        stores::put([0x1B, s, last], out, at)
     }
-    stores::put_three(0x1B, s, last, out, at)
 }
 
 // Stores the designation that makes number k number j, and answers the next place.
@@ -86,58 +88,52 @@ pub fn put_change(k: usize, j: usize, out: &mut [u8], at: usize) -> usize
         return at;
     }
     if j / size::COLUMNS == k / size::COLUMNS {
-        return put_designation(false, numbers::set_in_gr(j % size::COLUMNS) as u8, out, at);
+        return put_designation(false, numbers::set_in_gr(j % size::COLUMNS), out, at);
     }
-    put_designation(true, numbers::set_in_gl(j / size::COLUMNS) as u8, out, at)
+    put_designation(true, numbers::set_in_gl(j / size::COLUMNS), out, at)
 }
 
 // Stores a tab, a newline or a direction mark, and answers the next place.
 fn put_mark(tag: u8, out: &mut [u8], at: usize) -> usize
     ensures { Stored out.old at (octets GL (mark_tagged tag)) result out.new }
 {
-    if tag == tag::TAB {
-        return stores::put_one(0x09, out, at);
+    match tag {
+        tag::TAB => stores::put([0x09], out, at),
+        tag::NEWLINE => stores::put([0x0A], out, at),
+        tag::LEFT_TO_RIGHT => stores::put([0x9B, 0x31, 0x5D], out, at),
+        tag::RIGHT_TO_LEFT => stores::put([0x9B, 0x32, 0x5D], out, at),
+        _ => stores::put([0x9B, 0x5D], out, at),
     }
-    if tag == tag::NEWLINE {
-        return stores::put_one(0x0A, out, at);
-    }
-    if tag == tag::LEFT_TO_RIGHT {
-        return stores::put_three(0x9B, 0x31, 0x5D, out, at);
-    }
-    if tag == tag::RIGHT_TO_LEFT {
-        return stores::put_three(0x9B, 0x32, 0x5D, out, at);
-    }
-    stores::put_two(0x9B, 0x5D, out, at)
 }
 
-// Copies n octets of src, from a place on.
-fn copy(src: &[u8], from: usize, n: usize, out: &mut [u8], at: usize) -> usize
-    requires { (n ≤ length src.now - from) × (at + n ≤ length out.old) }
-    ensures { Written out.old at (take n (drop from src.now)) result out.new }
+// The part of a segment of n octets that start at a place of those lent, as far as it lies in them.
+fn part(segments: &[u8], start: usize, n: usize) -> &[u8]
+    ensures { result.now ≡ take n (drop start segments.now) }
 {
-    let mut k: usize = 0;
-    while k < n {
-        out[at + k] = src[from + k];
-        k += 1;
+    let rest = &segments[start.min(segments.len())..];
+    &rest[..n.min(rest.len())]
+}
+
+// Stores an extended segment of d and a part.
+fn put_segment(d: u8, part: &[u8], out: &mut [u8], at: usize) -> usize
+    requires { length part.now ≤ 16383 }
+    ensures { Stored out.old at (octets GL (ext d part.now)) result out.new }
+{
+    let n = part.len();
+    if out.len() < at || out.len() - at < 6 + n {
+        return at;
     }
+    let lead = [
+        0x1B,
+        0x25,
+        0x2F,
+        d,
+        (128 + n / 128) as u8,
+        (128 + n % 128) as u8,
+    ];
+    let at = stores::put(lead, out, at);
+    out[at..at + n].copy_from_slice(part);
     at + n
-}
-
-// Stores an extended segment of the n octets that start at a place of those lent, as far as they lie in them.
-fn put_segment(d: u8, n: usize, start: usize, segments: &[u8], out: &mut [u8], at: usize) -> usize
-    requires { n ≤ 16383 }
-    ensures { Stored out.old at (octets GL (ext d (take n (drop start segments.now)))) result out.new }
-{
-    let m = rows::part_of(n, start, segments.len());
-    if out.len() < 6 + m {
-        return at;
-    }
-    if out.len() - (6 + m) < at {
-        return at;
-    }
-    let p = stores::put_three(0x1B, 0x25, 0x2F, out, at);
-    let q = stores::put_three(d, (128 + m / 128) as u8, (128 + m % 128) as u8, out, p);
-    copy(segments, start, m, out, q)
 }
 
 // Stores the segment or the mark of the row that starts at a place, and answers the next place.
@@ -152,12 +148,13 @@ pub fn put_other(
     ensures { Stored out.old at (octets GL (other_tagged segments.now tag (high_octet work.now row)
         (low_octet work.now row) (start_from work.now row))) result out.new }
 {
-    if tag::SEGMENT <= tag {
-        if tag < tag::SPARE {
+    match tag {
+        tag::SEGMENT..tag::SPARE => {
             let n = rows::count_at(work, row);
             let start = rows::start_at(work, row);
-            return put_segment((tag::D + tag as u16) as u8, n, start, segments, out, at);
+            let d = (tag::D + u16::from(tag)) as u8;
+            put_segment(d, part(segments, start, n), out, at)
         }
+        _ => put_mark(tag, out, at),
     }
-    put_mark(tag, out, at)
 }

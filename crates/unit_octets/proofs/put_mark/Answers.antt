@@ -5,26 +5,22 @@ use Rattle.rows.specs.Rows.{mark_tagged}
 use Rattle.unit_octets.proofs.Storing.{mark_stored}
 use Rattle.unit_octets.proofs.put_mark.Goals as goal
 
-pub returns-then-tag-eq-TAB : goal.returns-then-tag-eq-TAB
+pub returns-in-16 : goal.returns-in-16
 unfolding octets mark_tagged
-returns-then-tag-eq-TAB c = mark_stored tab c.args.tag (search ladder depth 9) c.put_one.ensures
+returns-in-16 c = mark_stored tab c.args.tag (search ladder depth 9) c.put.ensures
 
-pub returns-then-tag-eq-NEWLINE : goal.returns-then-tag-eq-NEWLINE
+pub returns-in-17 : goal.returns-in-17
 unfolding octets mark_tagged
-returns-then-tag-eq-NEWLINE c = mark_stored newline c.args.tag (search ladder depth 9)
-    c.put_one-then-tag-eq-NEWLINE.ensures
+returns-in-17 c = mark_stored newline c.args.tag (search ladder depth 9) c.put-in-17.ensures
 
-pub returns-then-tag-eq-LEFT_TO_RIGHT : goal.returns-then-tag-eq-LEFT_TO_RIGHT
+pub returns-in-18 : goal.returns-in-18
 unfolding octets mark_tagged
-returns-then-tag-eq-LEFT_TO_RIGHT c = mark_stored ltr c.args.tag (search ladder depth 9)
-    c.put_three.ensures
+returns-in-18 c = mark_stored ltr c.args.tag (search ladder depth 9) c.put-in-18.ensures
 
-pub returns-then-tag-eq-RIGHT_TO_LEFT : goal.returns-then-tag-eq-RIGHT_TO_LEFT
+pub returns-in-19 : goal.returns-in-19
 unfolding octets mark_tagged
-returns-then-tag-eq-RIGHT_TO_LEFT c = mark_stored rtl c.args.tag (search ladder depth 9)
-    c.put_three-then-tag-eq-RIGHT_TO_LEFT.ensures
+returns-in-19 c = mark_stored rtl c.args.tag (search ladder depth 9) c.put-in-19.ensures
 
-pub returns : goal.returns
+pub returns-in_default : goal.returns-in_default
 unfolding octets mark_tagged
-returns c = mark_stored revert c.args.tag (search ladder depth 9)
-    c.put_two.ensures
+returns-in_default c = mark_stored revert c.args.tag (search ladder depth 9) c.put-in_default.ensures
