@@ -3,66 +3,36 @@
 // standard error.
 #![tactic(auto)]
 
-ghost use Rattle.std.specs.Prelude.{◌≤◌, ◌≡◌, length, take};
+ghost use Rattle.std.specs.Prelude.{◌≤◌, length, IfOk};
 
+use std::io;
 use std::io::{Read, Stdin};
 
-// The octets that were read, and whether a read failed.
-#[derive(Clone, Copy)]
-struct Input {
-    octets: usize,
-    failed: bool,
-}
-
-// Reads once: 0 octets and no failure is the input's end.
-fn read_some(stdin: &mut Stdin, part: &mut [u8]) -> Input
-    ensures { (result.octets ≤ length part.new) × (length part.new ≡ length part.old) }
+// Reads until the room is full or the input ends, and answers how many octets.
+fn read_input(stdin: &mut Stdin, room: &mut [u8]) -> io::Result<usize>
+    ensures { IfOk result (λ n. n ≤ length room.new) }
 {
-    match stdin.read(part) {
-        Ok(octets) => Input {
-            octets: octets,
-            failed: false,
-        },
-        Err(_) => Input {
-            octets: 0,
-            failed: true,
-        },
-    }
-}
-
-// Reads until the room is full, the input ends or a read fails.
-fn read_input(stdin: &mut Stdin, room: &mut [u8]) -> Input
-    ensures { (result.octets ≤ length room.new) × (result.octets ≡ length (take result.octets room.new)) }
-{
-    let mut n: usize = 0;
+    let mut n = 0;
     while n < room.len() {
-        let some = read_some(stdin, &mut room[n..]);
-        if some.octets == 0 {
-            return Input {
-                octets: n,
-                failed: some.failed,
-            };
+        let octets = stdin.read(&mut room[n..])?;
+        if octets == 0 {
+            break;
         }
-        n += some.octets;
+        n += octets;
     }
-    Input {
-        octets: n,
-        failed: false,
-    }
+    Ok(n)
 }
 
 fn main(rt: HostRuntime) {
     let mut stdin = rt.stdin();
     let mut room = program::input_room();
-    let input = read_input(&mut stdin, &mut room);
-    if input.failed {
+    let Ok(n) = read_input(&mut stdin, &mut room) else {
         let _ = rt.eprintln("ctext: the input cannot be read");
         return;
-    }
+    };
     let mut out = program::output_room();
-    let printed = program::print_input(&room, input.octets, &mut out);
-    let m = printed.length;
-    if rt.write_all(&out[..m]).is_err() {
+    let printed = program::print_input(&room, n, &mut out);
+    if rt.write_all(&out[..printed.length]).is_err() {
         let _ = rt.eprintln("ctext: the output cannot be written");
     }
 }

@@ -1,9 +1,0 @@
--- `i` stays within the text, and is not before `at`.
-use Rattle.std.proofs.Common.{length, ◌-◌, ◌≤◌}
-use Rattle.answers.proofs.line_end.Given as goal
-
-abbrev pub invariant-loop-i : goal.invariant-loop-i
-invariant-loop-i l = (l.at ≤ l.i) × (l.i ≤ length l.text)
-
-abbrev pub decreases-loop-i : goal.decreases-loop-i
-decreases-loop-i l = length l.text - l.i
