@@ -1,5 +1,5 @@
 -- The numbers of refusal (rule N10). `refusal.cut` and the like, where this module is used as `refusal`.
-use Rattle.std.specs.Prelude.{ℕ}
+use Rattle.std.specs.Prelude.{ℕ, Option, None, Some}
 use Rattle.base.specs.declared.refusal.Refusal.{Refusal}
 use Rattle.base.specs.declared.refusal.Refusal.TheVariants.{TooLong, Cut, Unused, Unknown, NotApproved, Version, BadSegment, Direction, TooDeep}
 use Rattle.base.specs.declared.refusal.Refusal.TheVariants.{NoRoom, BadUnit, NoWorkRoom, BadForm, NotEnded, Unsupported}
@@ -85,3 +85,8 @@ number_of NoWorkRoom = no_work_room
 number_of BadForm = bad_form
 number_of NotEnded = not_ended
 number_of Unsupported = unsupported
+
+-- the same where there may be none
+abbrev pub number_if : Option Refusal → ℕ
+number_if None = accepted
+number_if (Some r) = number_of r

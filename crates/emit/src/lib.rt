@@ -14,8 +14,6 @@ ghost use Rattle.numbers.specs.Size as sizes;
 ghost use Rattle.numbers.specs.Class as classes;
 
 use base::{Answer, Refusal, limit};
-use numbers::size;
-use base::{Answer, limit, refusal};
 use numbers::{PLACES_IN_GL, PLACES_IN_GR, size};
 use rows::{layout, tag};
 

@@ -3,6 +3,7 @@
 #![tactic(auto)]
 
 ghost use Rattle.std.specs.Prelude.{◌≡◌, ◌+◌, length};
+ghost use Rattle.base.specs.Refusal.{number_of};
 ghost use Rattle.r5_pen.specs.Pen.{looking_at, ample_for, looked_first, begun_at, counted, stayed_at, moved_to, stopped_by, turned_over};
 ghost use Rattle.r5_pen.specs.Pen.{passed_text, passed_by, looked_by, checked_by};
 ghost use Rattle.r5_pen.specs.Pen.{stored_text, output_text, stored_by, output_by, turn_of, output_of, finish_answer, finish_output};
@@ -109,13 +110,13 @@ fn moved(pen: Pen, left: bool, set: u8, at: usize, index: usize) -> Pen
 
 // A record is refused: no other of the n is looked at.
 #[tactic(auto, unfolding(crate::specs::Pen::stopped_by, base::specs::Choice::pick))]
-fn stopped(pen: Pen, number: u8, n: usize) -> Pen
-    ensures { result ≡ stopped_by pen number n }
+fn stopped(pen: Pen, refusal: Refusal, n: usize) -> Pen
+    ensures { result ≡ stopped_by pen (number_of refusal) n }
 {
     Pen {
         index: n,
         place: pen.index,
-        number,
+        number: refusal.number(),
         ..pen
     }
 }
@@ -183,11 +184,10 @@ fn look(pen: Pen, unit: Unit, index: usize, n: usize, room: usize) -> Pen
 fn check(pen: Pen, unit: Unit, index: usize, n: usize, segments: &[u8], room: usize) -> Pen
     ensures { result ≡ checked_by pen unit index n segments.now room }
 {
-    let number = r5_units::refusal_of(unit, segments);
-    if number != refusal::ACCEPTED {
-        return stopped(pen, number, n);
+    match r5_units::refusal_of(unit, segments) {
+        Some(refusal) => stopped(pen, refusal, n),
+        None => turned_over(look(pen, unit, index, n, room), n, room),
     }
-    turned_over(look(pen, unit, index, n, room), n, room)
 }
 
 // A character is stored where it has room, with the designation of its set where that stands on neither side.
@@ -214,7 +214,7 @@ fn store(pen: Pen, unit: Unit, index: usize, out: &mut [u8]) -> Pen
         let code = r5_units::text_code(unit);
         return store_text(pen, set, code, index, out);
     }
-    let at = stores::put_one(r5_units::control(unit.kind), out, pen.at);
+    let at = stores::put([r5_units::control(unit.kind)], out, pen.at);
     stayed(pen, at, index)
 }
 

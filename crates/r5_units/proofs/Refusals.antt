@@ -1,5 +1,8 @@
 -- The refusal of a record, as the program finds it: a record that a quick check lets through is refused for nothing, and of every other the base
 -- writer's refusal, where no direction is open, and the kind decide.
+use Rattle.base.specs.declared.refusal.Refusal.{Refusal}
+use Rattle.base.specs.declared.refusal.Refusal.TheVariants.{TooLong, Cut, Unused, Unknown, NotApproved, Version, BadSegment, Direction, TooDeep}
+use Rattle.base.specs.declared.refusal.Refusal.TheVariants.{NoRoom, BadUnit, NoWorkRoom, BadForm, NotEnded, Unsupported}
 use Rattle.element.proofs.Names.{ℕ, ◌<◌, arith, ◌≡◌, refl, sym, ap, ◌∙◌, true, false, List, some, eqb, leb, ltb, eqb-true}
 use Rattle.element.proofs.Names.{length, take, drop, ne_eqb, le-ltb, ltb-true, ◌+◌, test, off, clash, pick, tested, UnitRecord}
 use Rattle.element.proofs.Names.{undirected, directions, Directions, step_of, written_of, begun_of, deeper_of, reverted_of, Goes, Stops, Step}
@@ -123,3 +126,21 @@ single_accepted o r e =
     let d = pick_last (ltb (r.code + 0) 0x21) _ b.1 in
     rw z (char_good r.set r.code
     (single_code r.set r.code (omega (tested, b.0)) (omega (tested, d.0)) (omega (tested, d.1)))))
+
+-- a refusal that is not that of a bad unit has another number
+pub not_bad_unit : (r : Refusal) → (r ≡ BadUnit → ⊥) → refusal.number_of r ≡ refusal.bad_unit → ⊥
+not_bad_unit TooLong n e = omega (arith, e)
+not_bad_unit Cut n e = omega (arith, e)
+not_bad_unit Unused n e = omega (arith, e)
+not_bad_unit Unknown n e = omega (arith, e)
+not_bad_unit NotApproved n e = omega (arith, e)
+not_bad_unit Version n e = omega (arith, e)
+not_bad_unit BadSegment n e = omega (arith, e)
+not_bad_unit Direction n e = omega (arith, e)
+not_bad_unit TooDeep n e = omega (arith, e)
+not_bad_unit NoRoom n e = omega (arith, e)
+not_bad_unit BadUnit n e = n refl
+not_bad_unit NoWorkRoom n e = omega (arith, e)
+not_bad_unit BadForm n e = omega (arith, e)
+not_bad_unit NotEnded n e = omega (arith, e)
+not_bad_unit Unsupported n e = omega (arith, e)

@@ -3,33 +3,30 @@
 
 ghost use Rattle.std.specs.Prelude.{◌≡◌};
 ghost use Rattle.base.specs.Choice.{pick};
+ghost use Rattle.base.specs.Refusal.{number_if};
 ghost use Rattle.grammar.specs.Records.{unit_read};
 ghost use Rattle.unit_octets.specs.Octets.{Stored};
 ghost use Rattle.x11r5.specs.Records.{record_refusal};
 ghost use Rattle.r5_units.specs.Unit.{refusal_by_kind, single_of, space_set, text_set, text_code, stands_on};
 ghost use Rattle.r5_units.specs.Unit.{width_of, designated_width, control_octet, text_octets};
 
-use base::{Refusal, Unit, kind, refusal};
+use base::{Refusal, Unit, kind};
 use charset::FIRST_DOUBLE;
 use record_rules::judge;
 use record_rules::plain::plain;
-use state::directions::{Directions, Step};
+use state::directions::Directions;
 use unit_octets::{on_side, stores};
 
 // What a good unit of a kind is refused for.
 #[tactic(auto, unfolding(crate::specs::Unit::refusal_by_kind, base::specs::Choice::pick))]
-fn by_kind(kind: u8) -> u8
-    ensures { result ≡ refusal_by_kind kind }
+fn by_kind(kind: u8) -> Option<Refusal>
+    ensures { number_if result ≡ refusal_by_kind kind }
 {
     if kind < kind::LEFT_TO_RIGHT {
-        refusal::ACCEPTED
+        None
     } else {
-        refusal::UNSUPPORTED
+        Some(Refusal::Unsupported)
     }
-<<<<<<< HEAD
-    Refusal::Unsupported
-=======
->>>>>>> e66f3b294236422b90759cb6a273d38a4b9b80d8
 }
 
 // Whether a record is a space, or a character of one octet with a code that each such set uses.
@@ -42,39 +39,18 @@ fn single(unit: Unit) -> bool
     unit.kind <= kind::SPACE && text_set(unit, 0) < FIRST_DOUBLE && matches!(code, 0x21..=0x7E)
 }
 
-// What a record is refused for, 0 for nothing: characters and spaces are asked quickly first, and where the base writer gives no 11 the kind decides.
-pub fn refusal_of(unit: Unit, segments: &[u8]) -> u8
-    ensures { result ≡ record_refusal (unit_read segments.now unit) }
+// What a record is refused for, if for anything: characters and spaces are asked quickly first, and where the base writer gives no 11 the kind decides.
+pub fn refusal_of(unit: Unit, segments: &[u8]) -> Option<Refusal>
+    ensures { number_if result ≡ record_refusal (unit_read segments.now unit) }
 {
     if single(unit) || plain(unit) {
-        return refusal::ACCEPTED;
+        return None;
     }
     // a record of its own, so that the compiler keeps the fields of the one given in registers
-<<<<<<< HEAD
-    let whole = Unit {
-        kind: unit.kind,
-        set: unit.set,
-        code: unit.code,
-        start: unit.start,
-        length: unit.length,
-        direction: unit.direction,
-        depth: unit.depth,
-    };
-    let step = judge(whole, segments, Directions::NONE);
-    match step {
-        Step::Goes(_) => by_kind(unit.kind),
-        Step::Stops(number) => {
-            if number == Refusal::BadUnit {
-                return Refusal::BadUnit;
-            }
-            by_kind(unit.kind)
-        }
-=======
     let whole = Unit { ..unit };
     match judge(whole, segments, Directions::NONE) {
-        Step::Stops(refusal::BAD_UNIT) => refusal::BAD_UNIT,
+        Err(Refusal::BadUnit) => Some(Refusal::BadUnit),
         _ => by_kind(unit.kind),
->>>>>>> e66f3b294236422b90759cb6a273d38a4b9b80d8
     }
 }
 
@@ -158,7 +134,7 @@ pub fn put(set: u8, code: u16, left: bool, out: &mut [u8], at: usize) -> usize
     let low = on_side(left, (code % 256) as u8);
     if FIRST_DOUBLE <= set {
         let high = on_side(left, (code / 256) as u8);
-        return stores::put_two(high, low, out, at);
+        return stores::put([high, low], out, at);
     }
-    stores::put_one(low, out, at)
+    stores::put([low], out, at)
 }

@@ -2,7 +2,8 @@
 #![tactic(auto)]
 
 ghost use Rattle.std.specs.Prelude.{◌≡◌, length};
-ghost use Rattle.units.specs.Next.{number_if, outcome_seen};
+ghost use Rattle.base.specs.Refusal.{number_if};
+ghost use Rattle.units.specs.Next.{outcome_seen};
 ghost use Rattle.reader.specs.Step.{stepped, may_stand, counted_of, ended_of, after_of, step_at};
 ghost use Rattle.reader.specs.Reader.{opened, item_at, moved};
 

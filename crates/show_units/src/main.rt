@@ -31,8 +31,8 @@ fn show_unit(rt: &impl Print, u: Unit) -> io::Result<()> {
 
 fn show_item(rt: &impl Print, item: Item) -> io::Result<()> {
     match item {
-        Item::Given(unit) => show_unit(rt, unit),
-        Item::Ended(answer) => show_answer(rt, answer),
+        Ok(unit) => show_unit(rt, unit),
+        Err(answer) => show_answer(rt, answer),
     }
 }
 
@@ -53,17 +53,10 @@ fn show_list(rt: &impl Print, s: &[u8]) -> io::Result<()> {
 fn show_items(rt: &impl Print, s: &[u8]) -> io::Result<()> {
     println!(rt; " reader")?;
     for k in 0..10 {
-<<<<<<< HEAD
-        let i = by_value::nth(s, k);
-        match i {
-            Ok(unit) => show_unit(rt, unit)?,
-            Err(answer) => return show_answer(rt, answer),
-=======
         let item = by_value::nth(s, k);
         show_item(rt, item)?;
-        if matches!(item, Item::Ended(_)) {
+        if matches!(item, Err(_)) {
             break;
->>>>>>> ebb2a374b53982777c647d2a90c94b5f7f730310
         }
     }
     Ok(())
@@ -94,33 +87,10 @@ fn show_counted_step(
     count: usize,
     state: State,
 ) -> io::Result<()> {
-<<<<<<< HEAD
-    let state = State {
-        directions: Directions {
-            levels: levels,
-            depth: depth,
-            marked: true,
-            texted: true,
-        },
-        sets: Sets { gl: gl, gr: gr },
-    };
-    let t = reader::step(s, place, count, state);
-    rt.write_all(b" made by hand\n")?;
-    let i = t.item;
-    match i {
-        Ok(unit) => show_unit(rt, unit)?,
-        Err(answer) => show_answer(rt, answer)?,
-    }
-    rt.write_all(b"  then")?;
-    number(rt, t.place as u64)?;
-    number(rt, t.count as u64)?;
-    rt.write_all(b"\n")
-=======
     let step = reader::step(s, place, count, state);
     println!(rt; " made by hand")?;
     show_item(rt, step.item)?;
     println!(rt; "  then {} {}", step.place, step.count)
->>>>>>> ebb2a374b53982777c647d2a90c94b5f7f730310
 }
 
 fn show(rt: &impl Print, s: &[u8]) -> io::Result<()> {

@@ -1,5 +1,5 @@
 -- The next unit of a string, from a place and a state on.
-use Rattle.std.specs.Prelude.{ℕ, ◌+◌, List, length, ltb, Option, None, Some, Result, Ok, Err}
+use Rattle.std.specs.Prelude.{ℕ, ◌+◌, List, length, ltb, Result, Ok, Err}
 use Rattle.base.specs.Choice.{pick, from}
 use Rattle.base.specs.Limit as limit
 use Rattle.base.specs.Refusal as refusal
@@ -7,7 +7,6 @@ use Rattle.state.specs.declared.State.{State}
 use Rattle.grammar.specs.Reading.{Elements, end_at, stopped_at, silent_at, found_at, size, elements}
 use Rattle.units.specs.Records.{record_of}
 use Rattle.base.specs.declared.Unit.{Unit as UnitRecord}
-use Rattle.base.specs.declared.refusal.Refusal.{Refusal}
 use Rattle.units.specs.declared.Given.{Given}
 use Rattle.units.specs.declared.Stopped.{Stopped}
 
@@ -17,15 +16,10 @@ pub data Outcome : Type 0 where
   Gives : UnitRecord → ℕ → State → Outcome
   Stops : ℕ → ℕ → ℕ → State → Outcome
 
--- the number of a refusal, where there is one
-abbrev pub number_if : Option Refusal → ℕ
-number_if None = refusal.accepted
-number_if (Some r) = refusal.number_of r
-
 -- an outcome as the code answers it
 abbrev pub outcome_seen : Result Given Stopped → Outcome
 outcome_seen (Ok g) = Gives g.unit g.place g.state
-outcome_seen (Err e) = Stops (number_if e.refusal) e.place e.start e.state
+outcome_seen (Err e) = Stops (refusal.number_if e.refusal) e.place e.start e.state
 
 -- the first unit of elements under a state, with the place and the state after it; or the number and the place of the end or of the refusal
 -- that comes first, and where the reading stops: the end, or the start of the refused element, with the state there

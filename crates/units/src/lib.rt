@@ -2,8 +2,9 @@
 #![tactic(auto)]
 
 ghost use Rattle.std.specs.Prelude.{◌≡◌, ◌+◌, ◌≤◌, Err};
+ghost use Rattle.base.specs.Refusal.{number_if};
 ghost use Rattle.units.specs.Records.{record_of};
-ghost use Rattle.units.specs.Next.{Stops, number_if, next_of, outcome_seen};
+ghost use Rattle.units.specs.Next.{Stops, next_of, outcome_seen};
 
 use base::{Refusal, Unit, limit};
 use state::State;

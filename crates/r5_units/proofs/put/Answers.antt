@@ -4,7 +4,7 @@ use Rattle.r5_units.proofs.Text.{text_double, text_single}
 use Rattle.r5_units.proofs.put.Goals as goal
 
 pub returns-then-set-ge-FIRST_DOUBLE : goal.returns-then-set-ge-FIRST_DOUBLE
-returns-then-set-ge-FIRST_DOUBLE c = stored_as (search text_double) c.put_two.ensures
+returns-then-set-ge-FIRST_DOUBLE c = stored_as (search text_double) c.put.ensures
 
 pub returns : goal.returns
-returns c = stored_as (search text_single) c.put_one.ensures
+returns c = stored_as (search text_single) c.put-2.ensures
