@@ -5,7 +5,7 @@ ghost use Rattle.octet_stretches.specs.Stretched.{Ones, Stretched};
 ghost use Rattle.archive_laws.specs.Passes.{Reaches, EscapeAt, row_at};
 ghost use Rattle.archive.specs.Reach.{reach_of};
 
-use charset::{NO_SET, Side};
+use charset::Side;
 use designations::{form_after, told};
 use octet_stretches::{Stretch, singles_by, stretch_by};
 use octet_table::{left_of, right_of};
@@ -69,20 +69,17 @@ pub fn quick(t: &[u8], s: &[u8], at: usize, gl: u8, gr: u8) -> Reach
         n += u.units;
         if escape_at(s, i) {
             let b = s[i + 1];
-            let d = told(b, s[i + 1 + 1], s[i + 1 + 1 + 1]);
-            let set = d.set;
-            if NO_SET <= set {
+            let Some(d) = told(b, s[i + 1 + 1], s[i + 1 + 1 + 1]) else {
                 return reached(i, n, left, right);
-            }
-            let side = d.side;
+            };
             i += d.octets;
-            match side {
+            match d.side {
                 Side::GL => {
-                    left = set;
+                    left = d.set;
                     high = left_of(form_after(b));
                 }
                 Side::GR => {
-                    right = set;
+                    right = d.set;
                     low = right_of(form_after(b));
                 }
             }

@@ -8,7 +8,7 @@ ghost use Rattle.archive_laws.specs.Passes.{text_class, TextAt, Leads, LeadsBy, 
 
 use crate::quick::{Reach, blanks, quick, reached};
 use base::{Answer, limit, refusal};
-use charset::{NO_SET, Side};
+use charset::Side;
 use designations::designation_at;
 use octet_stretches::class_at;
 use octet_table::{ONE_GR, SPACE, TWO_GR, row_of};
@@ -71,20 +71,13 @@ fn placed(s: &[u8], at: usize, gl: u8, gr: u8) -> Reach
         if s[i] != 0x1B {
             return reached(i, 0, left, right);
         }
-        let d = designation_at(s, i);
-        let set = d.set;
-        if NO_SET <= set {
+        let Some(d) = designation_at(s, i) else {
             return reached(i, 0, left, right);
-        }
-        let side = d.side;
+        };
         i += d.octets;
-        match side {
-            Side::GL => {
-                left = set;
-            }
-            Side::GR => {
-                right = set;
-            }
+        match d.side {
+            Side::GL => left = d.set,
+            Side::GR => right = d.set,
         }
     }
     reached(i, 0, left, right)
