@@ -1,3 +1,4 @@
 pub mod Filled
 pub mod Ready
 pub mod Equal
+pub mod Found

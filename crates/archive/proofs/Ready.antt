@@ -19,7 +19,10 @@ use Rattle.grammar.specs.Reading.{size}
 use Rattle.state.specs.Directions.{in_force_of}
 use Rattle.state.specs.State.{designated_of}
 use Rattle.grammar.proofs.Elements.{at_nothing}
-use Rattle.designations.specs.Designation.{absent, sequence_of, told_of, designation_at}
+use Rattle.std.proofs.Common.{Some}
+use Rattle.std.specs.declared.option.Option.{Option}
+use Rattle.designations.proofs.Found.{some_found, not_found}
+use Rattle.designations.specs.Designation.{absent, if_named, sequence_of, told_of, designation_at}
 use Rattle.designations.specs.declared.Designation.{Designation}
 use Rattle.designations.proofs.Designations.{designation_silent, on_four, on_few, told_set}
 use Rattle.units.specs.Records.{record_of}
@@ -277,23 +280,36 @@ module _ (s : List ℕ) (c : RowCursor) (ready : Ready s c) where
     -- by what the three octets after 1B tell
     module _ (i : get_or s at 0 ≡ 0x1B) (d : Designation)
         (e : d ≡ told_of (get_or s (at + 1) 0) (get_or s (at + 1 + 1) 0) (get_or s (at + 1 + 1 + 1) 0)) where
-      pub none_told : no_set ≤ d.set → c ≡ rowed (passed_of s k)
+      none_told : no_set ≤ d.set → c ≡ rowed (passed_of s k)
       none_told q = none_is _ (sequence_at s at _ h i refl) (told_none _ _ _ d e q)
 
       module _ (named : d.set < no_set) where
         told_at : d ≡ designation_at (from at s)
         told_at = sequence_at s at d h i (told_set _ _ _ d e named)
 
-        pub told_fits : at + d.octets ≤ length s
+        told_fits : at + d.octets ≤ length s
         told_fits = placed_fits s at d told_at named
 
         -- the cursor after it, as the code makes it
-        pub placed_is : (row : ℕ) (v : Side) → d.side ≡ v → row ≡ row_of (put (on v d.set) st.sets)
+        placed_is : (row : ℕ) (v : Side) → d.side ≡ v → row ≡ row_of (put (on v d.set) st.sets)
             → record { cursor = cursor (at + d.octets) (designated_of v d.set st); row = row; direction = c.direction } ≡ rowed (passed_of s k)
         unfolding passed_of placed_of
         placed_is row v j q =
             let f = on_lt d.set no_set _ _ k named refl in
             rw (q, ← j, ready.force) (ap rowed (f ∙ ap (placed_of k) told_at))
+
+    -- the same of what the code answers
+    module _ (i : get_or s at 0 ≡ 0x1B) (o : Option Designation)
+        (e : o ≡ if_named (told_of (get_or s (at + 1) 0) (get_or s (at + 1 + 1) 0) (get_or s (at + 1 + 1 + 1) 0))) where
+      pub none_found : ((d : Designation) → o ≡ Some d → ⊥) → c ≡ rowed (passed_of s k)
+      none_found n = none_told i _ refl (not_found o _ e n)
+
+      pub found_fits : (d : Designation) → o ≡ Some d → at + d.octets ≤ length s
+      found_fits d f = let g = some_found o d _ e f in told_fits i d g.0 g.1
+
+      pub found_is : (d : Designation) → o ≡ Some d → (row : ℕ) (v : Side) → d.side ≡ v → row ≡ row_of (put (on v d.set) st.sets)
+          → record { cursor = cursor (at + d.octets) (designated_of v d.set st); row = row; direction = c.direction } ≡ rowed (passed_of s k)
+      found_is d f = let g = some_found o d _ e f in placed_is i d g.0 g.1
 
   -- what is next after it is what was next
   placed_next : next_of s (passed_of s k).place (state_in (passed_of s k)) ≡ given

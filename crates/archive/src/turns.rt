@@ -7,7 +7,7 @@ ghost use Rattle.archive.specs.Turns.{rowed, rowed_turn, first_row, Ready, turn_
 
 use crate::classes::class_at;
 use base::{Unit, kind};
-use charset::{NO_SET, Side};
+use charset::Side;
 use cursor::marks::marked;
 use cursor::octets::two_octets;
 use cursor::{Cursor, Turn};
@@ -166,27 +166,24 @@ fn passed(s: &[u8], c: RowCursor) -> RowCursor
     if s.len() - at < 4 || s[at] != 0x1B {
         return c;
     }
-    let d = told(s[at + 1], s[at + 1 + 1], s[at + 1 + 1 + 1]);
-    let set = d.set;
-    if NO_SET <= set {
+    let Some(d) = told(s[at + 1], s[at + 1 + 1], s[at + 1 + 1 + 1]) else {
         return c;
-    }
-    let side = d.side;
+    };
     let mut next = j.placed_at(at + d.octets);
-    match side {
+    match d.side {
         Side::GL => {
-            next.gl = set;
+            next.gl = d.set;
             RowCursor {
                 cursor: next,
-                row: row_of(set, j.gr),
+                row: row_of(d.set, j.gr),
                 direction: c.direction,
             }
         }
         Side::GR => {
-            next.gr = set;
+            next.gr = d.set;
             RowCursor {
                 cursor: next,
-                row: row_of(j.gl, set),
+                row: row_of(j.gl, d.set),
                 direction: c.direction,
             }
         }

@@ -3,7 +3,7 @@
 -- stays the same from turn to turn (`Onward`).
 use Rattle.element.proofs.Names.{ℕ, zero, suc, ◌+◌, ◌-◌, ◌*◌, ◌^◌, ◌≤◌, ◌<◌, zero-le, arith, ◌≡◌, refl, ap, sym, ◌∙◌, Bool, true, false, List, eqb}
 use Rattle.element.proofs.Names.{length, set, length-set, sets, eq-eqb, ne_eqb, lt-ltb, answer, refused_at, pick, from, Answer, on_true, on_false, on_eq}
-use Rattle.element.proofs.Names.{on_ne, on_lt, on_ge, no_set, Side, GL, GR, designated_of, State, Element, End, Refused, Silent, Found}
+use Rattle.element.proofs.Names.{on_ne, on_lt, on_ge, Side, GL, GR, designated_of, State, Element, End, Refused, Silent, Found}
 use mathlib.Core.List.{map}
 use lib.ListN.{length-map}
 use lib.Seq.{sets-eq}
@@ -14,7 +14,9 @@ use Rattle.grammar.proofs.Places.{refused_number}
 use Rattle.reader.specs.Step.{may_stand}
 use Rattle.state.specs.Directions.{in_force_of}
 use Rattle.stretch.specs.Characters.{settled_of}
-use Rattle.designations.specs.Designation.{designation_at}
+use Rattle.std.proofs.Common.{Some}
+use Rattle.std.specs.declared.option.Option.{Option}
+use Rattle.designations.specs.Designation.{if_named, designation_at}
 use Rattle.designations.specs.declared.Designation.{Designation}
 use Rattle.pieces.specs.Pieces.{piece, is_run, set_in}
 use Rattle.pieces.specs.Pieces.{Piece}
@@ -30,7 +32,7 @@ use Rattle.run_lists.specs.declared.RunsStep.{RunsStep}
 use Rattle.run_lists.specs.declared.Stand.{Stand}
 use Rattle.runs.specs.declared.stepping.RunPosition.{RunPosition}
 use Rattle.runs.specs.declared.stepping.RunStep.{RunStep}
-use Rattle.runs.proofs.Steps.{Cut, run_shown, run_later, cut_text, cut_designation, turn_none}
+use Rattle.runs.proofs.Steps.{Cut, run_shown, run_later, cut_text, cut_found, turn_none}
 
 -- ---- what is given, by one step
 
@@ -196,13 +198,13 @@ module _ {s : List ℕ} {l : Stand} {o : List ℕ} {direction at k : ℕ} {st : 
         record { onward = on_shown h.onward room c w low (v ∙ rw (p, h.way)); settled = h.settled; way = h.way; words = h.words }
 
     -- a designation
-    pub designates : (d : Designation) (next : State) {left' right' : ℕ} → d ≡ designation_at (from at s) → d.set < no_set
+    pub designates : (x : Option Designation) (d : Designation) (next : State) {left' right' : ℕ} → x ≡ if_named (designation_at (from at s)) → x ≡ Some d
         → next ≡ designated_of d.side d.set st → Words next direction left' right'
         → Texts s l o direction (at + d.octets) k next left' right' out
-    designates d next e c is words =
+    designates x d next e f is words =
         let keeps = ap (λ (y : State). y.directions) is ∙ designated_keeps d.side d.set st in
         record {
-          onward = rw is (on_passed h.onward room (cut_designation s at st d e c) refl);
+          onward = rw is (on_passed h.onward room (cut_found s at st x d e f) refl);
           settled = ap settled_of keeps ∙ h.settled;
           way = h.way ∙ sym (ap in_force_of keeps);
           words = words;

@@ -11,7 +11,6 @@ ghost use Rattle.runs.specs.Steps.{position};
 ghost use Rattle.run_lists.specs.Listed.{word_of, upper_of, words_after, runs_step, end_of, given_from, checked_runs, next_runs_of, stand, Onward};
 
 use base::{Answer, Refusal, limit, refusal};
-use charset::NO_SET;
 use designations::designation_at;
 use pieces::Piece;
 use run_ends::{left_end, right_end, text_end};
@@ -123,14 +122,11 @@ fn list_text(s: &[u8], l: Stand, direction: u8, out: &mut [u64]) -> Stand
                 continue;
             }
         }
-        let d = designation_at(s, at);
-        let set = d.set;
-        if NO_SET <= set {
+        let Some(d) = designation_at(s, at) else {
             return stand_at(at, k, st);
-        }
-        let side = d.side;
+        };
         at += d.octets;
-        st = st.designated(side, set);
+        st = st.designated(d.side, d.set);
         left = upper(st.sets.gl, direction);
         right = upper(st.sets.gr, direction);
     }

@@ -13,7 +13,10 @@ use Rattle.state.specs.Elements.{End as CodeEnd, Silent as CodeSilent, Found as 
 use Rattle.grammar.specs.Reading.{Octets, none_refused}
 use Rattle.grammar.proofs.Places.{ahead, at_end, at_refused, at_passed, step_passed}
 use Rattle.stretch.specs.Characters.{settled_of}
-use Rattle.designations.specs.Designation.{designation_at}
+use Rattle.std.proofs.Common.{Some}
+use Rattle.std.specs.declared.option.Option.{Option}
+use Rattle.designations.proofs.Found.{some_found}
+use Rattle.designations.specs.Designation.{if_named, designation_at}
 use Rattle.designations.specs.declared.Designation.{Designation}
 use Rattle.designations.proofs.Designations.{designation_silent}
 use Rattle.pieces.specs.PieceKind as piece_kind
@@ -268,6 +271,10 @@ module _ (s : List ℕ) where
 
     -- ---- the turns of the loops
 
+    pub cut_found : (o : Option Designation) (d : Designation) → o ≡ if_named (designation_at (from at s)) → o ≡ Some d
+        → Cut at st (piece at (at + d.octets) piece_kind.control (designated_of d.side d.set st)) (designated_of d.side d.set st)
+    cut_found o d e f = let h = some_found o d _ e f in cut_designation d h.0 h.1
+
     -- text that leaves the state, up to the end that the code finds
     pub text_cut : Octets s → (k e : ℕ) → k < 2 → settled_of st.directions ≡ true → e ≡ text_to st.sets k at (from at s) → at < e
         → Cut at st (piece at e k st) st
@@ -295,9 +302,9 @@ module _ (s : List ℕ) where
     turn_over h e = turn_none (no_piece at) (on_past s at st (no_piece at) h refl) refl e
 
 -- in whatever state
-pub designation_fits : (s : List ℕ) (at : ℕ) (d : Designation) → d ≡ designation_at (from at s) → d.set < no_set
+pub found_fits : (s : List ℕ) (at : ℕ) (o : Option Designation) (d : Designation) → o ≡ if_named (designation_at (from at s)) → o ≡ Some d
     → (at < at + d.octets) × (at + d.octets ≤ length s)
-designation_fits s at d e k = let c = cut_designation s at fresh d e k in (c.more, c.within)
+found_fits s at o d e f = let c = cut_found s at fresh o d e f in (c.more, c.within)
 
 pub side_low : {k : ℕ} (b : ℕ) → k ≡ side_kind_of b → k < 2
 unfolding side_kind_of

@@ -8,7 +8,6 @@ ghost use Rattle.runs.specs.Steps.{first_position, stays, run_step_to, stop_at, 
 
 use crate::Bounds;
 use base::{Answer, Refusal, limit, refusal};
-use charset::NO_SET;
 use designations::designation_at;
 use pieces::Piece;
 use run_ends::text_end;
@@ -101,12 +100,9 @@ pub fn run_from(s: &[u8], place: usize, state: State) -> RunStep
     while at < s.len() {
         let b = s[at];
         if b == 0x1B {
-            let d = designation_at(s, at);
-            let set = d.set;
-            if set < NO_SET {
-                let side = d.side;
+            if let Some(d) = designation_at(s, at) {
                 at += d.octets;
-                st = st.designated(side, set);
+                st = st.designated(d.side, d.set);
                 continue;
             }
         } else if settled(st.directions) {

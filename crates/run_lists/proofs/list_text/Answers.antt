@@ -1,7 +1,7 @@
 -- `run_lists::list_text` meets its contract: each turn shows and stores a run, or passes a designation, and the end stays the same.
 use Rattle.element.proofs.Names.{arith, pick}
 use Rattle.pieces.specs.Pieces.{set_in}
-use Rattle.runs.proofs.Steps.{designation_fits}
+use Rattle.runs.proofs.Steps.{found_fits}
 use Rattle.run_lists.proofs.Lists.{on_first_lem, left_cut, right_cut, text_run, designates}
 use Rattle.run_lists.proofs.list_text.Goals as goal
 
@@ -56,22 +56,22 @@ loop-k-preserved-then-at-end-2 c = let cut = right_cut c.loop-k.invariant (λ i.
     text_run c.loop-k.invariant c.loop-k-test.true 1 _ _ _ (omega arith) cut
     c.loop-k.invariant.words.right_is.0 c.joined-then-at-end-2.ensures
 
-pub shape_of-out-then-set-ge-NO_SET : goal.shape_of-out-then-set-ge-NO_SET
-shape_of-out-then-set-ge-NO_SET c = c.loop-k.invariant.onward.long
+pub shape_of-out-in_default : goal.shape_of-out-in_default
+shape_of-out-in_default c = c.loop-k.invariant.onward.long
 
-pub returns-then-set-ge-NO_SET : goal.returns-then-set-ge-NO_SET
-returns-then-set-ge-NO_SET c = rw c.stand_at-then-set-ge-NO_SET.ensures c.loop-k.invariant.onward
+pub returns-in_default : goal.returns-in_default
+returns-in_default c = rw c.stand_at-in_default.ensures c.loop-k.invariant.onward
 
 pub overflow_add-at : goal.overflow_add-at
-overflow_add-at c = omega (arith, (designation_fits _ _ _ c.designation_at-d.ensures c.if-set-ge-NO_SET.false).1)
+overflow_add-at c = omega (arith, (found_fits _ _ _ _ c.designation_at.ensures c.in-Some.is).1)
 
 pub loop-k-smaller : goal.loop-k-smaller
-loop-k-smaller c = let fits = designation_fits _ _ _ c.designation_at-d.ensures c.if-set-ge-NO_SET.false in
+loop-k-smaller c = let fits = found_fits _ _ _ _ c.designation_at.ensures c.in-Some.is in
     omega (arith, fits.0, fits.1)
 
 pub loop-k-preserved : goal.loop-k-preserved
-loop-k-preserved c = designates c.loop-k.invariant c.loop-k-test.true _ _ c.designation_at-d.ensures
-    c.if-set-ge-NO_SET.false c.designated-st.ensures
+loop-k-preserved c = designates c.loop-k.invariant c.loop-k-test.true _ _ _ c.designation_at.ensures
+    c.in-Some.is c.designated-st.ensures
     (record { left_is = c.upper-left-in-loop-k.ensures; right_is = c.upper-right-in-loop-k.ensures })
 
 pub shape_of-out : goal.shape_of-out

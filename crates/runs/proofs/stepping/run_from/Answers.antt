@@ -1,23 +1,23 @@
 -- `stepping::run_from` meets its contract: at each turn the first run from the place that is reached is that from the start.
 use Rattle.element.proofs.Names.{arith, refl, sym, ◌∙◌, ltb-true}
 use Rattle.base.proofs.Ladder.{after}
-use Rattle.runs.proofs.Steps.{cut_designation, cut_other, text_cut, begun_cut, begun_starts, run_later, turn_shown, turn_none, turn_over}
-use Rattle.runs.proofs.Steps.{designation_fits, given_moves, side_low}
+use Rattle.runs.proofs.Steps.{cut_found, cut_other, text_cut, begun_cut, begun_starts, run_later, turn_shown, turn_none, turn_over}
+use Rattle.runs.proofs.Steps.{found_fits, given_moves, side_low}
 use Rattle.runs.proofs.stepping.run_from.Goals as goal
 
 pub loop-at-init : goal.loop-at-init
 loop-at-init c = refl
 
 pub overflow_add-at : goal.overflow_add-at
-overflow_add-at c = omega (arith, (designation_fits _ _ _ c.designation_at-d.ensures c.if-set-lt-NO_SET.true).1)
+overflow_add-at c = omega (arith, (found_fits _ _ _ _ c.designation_at.ensures c.in-Some.is).1)
 
-pub loop-at-smaller-then-set-lt-NO_SET : goal.loop-at-smaller-then-set-lt-NO_SET
-loop-at-smaller-then-set-lt-NO_SET c = let fits = designation_fits _ _ _ c.designation_at-d.ensures c.if-set-lt-NO_SET.true in
+pub loop-at-smaller-in-Some : goal.loop-at-smaller-in-Some
+loop-at-smaller-in-Some c = let fits = found_fits _ _ _ _ c.designation_at.ensures c.in-Some.is in
     omega (arith, fits.0, fits.1)
 
-pub loop-at-preserved-then-set-lt-NO_SET : goal.loop-at-preserved-then-set-lt-NO_SET
-loop-at-preserved-then-set-lt-NO_SET c = rw c.designated-st.ensures
-    (run_later _ _ _ (cut_designation _ _ _ _ c.designation_at-d.ensures c.if-set-lt-NO_SET.true) refl
+pub loop-at-preserved-in-Some : goal.loop-at-preserved-in-Some
+loop-at-preserved-in-Some c = rw c.designated-st.ensures
+    (run_later _ _ _ (cut_found _ _ _ _ _ c.designation_at.ensures c.in-Some.is) refl
     ∙ c.loop-at.invariant)
 
 pub step_over-requires : goal.step_over-requires
