@@ -13,8 +13,7 @@ use Rattle.x11r5.proofs.Clean.{Plain, plain}
 use Rattle.x11r5.proofs.Elements.{same_elements}
 use Rattle.x11r5.proofs.Reading.{by_null, never_ended}
 use Rattle.r5_read.specs.Stops.{is_of, stop_by, FirstStop, FirstNull}
-use Rattle.r5_read.specs.Look.{Left, Looked}
-use Rattle.r5_read.specs.declared.look.Look.{Look}
+use Rattle.r5_read.specs.Look.{Left, Refused}
 
 -- ---- octets
 
@@ -72,15 +71,12 @@ module _ (s : List ℕ) (at end : ℕ) (f : FirstStop s at) (n : FirstNull s at 
       least a b h = omega arith
 
   -- no 00 ends the string
-  pub look_endless : end ≡ length s → (l : Look) → l.answer ≡ refused_at refusal.not_ended end → Looked s l
-  look_endless e l is =
+  pub look_endless : end ≡ length s → (a : Answer) → a ≡ refused_at refusal.not_ended end → Refused s a
+  look_endless e a is =
       record {
-        refused = λ _. is ∙ ap (refused_at refusal.not_ended) e ∙ sym (never_ended s (omega (arith, before_length)));
-        left = λ z. off-number z;
+        refuses = λ z. absurd (omega (arith, z, ap (λ (x : Answer). x.number) is));
+        same = is ∙ ap (refused_at refusal.not_ended) e ∙ sym (never_ended s (omega (arith, before_length)));
       }
-    where
-      off-number : l.answer.number ≡ refusal.accepted → Left s l.end
-      off-number z = absurd (omega (arith, z, ap (λ (a : Answer). a.number) is))
 
   module _ (inside : end < length s) where
     ended : length (before_null s) < length s
@@ -94,15 +90,12 @@ module _ (s : List ℕ) (at end : ℕ) (f : FirstStop s at) (n : FirstNull s at 
     octet-past i h = List·getD-eq-default (take end s) 0 (omega (arith, ap length (sym before_is), before_length))
 
     -- nothing stopped the quick look before the 00
-    pub look_clean : at ≡ end → (l : Look) → l.answer.number ≡ refusal.accepted → l.end ≡ end → Looked s l
-    look_clean e l zero_number ends =
+    pub look_clean : end ≤ at → Left s end
+    look_clean e =
         record {
-          refused = λ no_zero. absurd (no_zero zero_number);
-          left = λ _. rw ends (record {
-            within = inside;
-            octets = sym before_is;
-            same = rw before_is (plain (take end s) clean-octets);
-          });
+          within = inside;
+          octets = sym before_is;
+          same = rw before_is (plain (take end s) clean-octets);
         }
       where
         here : (i : ℕ) → i < end → Goes (get_or s i 0) (get_or s (i + 1) 0)
@@ -120,13 +113,17 @@ module _ (s : List ℕ) (at end : ℕ) (f : FirstStop s at) (n : FirstNull s at 
             }
 
     -- else the string is checked
-    pub look_checked : (l : Look) → l.answer ≡ unended_check_of (take end s) → l.end ≡ end → Looked s l
-    look_checked l is ends =
-        record {
-          refused = λ _. is ∙ ap unended_check_of (sym before_is) ∙ sym (by_null s ended);
-          left = λ z. rw ends (record {
+    module _ (a : Answer) (is : a ≡ unended_check_of (take end s)) where
+      checked : a ≡ unended_check_of (before_null s)
+      checked = is ∙ ap unended_check_of (sym before_is)
+
+      pub look_refused : (a.number ≡ refusal.accepted → ⊥) → Refused s a
+      look_refused n = record { refuses = n; same = checked ∙ sym (by_null s ended) }
+
+      pub look_accepted : a.number ≡ refusal.accepted → Left s end
+      look_accepted z =
+          record {
             within = inside;
             octets = sym before_is;
-            same = accepted_same (before_null s) (sym (ap (λ (a : Answer). a.number) (is ∙ ap unended_check_of (sym before_is))) ∙ z);
-          });
-        }
+            same = accepted_same (before_null s) (sym (ap (λ (x : Answer). x.number) checked) ∙ z);
+          }

@@ -7,7 +7,7 @@ ghost use Rattle.r5_read.specs.Stops.{is_of, stop_by, Free, FirstStop, FirstNull
 fn is(b: u8, x: u8) -> u8
     ensures { (result ≡ is_of b x) × (result ≤ 1) }
 {
-    if b == x { 1 } else { 0 }
+    u8::from(b == x)
 }
 
 // 1 for an octet at which it stops. By a sum and not by branches, which the compiler would keep.
@@ -23,10 +23,8 @@ fn stops(s: &[u8], at: usize) -> u8
     ensures { result ≡ 0 → Free s.now at (at + 32) }
 {
     let mut n: u8 = 0;
-    let mut j: usize = 0;
-    while j < 32 {
+    for j in 0..32 {
         n += stop(s[at + j], s[at + j + 1]);
-        j += 1;
     }
     n
 }
@@ -36,12 +34,8 @@ fn blocks_end(s: &[u8]) -> usize
     ensures { Free s.now 0 result }
 {
     let mut i: usize = 0;
-    while 33 <= s.len() - i {
-        if stops(s, i) == 0 {
-            i += 32;
-        } else {
-            return i;
-        }
+    while 33 <= s.len() - i && stops(s, i) == 0 {
+        i += 32;
     }
     i
 }
@@ -50,14 +44,12 @@ fn blocks_end(s: &[u8]) -> usize
 pub fn first_stop(s: &[u8]) -> usize
     ensures { FirstStop s.now result }
 {
-    let mut i = blocks_end(s);
-    while i < s.len() {
+    for i in blocks_end(s)..s.len() {
         if stop(s[i], octet_blocks::octet(s, i + 1)) == 1 {
             return i;
         }
-        i += 1;
     }
-    i
+    s.len()
 }
 
 // The first 00 from a place on, or the string's end.
@@ -65,12 +57,10 @@ pub fn null_from(s: &[u8], at: usize) -> usize
     requires { at ≤ length s.now }
     ensures { FirstNull s.now at result }
 {
-    let mut i = at;
-    while i < s.len() {
+    for i in at..s.len() {
         if s[i] == 0x00 {
             return i;
         }
-        i += 1;
     }
-    i
+    s.len()
 }

@@ -1,4 +1,6 @@
 -- `r5_read::stops::null_from` meets its contract: no 00 stands from the place on, octet by octet.
+use Rattle.element.proofs.Names.{ℕ, arith, ◌≡◌, subst, length}
+use Rattle.r5_read.specs.Stops.{FirstNull}
 use Rattle.r5_read.proofs.Places.{null_first, null_next, null_found, null_end}
 use Rattle.r5_read.proofs.stops.null_from.Goals as goal
 
@@ -12,4 +14,6 @@ pub loop-i-preserved : goal.loop-i-preserved
 loop-i-preserved c = null_next _ _ _ c.loop-i.invariant c.loop-i-test.true c.if-s-i-eq0.false
 
 pub returns : goal.returns
-returns c = null_end _ _ _ c.loop-i.invariant c.loop-i-test.false
+returns c =
+    let end : c.loop-i.i ≡ length c.args.s.now = omega (arith, c.loop-i.invariant.within, c.loop-i-test.false) in
+    subst (λ (i : ℕ). FirstNull c.args.s.now c.args.at i) end (null_end _ _ _ c.loop-i.invariant c.loop-i-test.false)

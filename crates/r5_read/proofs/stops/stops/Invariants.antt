@@ -1,11 +1,7 @@
 -- `r5_read::stops::stops` meets its contract: in each turn as many places stop as were counted (`Counted`).
-use Rattle.element.proofs.Names.{◌-◌, ◌≤◌}
 use Rattle.octet_blocks.proofs.Counted.{Counted}
 use Rattle.r5_read.specs.Stops.{stop_at}
 use Rattle.r5_read.proofs.stops.stops.Given as goal
 
 abbrev pub invariant-loop-j : goal.invariant-loop-j
-invariant-loop-j l = Counted (stop_at l.s) l.at l.n l.j × (l.j ≤ 32)
-
-abbrev pub decreases-loop-j : goal.decreases-loop-j
-decreases-loop-j l = 32 - l.j
+invariant-loop-j l = Counted (stop_at l.s) l.at l.n l.j
