@@ -8,6 +8,7 @@ ghost use Rattle.state.specs.State.{sets};
 use charset::{FORM_94X94, FORM_96};
 
 // The classes by number. Of a unit of one octet the remainder by 4 is its kind.
+// They stay numbers: they are the octets of the table, which are looked up and compared without a conversion in the hot loops of `octet_stretches`.
 pub const ONE_GL: u8 = 0;
 
 pub const SPACE: u8 = 1;
@@ -184,26 +185,23 @@ pub fn table() -> [u8; 1536]
 }
 
 // What a form in GL adds to where a row starts.
+#[tactic(auto, using(base::proofs::Ladder::ladder), unfolding(crate::specs::Table::left_of))]
 pub fn left_of(form: u8) -> usize
     ensures { result ≡ left_of form }
 {
-    if form == FORM_94X94 {
-        return 768;
-    }
-    0
+    if form == FORM_94X94 { 768 } else { 0 }
 }
 
 // What a form in GR adds to it.
+#[tactic(auto, using(base::proofs::Ladder::ladder), unfolding(crate::specs::Table::right_of))]
 pub fn right_of(form: u8) -> usize
     ensures { result ≡ right_of form }
 {
-    if form == FORM_96 {
-        return 256;
+    match form {
+        FORM_96 => 256,
+        FORM_94X94 => 512,
+        _ => 0,
     }
-    if form == FORM_94X94 {
-        return 512;
-    }
-    0
 }
 
 // Where the row of the sets in GL and GR starts.

@@ -3,9 +3,8 @@ use Rattle.element.proofs.Names.{refl, pick}
 use Rattle.text.specs.Text.{graphic_of}
 use Rattle.element.specs.Start.{used_in, character_start, left_start, start_of}
 use Rattle.octet_table.specs.Table.{number_of, rule_of, entries, table}
-use Rattle.octet_table.proofs.table.Statement.{statement}
-use Rattle.octet_table.proofs.table.Tie as tie
+use Rattle.octet_table.proofs.table.Goals as goal
 
-pub table_spec : {M : Type 1} → statement M
+pub returns : goal.returns
 unfolding table entries rule_of number_of start_of left_start character_start used_in graphic_of pick
-table_spec = tie.close (tie.spec (λ c. refl))
+returns c = refl
