@@ -19,6 +19,7 @@ fn digit(b: u8) -> u8
 }
 
 // Stores the octets that a line stands for, two digits for each and one character after them, as far as there is room; answers how many.
+// No `Vec`: the programs ask for no memory, so that no input can make them run out of it.
 fn octets_of(line: &[u8], octets: &mut [u8]) -> usize
     ensures { result ≤ length octets.new }
 {

@@ -12,7 +12,7 @@ use base::{Answer, refusal};
 // The octets of work room, for 909 units.
 const WORK_ROOM: usize = 72 * (909 + 1);
 
-// The answer, and how many octets are printed.
+// The answer, and how many octets are printed: the struct that `ctext_program` gives C.
 #[repr(C)]
 #[derive(Clone, Copy)]
 pub struct Printed {
@@ -62,6 +62,7 @@ pub fn print(s: &[u8], out: &mut [u8]) -> Printed
 }
 
 // What is printed for the first n octets of an input's room, or for all of it where n is not less.
+// A room and a number in the place of a slice: PROMISES names the function, so that its arguments stay.
 pub fn print_input(input: &[u8; 65536], n: usize, out: &mut [u8]) -> Printed
     ensures { (result.answer ≡ shortest_answer (take n input.now) room (length out.old))
         × (result.length ≡ length (printed_of (take n input.now)))
