@@ -1,6 +1,9 @@
 -- The refusal of a record, as the program finds it: a record that a quick check lets through is refused for nothing, and of every other the base
 -- writer's refusal, where no direction is open, and the kind decide.
 use Rattle.base.specs.declared.refusal.Refusal.{Refusal}
+use denote.Enum.Bare.{sameb}
+use Rattle.base.specs.contracts.refusal.Refusal.{the_type}
+use Rattle.element.proofs.Names.{eqb-false}
 use Rattle.base.specs.declared.refusal.Refusal.TheVariants.{TooLong, Cut, Unused, Unknown, NotApproved, Version, BadSegment, Direction, TooDeep}
 use Rattle.base.specs.declared.refusal.Refusal.TheVariants.{NoRoom, BadUnit, NoWorkRoom, BadForm, NotEnded, Unsupported}
 use Rattle.element.proofs.Names.{ℕ, ◌<◌, arith, ◌≡◌, refl, sym, ap, ◌∙◌, true, false, List, some, eqb, leb, ltb, eqb-true}
@@ -127,20 +130,26 @@ single_accepted o r e =
     rw z (char_good r.set r.code
     (single_code r.set r.code (omega (tested, b.0)) (omega (tested, d.0)) (omega (tested, d.1)))))
 
--- a refusal that is not that of a bad unit has another number
-pub not_bad_unit : (r : Refusal) → (r ≡ BadUnit → ⊥) → refusal.number_of r ≡ refusal.bad_unit → ⊥
-not_bad_unit TooLong n e = omega (arith, e)
-not_bad_unit Cut n e = omega (arith, e)
-not_bad_unit Unused n e = omega (arith, e)
-not_bad_unit Unknown n e = omega (arith, e)
-not_bad_unit NotApproved n e = omega (arith, e)
-not_bad_unit Version n e = omega (arith, e)
-not_bad_unit BadSegment n e = omega (arith, e)
-not_bad_unit Direction n e = omega (arith, e)
-not_bad_unit TooDeep n e = omega (arith, e)
-not_bad_unit NoRoom n e = omega (arith, e)
-not_bad_unit BadUnit n e = n refl
-not_bad_unit NoWorkRoom n e = omega (arith, e)
-not_bad_unit BadForm n e = omega (arith, e)
-not_bad_unit NotEnded n e = omega (arith, e)
-not_bad_unit Unsupported n e = omega (arith, e)
+-- a refusal is that of a bad unit exactly where its number is
+pub bad_unit_number : (r : Refusal) → sameb the_type r BadUnit ≡ eqb (refusal.number_of r) refusal.bad_unit
+bad_unit_number TooLong = refl
+bad_unit_number Cut = refl
+bad_unit_number Unused = refl
+bad_unit_number Unknown = refl
+bad_unit_number NotApproved = refl
+bad_unit_number Version = refl
+bad_unit_number BadSegment = refl
+bad_unit_number Direction = refl
+bad_unit_number TooDeep = refl
+bad_unit_number NoRoom = refl
+bad_unit_number BadUnit = refl
+bad_unit_number NoWorkRoom = refl
+bad_unit_number BadForm = refl
+bad_unit_number NotEnded = refl
+bad_unit_number Unsupported = refl
+
+pub is_bad_unit : (r : Refusal) → sameb the_type r BadUnit ≡ true → refusal.number_of r ≡ refusal.bad_unit
+is_bad_unit r e = eqb-true _ _ (sym (bad_unit_number r) ∙ e)
+
+pub no_bad_unit : (r : Refusal) → sameb the_type r BadUnit ≡ false → refusal.number_of r ≡ refusal.bad_unit → ⊥
+no_bad_unit r e = eqb-false _ _ (sym (bad_unit_number r) ∙ e)

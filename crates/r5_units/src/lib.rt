@@ -49,7 +49,7 @@ pub fn refusal_of(unit: Unit, segments: &[u8]) -> Option<Refusal>
     // a record of its own, so that the compiler keeps the fields of the one given in registers
     let whole = Unit { ..unit };
     match judge(whole, segments, Directions::NONE) {
-        Err(Refusal::BadUnit) => Some(Refusal::BadUnit),
+        Err(refusal) if refusal == Refusal::BadUnit => Some(refusal),
         _ => by_kind(unit.kind),
     }
 }
