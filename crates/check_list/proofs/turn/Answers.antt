@@ -9,14 +9,12 @@ returns-in_err-directions c = let p = err_from_is_err_and c.from_residual.result
     rw (p.1, p.2) (turn_faulty _ _ _ _ _ _ c.in_err-directions.was)
 
 pub put-requires : goal.put-requires
-put-requires c = stowable _ _ _ _ (sym c.judge.ensures ∙ c.in-Goes.is)
+put-requires c = stowable _ _ _ _ (sym c.in-Ok.ensures)
 
-pub returns-in-Goes : goal.returns-in-Goes
-returns-in-Goes c = let args = c.args in
-    let goes = sym c.judge.ensures ∙ c.in-Goes.is in
-    let t = turn_goes args.segments.now args.unit args.i args.progress args.work.now _ _ c.in_ok-directions.was goes in
+pub returns-in-Ok : goal.returns-in-Ok
+returns-in-Ok c = let args = c.args in
+    let t = turn_goes args.segments.now args.unit args.i args.progress args.work.now _ _ c.in_ok-directions.was (sym c.in-Ok.ensures) in
     (t.0, c.put.ensures ∙ t.1)
 
-pub returns-in-Stops : goal.returns-in-Stops
-returns-in-Stops c = turn_stops _ _ _ _ _ _ _ c.in_ok-directions.was
-    (sym c.judge.ensures ∙ c.in-Stops.is)
+pub returns-in-Err : goal.returns-in-Err
+returns-in-Err c = rw c.number.ensures (turn_stops _ _ _ _ _ _ _ c.in_ok-directions.was (sym c.in-Err.ensures))

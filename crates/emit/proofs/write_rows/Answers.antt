@@ -3,14 +3,14 @@ use Rattle.emit.proofs.Whole.{wrote_many, wrote_no_work, wrote_long, wrote_room,
 use Rattle.emit.proofs.write_rows.Goals as goal
 
 pub returns-then-n-gt-UNITS : goal.returns-then-n-gt-UNITS
-returns-then-n-gt-UNITS c = wrote_many _ _ _ _ c.if-n-gt-UNITS.true c.refused.ensures
+returns-then-n-gt-UNITS c = wrote_many _ _ _ _ c.if-n-gt-UNITS.true c.at.ensures
 
 pub returns-then-work-n : goal.returns-then-work-n
-returns-then-work-n c = wrote_no_work _ _ _ _ c.if-n-gt-UNITS.false c.if-work-n.true c.refused-then-work-n.ensures
+returns-then-work-n c = wrote_no_work _ _ _ _ c.if-n-gt-UNITS.false c.if-work-n.true c.at-then-work-n.ensures
 
 pub returns-then-count-gt-OCTETS : goal.returns-then-count-gt-OCTETS
 returns-then-count-gt-OCTETS c =
-    wrote_long _ _ _ _ c.if-n-gt-UNITS.false c.if-work-n.false _ _ c.plan-count.ensures c.if-count-gt-OCTETS.true c.refused-then-count-gt-OCTETS.ensures
+    wrote_long _ _ _ _ c.if-n-gt-UNITS.false c.if-work-n.false _ _ c.plan-count.ensures c.if-count-gt-OCTETS.true c.at-then-count-gt-OCTETS.ensures
 
 pub returns-then-out-count : goal.returns-then-out-count
 returns-then-out-count c = rw c.no_room.ensures

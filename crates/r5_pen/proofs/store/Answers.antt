@@ -10,4 +10,4 @@ returns-then-unit-le-SPACE c = let args = c.args in
 pub returns : goal.returns
 returns c = let args = c.args in
     stores_control args.pen args.unit args.index args.out.now c.if-unit-le-SPACE.false c.control.ensures
-    c.put_one-at.ensures c.stayed.ensures
+    c.put-at.ensures c.stayed.ensures

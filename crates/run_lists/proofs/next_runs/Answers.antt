@@ -5,7 +5,7 @@ use Rattle.run_lists.proofs.Lists.{gave_none, gave_same, on_long, on_may, on_non
 use Rattle.run_lists.proofs.next_runs.Goals as goal
 
 pub returns-then-s-gt-OCTETS : goal.returns-then-s-gt-OCTETS
-returns-then-s-gt-OCTETS c = gave_none _ _ (c.stays.ensures ∙ ap (runs_step _) c.refused.ensures) (on_long _ _ _ c.if-s-gt-OCTETS.true)
+returns-then-s-gt-OCTETS c = gave_none _ _ (c.stays.ensures ∙ ap (runs_step _) c.at.ensures) (on_long _ _ _ c.if-s-gt-OCTETS.true)
 
 pub list_checked-requires : goal.list_checked-requires
 list_checked-requires c = c.if-s-gt-OCTETS.false
@@ -16,4 +16,4 @@ returns-then-may_stand c = let may = sym c.may_stand.ensures ∙ c.if-may_stand.
 
 pub returns : goal.returns
 returns c = let may = sym c.may_stand.ensures ∙ c.if-may_stand.false in
-    gave_none _ _ (c.stays-2.ensures ∙ ap (runs_step _) c.refused-2.ensures) (on_none _ _ _ c.if-s-gt-OCTETS.false may)
+    gave_none _ _ (c.stays-2.ensures ∙ ap (runs_step _) c.at-2.ensures) (on_none _ _ _ c.if-s-gt-OCTETS.false may)

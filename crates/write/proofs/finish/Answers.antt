@@ -6,7 +6,7 @@ use Rattle.write.proofs.finish.Goals as goal
 pub returns-then-n-gt-UNITS : goal.returns-then-n-gt-UNITS
 returns-then-n-gt-UNITS c = let args = c.args in
     let f = finish_long args.progress args.n args.segments.now args.work.now args.out.now c.if-n-gt-UNITS.true in
-    (c.refused.ensures ∙ f.0, f.1, refl)
+    (c.at.ensures ∙ f.0, f.1, refl)
 
 pub returns-in-Ok : goal.returns-in-Ok
 returns-in-Ok c = let args = c.args in
@@ -21,4 +21,4 @@ returns-in-Err c = let args = c.args in
     let few = c.if-n-gt-UNITS.false in
     let faulty = c.in-Err.is in
     let f = finish_faulty args.progress args.n args.segments.now args.work.now args.out.now _ few faulty in
-    (c.refused-in-Err.ensures ∙ f.0, f.1, refl)
+    (c.at-in-Err.ensures ∙ f.0, f.1, refl)

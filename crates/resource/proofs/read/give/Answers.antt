@@ -3,7 +3,7 @@ use Rattle.resource.proofs.Conversions.{converted_refused, converted_short, conv
 use Rattle.resource.proofs.read.give.Goals as goal
 
 pub returns-then-octets-gt-OCTETS : goal.returns-then-octets-gt-OCTETS
-returns-then-octets-gt-OCTETS c = converted_refused _ _ _ _ _ _ (reading_over _ _ c.requires c.if-octets-gt-OCTETS.true) c.refused.ensures
+returns-then-octets-gt-OCTETS c = converted_refused _ _ _ _ _ _ (reading_over _ _ c.requires c.if-octets-gt-OCTETS.true) c.at.ensures
 
 pub returns-then-out-octets : goal.returns-then-out-octets
 returns-then-out-octets c = let looked = c.requires in

@@ -5,7 +5,7 @@ use Rattle.resource.proofs.Conversions.{converted_refused, converted_short, conv
 use Rattle.resource.proofs.write.write.Goals as goal
 
 pub returns-then-s-gt-OCTETS : goal.returns-then-s-gt-OCTETS
-returns-then-s-gt-OCTETS c = converted_refused _ _ _ _ _ _ (string_over _ c.if-s-gt-OCTETS.true) c.refused.ensures
+returns-then-s-gt-OCTETS c = converted_refused _ _ _ _ _ _ (string_over _ c.if-s-gt-OCTETS.true) c.at.ensures
 
 pub returns-then-out-n : goal.returns-then-out-n
 returns-then-out-n c = let short = string_within _ c.if-s-gt-OCTETS.false in
