@@ -2,7 +2,7 @@
 // what that octet starts. Where it has fewer than 256 entries, or the place is not in the string, nothing is passed.
 #![tactic(auto)]
 
-ghost use Rattle.std.specs.Prelude.{◌+◌, ◌≤◌, ◌<◌, length};
+ghost use Rattle.std.specs.Prelude.{◌≡◌, ◌+◌, ◌≤◌, ◌<◌, length};
 ghost use Rattle.octet_stretches.specs.Stretched.{Entry, ClassAt, Ones, Stretched};
 
 use crate::entries::entry_at;
@@ -29,6 +29,16 @@ impl Stretch {
         octets: 0,
         units: 0,
     };
+
+    // So many octets, each of which is a unit.
+    fn of_ones(n: usize) -> Stretch
+        ensures { (result.octets ≡ n) × (result.units ≡ n) }
+    {
+        Stretch {
+            octets: n,
+            units: n,
+        }
+    }
 }
 
 // The stretch at a place, up to an end that is near.
@@ -38,19 +48,14 @@ fn near(row: &[u8; 256], s: &[u8], at: usize, end: usize) -> Stretch
 {
     let k = entry_at(row, s, at);
     if k <= ONE_GR {
-        let n = singles(row, s, at, end) - at;
-        return Stretch {
-            octets: n,
-            units: n,
-        };
+        Stretch::of_ones(singles(row, s, at, end) - at)
+    } else if k == TWO_GL {
+        doubles(row, s, at, end)
+    } else if k == TWO_GR {
+        pairs(row, s, at, end, TWO_GR)
+    } else {
+        Stretch::NONE
     }
-    if k == TWO_GL {
-        return doubles(row, s, at, end);
-    }
-    if k == TWO_GR {
-        return pairs(row, s, at, end, TWO_GR);
-    }
-    Stretch::NONE
 }
 
 // What follows a stretch of this entry, by blocks, and then four by four where its units have one octet.
@@ -59,15 +64,11 @@ fn far(row: &[u8; 256], s: &[u8], at: usize, k: u8) -> Stretch
     ensures { Stretched row.now s.now at (at + result.octets) result.units }
 {
     if k == TWO_GL {
-        return twos(s, at, 0x21, 0x7E);
-    }
-    if k == TWO_GR {
-        return twos(s, at, 0xA1, 0xFE);
-    }
-    let n = fours(row, s, ones(row, s, at, k)) - at;
-    Stretch {
-        octets: n,
-        units: n,
+        twos(s, at, 0x21, 0x7E)
+    } else if k == TWO_GR {
+        twos(s, at, 0xA1, 0xFE)
+    } else {
+        Stretch::of_ones(fours(row, s, ones(row, s, at, k)) - at)
     }
 }
 

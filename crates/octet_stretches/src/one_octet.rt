@@ -48,13 +48,12 @@ pub fn ones(row: &[u8; 256], s: &[u8], at: usize, k: u8) -> usize
     ensures { Stretched row.now s.now at result (result - at) }
 {
     if k <= SPACE {
-        return blocks_end(s, at, 0x20, 0x7E);
+        blocks_end(s, at, 0x20, 0x7E)
+    } else if k != ONE_GR {
+        at
+    } else if full_right(row) {
+        blocks_end(s, at, 0xA0, 0xFF)
+    } else {
+        blocks_end(s, at, 0xA1, 0xFE)
     }
-    if k == ONE_GR {
-        if full_right(row) {
-            return blocks_end(s, at, 0xA0, 0xFF);
-        }
-        return blocks_end(s, at, 0xA1, 0xFE);
-    }
-    at
 }

@@ -85,4 +85,4 @@ zero_within s at r e f =
     test (ltb at (length s)) (λ q. ltb-true at (length s) q)
     (λ q. off (sym (ap zero_first (from_end s at (ltb-false at (length s) q))) ∙ sym e ∙ f))
 
-pub ruleset form-steps = (on_zeros, on_zero, no_octet, ladder)
+pub ruleset form_steps = (on_zeros, on_zero, no_octet, ladder)

@@ -31,6 +31,7 @@ pub fn size(octet: u8) -> u8
 }
 
 // Whether a digit 0 stands at a place.
+#[tactic(auto, using(crate::proofs::Steps::form_steps))]
 fn zero_at(form: &[u8], at: usize) -> bool
     ensures { result ≡ zero_first (from at form.now) }
 {

@@ -1,10 +1,7 @@
 -- `octet_blocks::blocks::strays` meets its contract: in each turn as many octets are outside of the span as were counted (`Counted`).
 use Rattle.std.proofs.Common.{◌≡◌, ℕ, ◌+◌, subst, arith}
-use Rattle.octet_blocks.proofs.Counted.{Zero, counted_first, counted_next, counted_fits, outside_at, outside_most, within_zero}
+use Rattle.octet_blocks.proofs.Counted.{Zero, counted_next, counted_fits, outside_at, outside_most, within_zero}
 use Rattle.octet_blocks.proofs.blocks.strays.Goals as goal
-
-pub loop-j-init : goal.loop-j-init
-loop-j-init c = (counted_first _ _, omega arith)
 
 pub overflow_add-n : goal.overflow_add-n
 overflow_add-n c = let inv = c.loop-j.invariant in

@@ -10,12 +10,12 @@ returns-then-k-le-SPACE c = let pre = c.requires in
 
 pub returns-then-full_right : goal.returns-then-full_right
 returns-then-full_right c = let pre = c.requires in
-    ones_96 (entry_is c.if-k-eq-ONE_GR.true pre) (c.full_right.ensures c.if-full_right.true)
+    ones_96 (entry_is c.if-k-ne-ONE_GR.false pre) (c.full_right.ensures c.if-full_right.true)
     (c.blocks_end-then-full_right.ensures.0 (omega (arith, pre.inside)))
 
-pub returns-then-k-eq-ONE_GR : goal.returns-then-k-eq-ONE_GR
-returns-then-k-eq-ONE_GR c = let pre = c.requires in
-    ones_94 (entry_is c.if-k-eq-ONE_GR.true pre) (c.blocks_end-then-k-eq-ONE_GR.ensures.0 (omega (arith, pre.inside)))
+pub returns-else-full_right : goal.returns-else-full_right
+returns-else-full_right c = let pre = c.requires in
+    ones_94 (entry_is c.if-k-ne-ONE_GR.false pre) (c.blocks_end-else-full_right.ensures.0 (omega (arith, pre.inside)))
 
-pub returns : goal.returns
-returns c = by_numbers refl (omega arith) none
+pub returns-then-k-ne-ONE_GR : goal.returns-then-k-ne-ONE_GR
+returns-then-k-ne-ONE_GR c = by_numbers refl (omega arith) none

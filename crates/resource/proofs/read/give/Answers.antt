@@ -10,9 +10,6 @@ returns-then-out-octets c = let looked = c.requires in
     converted_short _ _ _ _ _ (reading_within _ _ looked c.if-octets-gt-OCTETS.false) _ (reading_length _ _ looked) c.if-out-octets.true
     c.no_room.ensures
 
-pub store-requires : goal.store-requires
-store-requires c = (c.requires, c.if-out-octets.false)
-
 pub returns : goal.returns
 returns c = let looked = c.requires in
     converted_fits _ _ _ _ _ (reading_within _ _ looked c.if-octets-gt-OCTETS.false) _ (reading_length _ _ looked) _

@@ -7,9 +7,6 @@ use Rattle.resource.proofs.read.read.Goals as goal
 pub returns-then-form-gt-FORM : goal.returns-then-form-gt-FORM
 returns-then-form-gt-FORM c = converted_refused _ _ _ _ _ _ (form_over _ c.if-form-gt-FORM.true) c.at.ensures
 
-pub give-requires : goal.give-requires
-give-requires c = sym c.in-Ok.is ∙ c.look_over.ensures
-
 pub returns-in-Err : goal.returns-in-Err
 returns-in-Err c = let found = sym c.in-Err.is ∙ c.look_over.ensures in
     converted_refused _ _ _ _ _ _ (reading_faulty _ _ found ∙ form_within _ c.if-form-gt-FORM.false) c.at-in-Err.ensures

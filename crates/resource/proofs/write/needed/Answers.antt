@@ -13,8 +13,5 @@ overflow_add-n c = let next = count_next _ _ _ _ c.loop-octet-test.true c.loop-o
 pub loop-octet-preserved : goal.loop-octet-preserved
 loop-octet-preserved c = search count_next
 
-pub overflow_cast-result : goal.overflow_cast-result
-overflow_cast-result c = omega (arith, count_few _ _ _ c.requires c.loop-octet.invariant)
-
 pub returns : goal.returns
 returns c = search count_last

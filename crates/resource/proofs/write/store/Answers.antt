@@ -14,8 +14,5 @@ loop-octet-preserved c = stored_up_to_next _ _ _ _ _ _ _ c.loop-octet-test.true
     c.loop-octet.invariant
     c.put_octet-at.ensures.0 c.put_octet-at.ensures.1
 
-pub shape_of-out : goal.shape_of-out
-shape_of-out c = c.loop-octet.invariant.same
-
 pub returns : goal.returns
 returns c = stored_up_to_last _ _ _ _ _ c.requires c.loop-octet-test.false c.loop-octet.invariant

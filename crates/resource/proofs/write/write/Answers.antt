@@ -1,5 +1,4 @@
 -- `resource::write::write` meets its contract, by what it calls and the laws of `Conversions`.
-use native.Mathlib.Omega.{arith}
 use Rattle.resource_form.proofs.Answers.{string_over, string_within}
 use Rattle.resource.proofs.Conversions.{converted_refused, converted_short, converted_fits}
 use Rattle.resource.proofs.write.write.Goals as goal
@@ -10,9 +9,6 @@ returns-then-s-gt-OCTETS c = converted_refused _ _ _ _ _ _ (string_over _ c.if-s
 pub returns-then-out-n : goal.returns-then-out-n
 returns-then-out-n c = let short = string_within _ c.if-s-gt-OCTETS.false in
     converted_short _ _ _ _ _ short _ c.needed-n.ensures c.if-out-n.true c.no_room.ensures
-
-pub store-requires : goal.store-requires
-store-requires c = let needed = c.needed-n.ensures in omega (arith, needed)
 
 pub returns : goal.returns
 returns c = let short = string_within _ c.if-s-gt-OCTETS.false in
