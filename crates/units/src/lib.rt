@@ -10,6 +10,7 @@ use state::State;
 use state::directions::Directions;
 use state::elements::{Element, Part};
 
+// No Result: the end of a string is no error, and both cases carry the state to go on from, so that `?` would serve no caller.
 #[derive(Clone, Copy)]
 pub enum Outcome {
     // a unit, and the place and the state after it
