@@ -52,6 +52,7 @@ impl Cursor {
     }
 
     // The state there, as if neither a mark nor text had been read: it refuses nothing that the string's own state accepts.
+    // No From: two of the state's four parts are left out, and the way back, `cursor_at`, takes a place too.
     pub fn state(self) -> State
         ensures { result ≡ state_in self }
     {

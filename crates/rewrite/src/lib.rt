@@ -20,16 +20,13 @@ fn stow(s: &[u8], n: usize, work: &mut [u8])
 {
     let mut at: usize = 0;
     let mut st = State::FRESH;
-    let mut i: usize = 0;
-    while i < n {
-        let o = units::next_unit(s, at, st);
-        let Outcome::Gives(unit, place, next) = o else {
+    for i in 0..n {
+        let Outcome::Gives(unit, place, next) = units::next_unit(s, at, st) else {
             return;
         };
         check_list::put(unit, i, work);
         at = place;
         st = next;
-        i += 1;
     }
 }
 
@@ -41,10 +38,10 @@ pub fn shortest(s: &[u8], work: &mut [u8], out: &mut [u8]) -> Answer
         × (length work.new ≡ length work.old) }
 {
     let a = check_string::answer(s);
-    if a.number == refusal::ACCEPTED {
-        let n = a.count;
-        stow(s, n, work);
-        return write::finish(check_list::begin(), n, s, work, out);
+    if a.number != refusal::ACCEPTED {
+        return a;
     }
-    a
+    let n = a.count;
+    stow(s, n, work);
+    write::finish(check_list::begin(), n, s, work, out)
 }

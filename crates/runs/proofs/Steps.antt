@@ -8,8 +8,8 @@ use Rattle.element.proofs.Names.{refused_at}
 use Rattle.base.specs.Refusal as refusal
 use Rattle.std.proofs.Common.{Ok}
 use Rattle.state.specs.Elements.{element_seen}
-use Rattle.state.specs.Elements.{Element as CodeElement}
-use Rattle.state.specs.Elements.{End as CodeEnd, Silent as CodeSilent, Found as CodeFound}
+use Rattle.state.specs.declared.elements.Element.{Element as CodeElement}
+use Rattle.state.specs.declared.elements.Element.TheVariants.{End as CodeEnd, Silent as CodeSilent, Found as CodeFound}
 use Rattle.grammar.specs.Reading.{Octets, none_refused}
 use Rattle.grammar.proofs.Places.{ahead, at_end, at_refused, at_passed, step_passed}
 use Rattle.stretch.specs.Characters.{settled_of}

@@ -140,7 +140,8 @@ pub fn settled(d: Directions) -> bool
     d.texted && (!d.marked || d.depth != 0)
 }
 
-// A stretch: its octets, and the units in it.
+// A stretch: its octets, and the units in it. octet_stretches, which does not stand on this crate, has the same two fields: a crate for both would hold
+// no more than this struct.
 #[derive(Clone, Copy)]
 pub struct Stretch {
     pub octets: usize,

@@ -6,12 +6,12 @@ use Rattle.rewrite.proofs.shortest.Goals as goal
 
 pub stow-requires : goal.stow-requires
 stow-requires c = let answer = c.answer-a.ensures in
-    (accepts _ _ answer c.if-a-eq-ACCEPTED.true, counts _ _ answer c.if-a-eq-ACCEPTED.true)
+    (accepts _ _ answer c.if-a-ne-ACCEPTED.false, counts _ _ answer c.if-a-ne-ACCEPTED.false)
 
-pub returns-then-a-eq-ACCEPTED : goal.returns-then-a-eq-ACCEPTED
-returns-then-a-eq-ACCEPTED c = let octets : Octets c.args.s.now = λ i. omega (arith, c.type_inv.s i) in
+pub returns : goal.returns
+returns c = let octets : Octets c.args.s.now = λ i. omega (arith, c.type_inv.s i) in
     let answer = c.answer-a.ensures in
-    let taken = c.if-a-eq-ACCEPTED.true in
+    let taken = c.if-a-ne-ACCEPTED.false in
     let stowed = c.stow.ensures in
     let wrote = c.finish.ensures in
     let begun = c.begin.ensures in (
@@ -20,6 +20,6 @@ returns-then-a-eq-ACCEPTED c = let octets : Octets c.args.s.now = λ i. omega (a
       wrote.2 ∙ stowed.same,
     )
 
-pub returns : goal.returns
-returns c = let answer = c.answer-a.ensures in
-    (refused_answer _ _ answer _ _ c.if-a-eq-ACCEPTED.false, refused_output _ _ answer _ _ c.if-a-eq-ACCEPTED.false, refl)
+pub returns-then-a-ne-ACCEPTED : goal.returns-then-a-ne-ACCEPTED
+returns-then-a-ne-ACCEPTED c = let answer = c.answer-a.ensures in
+    (refused_answer _ _ answer _ _ c.if-a-ne-ACCEPTED.true, refused_output _ _ answer _ _ c.if-a-ne-ACCEPTED.true, refl)

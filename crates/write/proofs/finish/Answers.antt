@@ -21,4 +21,4 @@ returns-in-Err c = let args = c.args in
     let few = c.if-n-gt-UNITS.false in
     let faulty = c.in-Err.is in
     let f = finish_faulty args.progress args.n args.segments.now args.work.now args.out.now _ few faulty in
-    (c.at-in-Err.ensures ∙ f.0, f.1, refl)
+    (c.refused.ensures ∙ f.0, f.1, refl)

@@ -30,31 +30,31 @@ returns-then-at-end c =
     let cut = text_cut _ _ _ (λ i. omega (arith, c.type_inv.s i)) _ _ low settled c.text_end-end.ensures c.if-at-end.true in
     after c.loop-at.invariant (turn_shown _ _ _ cut low refl c.step_over.ensures)
 
-pub returns-in_default : goal.returns-in_default
-returns-in_default c = after c.loop-at.invariant (turn_none _ _ _ _ c.in_default.ensures refl c.stop_at.ensures)
+pub returns-in_default-piece_at : goal.returns-in_default-piece_at
+returns-in_default-piece_at c = after c.loop-at.invariant (turn_none _ _ _ _ c.in_default-piece_at.ensures refl c.stop_at.ensures)
 
 pub step_over-requires-then-is_run : goal.step_over-requires-then-is_run
 step_over-requires-then-is_run c =
     let low = ltb-true _ _ (sym c.is_run.ensures ∙ c.if-is_run.true) in
-    let cut = begun_cut _ _ _ (λ i. omega (arith, c.type_inv.s i)) _ _ c.in-Some.ensures low c.text_end-end-then-is_run.ensures in
-    omega (arith, begun_starts _ _ _ _ c.in-Some.ensures low, cut.more)
+    let cut = begun_cut _ _ _ (λ i. omega (arith, c.type_inv.s i)) _ _ c.in-Some-piece_at.ensures low c.text_end-end-then-is_run.ensures in
+    omega (arith, begun_starts _ _ _ _ c.in-Some-piece_at.ensures low, cut.more)
 
 pub returns-then-is_run : goal.returns-then-is_run
 returns-then-is_run c =
     let low = ltb-true _ _ (sym c.is_run.ensures ∙ c.if-is_run.true) in
-    let cut = begun_cut _ _ _ (λ i. omega (arith, c.type_inv.s i)) _ _ c.in-Some.ensures low c.text_end-end-then-is_run.ensures in
+    let cut = begun_cut _ _ _ (λ i. omega (arith, c.type_inv.s i)) _ _ c.in-Some-piece_at.ensures low c.text_end-end-then-is_run.ensures in
     after c.loop-at.invariant (turn_shown _ _ _ cut low refl c.step_over-then-is_run.ensures)
 
 pub loop-at-smaller : goal.loop-at-smaller
 loop-at-smaller c =
     let other = sym c.is_run.ensures ∙ c.if-is_run.false in
-    let cut = cut_other _ _ _ _ c.in-Some.ensures (given_moves _ _ _ _ c.in-Some.ensures) other in
+    let cut = cut_other _ _ _ _ c.in-Some-piece_at.ensures (given_moves _ _ _ _ c.in-Some-piece_at.ensures) other in
     omega (arith, cut.more, cut.within)
 
 pub loop-at-preserved : goal.loop-at-preserved
 loop-at-preserved c =
     let other = sym c.is_run.ensures ∙ c.if-is_run.false in
-    run_later _ _ _ (cut_other _ _ _ _ c.in-Some.ensures (given_moves _ _ _ _ c.in-Some.ensures) other) other ∙ c.loop-at.invariant
+    run_later _ _ _ (cut_other _ _ _ _ c.in-Some-piece_at.ensures (given_moves _ _ _ _ c.in-Some-piece_at.ensures) other) other ∙ c.loop-at.invariant
 
 pub returns : goal.returns
 returns c = after c.loop-at.invariant (turn_over _ _ _ c.loop-at-test.false c.stop_at-2.ensures)
