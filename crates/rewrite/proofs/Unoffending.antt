@@ -4,9 +4,8 @@ use Rattle.element.proofs.Names.{ℕ, zero, suc, ◌≤◌, arith, ◌≡◌, re
 use Rattle.element.proofs.Names.{clash, test, tested}
 use Rattle.base.specs.Refusal as refusal
 use Rattle.grammar.specs.Reading.{Octets, check_of, reading_of}
-use Rattle.check_list.specs.Turn.{turn_of}
-use Rattle.check_list.specs.declared.Progress.{Progress}
-use Rattle.check_list.specs.declared.Progress.TheVariants.{Fine, Faulty}
+use Rattle.std.specs.Prelude.{Ok, Err}
+use Rattle.check_list.specs.Turn.{Progress, turn_of}
 use Rattle.check_list.proofs.Turns.{fine_faulty}
 use Rattle.shortest.specs.Offence.{no_record}
 use Rattle.shortest.specs.Records.{fine}
@@ -20,21 +19,21 @@ use Rattle.write.proofs.Lists.{checked_of, reached_checked}
 -- the check of the first k records of a list finds nothing
 pub record FineAt (o : List ℕ) (rs : List UnitRecord) (k : ℕ) : Type 0 where
   pub directions : Directions
-  pub is : reached o rs k ≡ Fine directions
+  pub is : reached o rs k ≡ Ok directions
 
 module _ (o : List ℕ) (rs : List UnitRecord) where
   by_finding : (k : ℕ) (p : Progress) → reached o rs k ≡ p → fine ≡ checked_of p → FineAt o rs k
-  by_finding k (Fine d) q e = record { directions = d; is = q }
-  by_finding k (Faulty n i) q e = clash (cc e)
+  by_finding k (Ok d) q e = record { directions = d; is = q }
+  by_finding k (Err f) q e = clash (cc e)
 
   -- a fault stays, so that there was none before
   one_before : (k : ℕ) → FineAt o rs (suc k) → FineAt o rs k
   unfolding reached turn_of
   one_before k h = go (reached o rs k) refl h.is
     where
-      go : (p : Progress) → reached o rs k ≡ p → turn_of o (get_or rs k no_record) k p ≡ Fine h.directions → FineAt o rs k
-      go (Fine d) q e = record { directions = d; is = q }
-      go (Faulty n i) q e = absurd (fine_faulty n i h.directions e)
+      go : (p : Progress) → reached o rs k ≡ p → turn_of o (get_or rs k no_record) k p ≡ Ok h.directions → FineAt o rs k
+      go (Ok d) q e = record { directions = d; is = q }
+      go (Err f) q e = absurd (fine_faulty f h.directions e)
 
   pub before : (n : ℕ) → FineAt o rs n → (k : ℕ) → k ≤ n → FineAt o rs k
   before zero h k l = subst (FineAt o rs) (let z : 0 ≡ k = omega arith in z) h
