@@ -23,7 +23,7 @@ fn ones(s: &[u8], at: usize, first: u8, last: u8) -> usize
     at.max(s.len())
 }
 
-// The end of the octets of a span that start at a place, two by two.
+// The end of the octets of a span that start at a place, two by two. A loop of its own: one for both widths was slower (docs/PROVING.md).
 fn twos(s: &[u8], at: usize, first: u8, last: u8) -> usize
     ensures { result ≡ twos_to first last at (from at s.now) }
 {

@@ -18,7 +18,8 @@ use runs::stepping::{RunPosition, known, stopped};
 use state::State;
 use stretch::characters::settled;
 
-// The position after several runs, and the answer: how many were stored, or why none could be.
+// The position after several runs, and the answer: how many were stored, or why none could be. It and `RunStep` of `runs` are no one generic
+// struct: C's structs, and the definitions, name `run` and `answer` apart.
 #[derive(Clone, Copy)]
 pub struct RunsStep {
     pub position: RunPosition,

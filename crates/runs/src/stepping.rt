@@ -109,15 +109,13 @@ pub fn run_from(s: &[u8], place: usize, state: State) -> RunStep
             let kind = pieces::side_kind(b);
             let end = text_end(s, at, st.sets, kind);
             if at < end {
-                return step_over(
-                    s.len(),
-                    Piece {
-                        start: at,
-                        end,
-                        state: st,
-                        kind,
-                    },
-                );
+                let run = Piece {
+                    start: at,
+                    end,
+                    state: st,
+                    kind,
+                };
+                return step_over(s.len(), run);
             }
         }
         let Some(next) = pieces::piece_at(s, at, st) else {
