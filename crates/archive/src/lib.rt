@@ -6,6 +6,7 @@ ghost use Rattle.grammar.specs.Reading.{check_of};
 ghost use Rattle.octet_table.specs.Table.{table};
 ghost use Rattle.read.specs.Listing.{read_answer, stored_of, list_after};
 
+use crate::classes::Entries;
 use crate::turns::{RowCursor, turn};
 use crate::whole::check_by;
 use base::{Answer, Unit, refusal};
@@ -24,7 +25,7 @@ pub fn check(s: &[u8]) -> Answer
 }
 
 // What a string and a list of so many records are answered.
-fn answer(t: &[u8], s: &[u8], room: usize) -> Answer
+fn answer(t: &Entries, s: &[u8], room: usize) -> Answer
     requires { t.now ≡ table }
     ensures { result ≡ read_answer s.now room }
 {
@@ -48,7 +49,7 @@ fn stored(a: Answer) -> usize
 }
 
 // The units of a string by the table that is lent.
-fn read_by(t: &[u8], s: &[u8], units: &mut [Unit]) -> Answer
+fn read_by(t: &Entries, s: &[u8], units: &mut [Unit]) -> Answer
     requires { t.now ≡ table }
     ensures { (result ≡ read_answer s.now (length units.old))
         × (units.new ≡ list_after s.now units.old) }

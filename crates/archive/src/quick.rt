@@ -3,6 +3,7 @@ ghost use Rattle.std.specs.Prelude.{◌≡◌, true, ◌+◌, ◌≤◌, length}
 ghost use Rattle.octet_stretches.specs.Stretched.{Ones, Stretched};
 ghost use Rattle.archive_laws.specs.Passes.{Reaches, EscapeAt, row_at};
 
+use crate::classes::Entries;
 use charset::{NO_SET, Side};
 use designations::{form_after, told};
 use octet_stretches::{Stretch, singles_by, stretch_by};
@@ -29,16 +30,16 @@ fn escape_at(s: &[u8], at: usize) -> bool
 }
 
 // The stretch at a place, by a row of what is lent. A row has 256 entries by its two ends, so that it is not asked for its length.
-fn stretch_in(t: &[u8], s: &[u8], at: usize, row: usize) -> Stretch
-    requires { row + 256 ≤ length t.now }
+fn stretch_in(t: &Entries, s: &[u8], at: usize, row: usize) -> Stretch
+    requires { row ≤ 1280 }
     ensures { Stretched (row_at row t.now) s.now at (at + result.octets) result.units }
 {
     stretch_by(&t[row..row + 256], s, at)
 }
 
 // The units and designations at a place. The row is kept by its two parts, which wait for the form of a designation and not for its set.
-pub fn quick(t: &[u8], s: &[u8], at: usize, start: Sets) -> Reach
-    requires { (1536 ≤ length t.now) × (at ≤ length s.now) }
+pub fn quick(t: &Entries, s: &[u8], at: usize, start: Sets) -> Reach
+    requires { at ≤ length s.now }
     ensures { Reaches t.now s.now at start result.place result.sets result.units }
 {
     let mut place = at;
@@ -77,8 +78,7 @@ pub fn quick(t: &[u8], s: &[u8], at: usize, start: Sets) -> Reach
 }
 
 // The place after the tabs and newlines at a place.
-pub fn blanks(t: &[u8], s: &[u8], at: usize) -> usize
-    requires { 1536 ≤ length t.now }
+pub fn blanks(t: &Entries, s: &[u8], at: usize) -> usize
     ensures { Ones (row_at 1280 t.now) s.now at result }
 {
     singles_by(&t[BLANK_ROW..BLANK_ROW + 256], s, at)

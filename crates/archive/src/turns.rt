@@ -5,7 +5,7 @@ ghost use Rattle.cursor.specs.Cursor.{passed_of};
 ghost use Rattle.archive_laws.specs.Passes.{Classed};
 ghost use Rattle.archive.specs.Turns.{rowed, rowed_turn, first_row, Ready, turn_of, moved_by, if_character, set_by, one_record, two_record};
 
-use crate::classes::class_at;
+use crate::classes::{Entries, class_at};
 use base::{Unit, kind};
 use charset::Side;
 use cursor::marks::marked;
@@ -31,6 +31,7 @@ pub struct RowTurn {
 
 impl RowCursor {
     // The start of a string.
+    #[tactic(auto, unfolding(state::specs::Directions::in_force_of, base::specs::Choice::pick))]
     pub fn first() -> RowCursor
         ensures { result ≡ first_row }
     {
@@ -191,7 +192,7 @@ fn passed(s: &[u8], c: RowCursor) -> RowCursor
 }
 
 // The unit after a designation, where one stands at the cursor, and else the unit at it.
-fn escaped(t: &[u8], s: &[u8], c: RowCursor) -> RowTurn
+fn escaped(t: &Entries, s: &[u8], c: RowCursor) -> RowTurn
     requires { (t.now ≡ table) × Ready s.now c }
     ensures { result ≡ turn_of s.now c.cursor }
 {
@@ -205,7 +206,7 @@ fn escaped(t: &[u8], s: &[u8], c: RowCursor) -> RowTurn
 }
 
 // The next unit, and the cursor after it.
-pub fn turn(t: &[u8], s: &[u8], c: RowCursor) -> RowTurn
+pub fn turn(t: &Entries, s: &[u8], c: RowCursor) -> RowTurn
     requires { (t.now ≡ table) × Ready s.now c }
     ensures { result ≡ turn_of s.now c.cursor }
 {

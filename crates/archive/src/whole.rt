@@ -1,11 +1,11 @@
-// The check of a whole string, by the table that is lent. The functions below `check_by` ask that what is lent has the table's length, and say of the
-// string what holds where it is the table.
+// The check of a whole string, by the table that is lent. The functions below `check_by` say of the string what holds where what is lent is the table.
 ghost use Rattle.std.specs.Prelude.{◌≡◌, true, ◌≤◌, ◌<◌, length};
 ghost use Rattle.grammar.specs.Reading.{check_of};
 ghost use Rattle.octet_table.specs.Table.{table};
 ghost use Rattle.state.specs.State.{state};
 ghost use Rattle.archive_laws.specs.Passes.{text_class, TextAt, Leads, LeadsBy, Places};
 
+use crate::classes::Entries;
 use crate::quick::{Reach, blanks, quick};
 use base::{Answer, Refusal, limit};
 use charset::{NO_SET, Side};
@@ -26,8 +26,8 @@ fn text_class(k: u8) -> bool
 }
 
 // Whether text is next at a place.
-fn text_at(t: &[u8], s: &[u8], at: usize, sets: Sets) -> bool
-    requires { (1536 ≤ length t.now) × (at < length s.now) }
+fn text_at(t: &Entries, s: &[u8], at: usize, sets: Sets) -> bool
+    requires { at < length s.now }
     ensures { t.now ≡ table → result ≡ true → TextAt sets s.now at }
 {
     let row = row_of(sets.gl, sets.gr);
@@ -35,8 +35,8 @@ fn text_at(t: &[u8], s: &[u8], at: usize, sets: Sets) -> bool
 }
 
 // The state at a place where text is next and neither text nor a mark was read: text was read, which that element says too if it is not refused.
-fn begun(t: &[u8], s: &[u8], at: usize, st: State) -> State
-    requires { (1536 ≤ length t.now) × (at < length s.now) }
+fn begun(t: &Entries, s: &[u8], at: usize, st: State) -> State
+    requires { at < length s.now }
     ensures { t.now ≡ table → Leads s.now at st at result 0 }
 {
     let mut directions = st.directions;
@@ -76,8 +76,8 @@ fn placed(s: &[u8], at: usize, start: Sets) -> Reach
 
 // What is passed at a place at once: units and designations where text leaves the
 // directions as they are, else designations, and then tabs and newlines.
-fn passed(t: &[u8], s: &[u8], at: usize, st: State) -> Reach
-    requires { (1536 ≤ length t.now) × (at ≤ length s.now) }
+fn passed(t: &Entries, s: &[u8], at: usize, st: State) -> Reach
+    requires { at ≤ length s.now }
     ensures { LeadsBy t.now s.now at st result.place (state result.sets st.directions) result.units }
 {
     if settled(st.directions) {
@@ -94,8 +94,7 @@ fn passed(t: &[u8], s: &[u8], at: usize, st: State) -> Reach
 
 // Whether a string is accepted, and what of it is refused. Units and designations are passed at once, and any other element by itself; a mark, which
 // is none of these, is not looked at twice.
-fn whole(t: &[u8], s: &[u8]) -> Answer
-    requires { 1536 ≤ length t.now }
+fn whole(t: &Entries, s: &[u8]) -> Answer
     ensures { t.now ≡ table → result ≡ check_of s.now }
 {
     if limit::OCTETS < s.len() {
@@ -153,7 +152,7 @@ fn whole(t: &[u8], s: &[u8]) -> Answer
 }
 
 // The same where the table is lent.
-pub fn check_by(t: &[u8], s: &[u8]) -> Answer
+pub fn check_by(t: &Entries, s: &[u8]) -> Answer
     requires { t.now ≡ table }
     ensures { result ≡ check_of s.now }
 {

@@ -25,7 +25,7 @@ after_stretch inv u =
 
 pub loop-place-init : goal.loop-place-init
 loop-place-init c = (
-  reaches_none _ _ _ _ c.requires.1,
+  reaches_none _ _ _ _ c.requires,
   c.left_of-high.ensures ∙ ap left_of c.form_of.ensures,
   c.right_of-low.ensures ∙ ap right_of c.form_of-2.ensures,
 )
@@ -34,7 +34,7 @@ pub overflow_add-high : goal.overflow_add-high
 overflow_add-high c = let inv = c.loop-place.invariant in omega (arith, (row_parts _ _ _ inv.1 inv.2).1)
 
 pub stretch_in-u-requires : goal.stretch_in-u-requires
-stretch_in-u-requires c = let inv = c.loop-place.invariant in omega (arith, (row_parts _ _ _ inv.1 inv.2).1, c.requires.0)
+stretch_in-u-requires c = let inv = c.loop-place.invariant in omega (arith, (row_parts _ _ _ inv.1 inv.2).1)
 
 pub overflow_add-place : goal.overflow_add-place
 overflow_add-place c = omega (arith, (after_stretch c.loop-place.invariant c.stretch_in-u.ensures).within)

@@ -4,6 +4,3 @@ use Rattle.archive.proofs.turns.turn.Goals as goal
 
 pub class_at-k-requires : goal.class_at-k-requires
 class_at-k-requires c = let pre = c.requires in (pre.0, row_fits _ _ pre.1, inside _ _ pre.1)
-
-pub text_turn-requires : goal.text_turn-requires
-text_turn-requires c = (c.requires.1, c.class_at-k.ensures, c.if-k-le-TWO_GR.true)

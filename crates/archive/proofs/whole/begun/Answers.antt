@@ -9,4 +9,4 @@ pub returns-then-text_at : goal.returns-then-text_at
 returns-then-text_at c = λ is. rw c.directed.ensures (begun_leads _ (not-true _ c.if-not-directions.true) _ _ (c.text_at.ensures is c.if-text_at.true))
 
 pub returns : goal.returns
-returns c = λ _. leads_none _ _ _ (omega (arith, c.requires.1))
+returns c = λ _. leads_none _ _ _ (omega (arith, c.requires))

@@ -10,7 +10,7 @@ pub overflow_add-row : goal.overflow_add-row
 overflow_add-row c = omega (arith, row_low _ _ c.row_of-row.ensures)
 
 pub slice_bounds-class_at-end : goal.slice_bounds-class_at-end
-slice_bounds-class_at-end c = omega (arith, row_low _ _ c.row_of-row.ensures, c.requires.0)
+slice_bounds-class_at-end c = omega (arith, row_low _ _ c.row_of-row.ensures)
 
 pub returns : goal.returns
 returns c = λ is e. let at_row = c.row_of-row in
@@ -18,8 +18,8 @@ returns c = λ is e. let at_row = c.row_of-row in
     let k = c.class_at.result in
     let f : at_row.result + 256 - at_row.result ≡ 256 = omega arith in
     let entry : Entry (row_at at_row.result c.args.t.now) c.args.s.now c.args.at k
-    = (rw f at c.class_at.ensures).entry (row_length at_row.result c.args.t.now (omega (arith, low, c.requires.0)))
-    c.requires.1 in
+    = (rw f at c.class_at.ensures).entry (row_length at_row.result c.args.t.now (omega (arith, low)))
+    c.requires in
     record {
       number = k;
       classed = subst (λ (r : ℕ). Classed r c.args.s.now c.args.at k) at_row.ensures (classed _ _ _ is low entry);

@@ -32,11 +32,11 @@ loop-at-init c = first_by _ _
 
 pub begun-st-requires : goal.begun-st-requires
 unfolding check_of
-begun-st-requires c = (c.requires, c.loop-at-test.true)
+begun-st-requires c = c.loop-at-test.true
 
 pub passed-p-requires : goal.passed-p-requires
 unfolding check_of
-passed-p-requires c = (c.requires, c.loop-at.invariant.within)
+passed-p-requires c = c.loop-at.invariant.within
 
 pub overflow_add-count : goal.overflow_add-count
 unfolding check_of
