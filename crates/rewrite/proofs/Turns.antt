@@ -9,8 +9,11 @@ use Rattle.rows.specs.Rows.{with_record}
 use Rattle.rows.specs.Stowable.{stowable_of}
 use Rattle.units.specs.Next.{next_of}
 use Rattle.units.specs.Records.{records_of}
-use Rattle.units.specs.Next.{Outcome}
-use Rattle.units.specs.Next.{Gives}
+use Rattle.units.specs.Next.{Outcome, Gives, outcome_seen}
+use Rattle.units.specs.declared.Given.{Given}
+use Rattle.units.specs.declared.Stopped.{Stopped}
+use Rattle.std.proofs.Common.{Result, Ok, Err}
+use Rattle.element.proofs.Names.{refl, clash}
 use Rattle.write.specs.Stowed.{reached, Stowed}
 use Rattle.shortest.specs.Offence.{no_record}
 use Rattle.write.proofs.Lists.{stowed_none, stowed_next}
@@ -59,3 +62,9 @@ module _ (s : List ℕ) (short : length s ≤ limit.octets) (before : List ℕ) 
         comes = rw (k, rest_is, ← there, ← state) comes_next.comes;
         stowed = rw (k, g, b, put) (stowed_next s (records_of s) i before w h.stowed);
       }
+
+-- an answer that is no unit
+pub never_given : (r : Result Given Stopped) → ((g : Given) → r ≡ Ok g → ⊥) → (u : UnitRecord) (place : ℕ) (to : State)
+    → outcome_seen r ≡ Gives u place to → ⊥
+never_given (Ok g) n u place to e = n g refl
+never_given (Err x) n u place to e = clash (cc e)

@@ -10,7 +10,6 @@ ghost use Rattle.rewrite.specs.Shortest.{shortest_answer, shortest_output};
 
 use base::{Answer, refusal};
 use state::State;
-use units::Outcome;
 
 // Puts the n units of an accepted string into their rows of the work room: none of them offends, so that they are not checked. By
 // `next_unit`, and not by the cursor of `read`, which the compiler puts into `read` whole only where nobody else calls it.
@@ -21,12 +20,12 @@ fn stow(s: &[u8], n: usize, work: &mut [u8])
     let mut at: usize = 0;
     let mut st = State::FRESH;
     for i in 0..n {
-        let Outcome::Gives(unit, place, next) = units::next_unit(s, at, st) else {
+        let Ok(given) = units::next_unit(s, at, st) else {
             return;
         };
-        check_list::put(unit, i, work);
-        at = place;
-        st = next;
+        check_list::put(given.unit, i, work);
+        at = given.place;
+        st = given.state;
     }
 }
 
