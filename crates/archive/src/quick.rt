@@ -4,7 +4,7 @@ ghost use Rattle.octet_stretches.specs.Stretched.{Ones, Stretched};
 ghost use Rattle.archive_laws.specs.Passes.{Reaches, EscapeAt, row_at};
 
 use crate::classes::Entries;
-use charset::{NO_SET, Side};
+use charset::Side;
 use designations::{form_after, told};
 use octet_stretches::{Stretch, singles_by, stretch_by};
 use octet_table::{left_of, right_of};
@@ -53,20 +53,17 @@ pub fn quick(t: &Entries, s: &[u8], at: usize, start: Sets) -> Reach
         units += u.units;
         if escape_at(s, place) {
             let b = s[place + 1];
-            let d = told(b, s[place + 1 + 1], s[place + 1 + 1 + 1]);
-            let set = d.set;
-            if NO_SET <= set {
+            let Some(d) = told(b, s[place + 1 + 1], s[place + 1 + 1 + 1]) else {
                 break;
-            }
-            let side = d.side;
+            };
             place += d.octets;
-            match side {
+            match d.side {
                 Side::GL => {
-                    sets.gl = set;
+                    sets.gl = d.set;
                     high = left_of(form_after(b));
                 }
                 Side::GR => {
-                    sets.gr = set;
+                    sets.gr = d.set;
                     low = right_of(form_after(b));
                 }
             }

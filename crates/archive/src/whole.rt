@@ -8,12 +8,11 @@ ghost use Rattle.archive_laws.specs.Passes.{text_class, TextAt, Leads, LeadsBy, 
 use crate::classes::Entries;
 use crate::quick::{Reach, blanks, quick};
 use base::{Answer, Refusal, limit};
-use charset::{NO_SET, Side};
+use charset::Side;
 use designations::designation_at;
 use octet_stretches::class_at;
 use octet_table::{ONE_GL, ONE_GR, SPACE, TWO_GR, row_of};
-use state::directions::Step;
-use state::elements::Shape;
+use state::elements::{Refused, Shape};
 use state::{Sets, State};
 use stretch::characters::settled;
 
@@ -55,16 +54,13 @@ fn placed(s: &[u8], at: usize, start: Sets) -> Reach
     let mut place = at;
     let mut sets = start;
     while place < s.len() && s[place] == 0x1B {
-        let d = designation_at(s, place);
-        let set = d.set;
-        if NO_SET <= set {
+        let Some(d) = designation_at(s, place) else {
             break;
-        }
-        let side = d.side;
+        };
         place += d.octets;
-        match side {
-            Side::GL => sets.gl = set,
-            Side::GR => sets.gr = set,
+        match d.side {
+            Side::GL => sets.gl = d.set,
+            Side::GR => sets.gr = d.set,
         }
     }
     Reach {
@@ -118,28 +114,23 @@ fn whole(t: &Entries, s: &[u8]) -> Answer
                 continue;
             }
         }
-        let sets = st.sets;
-        let directions = st.directions;
-        let shape = element::shape(s, at, sets);
-        match shape {
-            Shape::Ends => {
+        match element::shape(s, at, st.sets) {
+            Ok(Shape::Ends) => {
                 return Answer::accepted(at, count);
             }
-            Shape::Refuses(number, offset) => {
-                let place = at + offset;
-                return Answer::refused(number, place);
+            Err(Refused(refusal, offset)) => {
+                return refusal.at(at + offset);
             }
-            Shape::Designates(octets, side, set) => {
+            Ok(Shape::Designates(octets, side, set)) => {
                 at += octets;
                 st = st.designated(side, set);
             }
-            Shape::Gives(part) => {
-                let step = directions.step(part.text, part.kind);
-                match step {
-                    Step::Stops(number) => {
-                        return Answer::refused(number, at);
+            Ok(Shape::Gives(part)) => {
+                match st.directions.step(part.text, part.kind) {
+                    Err(refusal) => {
+                        return refusal.at(at);
                     }
-                    Step::Goes(next) => {
+                    Ok(next) => {
                         at += part.skip + part.octets;
                         st = st.directed(next);
                         count += 1;

@@ -1,4 +1,4 @@
--- `archive::quick::quick` meets its contract: in each turn a stretch (`after_stretch`) and a designation (`told_at`) lead on, under the sets that
+-- `archive::quick::quick` meets its contract: in each turn a stretch (`after_stretch`) and a designation (`told_found`) lead on, under the sets that
 -- they leave, and the two parts of the row are those of the sets.
 use Rattle.element.proofs.Names.{ℕ, ◌+◌, ◌≤◌, arith, ◌≡◌, refl, ap, sym, ◌∙◌, List, form_of, GL, GR, put, Sets}
 use Rattle.octet_stretches.specs.Stretched.{Stretched}
@@ -6,7 +6,8 @@ use Rattle.octet_stretches.proofs.Laws.{fits}
 use Rattle.octet_table.specs.Table.{left_of, right_of, row_of}
 use Rattle.octet_table.proofs.Rule.{left_most, right_most}
 use Rattle.archive_laws.specs.Passes.{Reaches, row_at}
-use Rattle.archive_laws.proofs.Passes.{designation_some, told_at, reaches_none, reaches_units, reaches_told}
+use Rattle.archive_laws.proofs.Passes.{designation_some, reaches_none, reaches_units, reaches_told}
+use Rattle.archive.proofs.Found.{told_found}
 use Rattle.archive.proofs.quick.quick.Goals as goal
 
 -- the two parts of the row, as one number
@@ -45,47 +46,42 @@ overflow_add-units c = let p = after_stretch c.loop-place.invariant c.stretch_in
 pub escape_at-requires : goal.escape_at-requires
 escape_at-requires c = (after_stretch c.loop-place.invariant c.stretch_in-u.ensures).within
 
-pub returns-then-set-ge-NO_SET : goal.returns-then-set-ge-NO_SET
-returns-then-set-ge-NO_SET c = after_stretch c.loop-place.invariant c.stretch_in-u.ensures
+pub returns-in_default : goal.returns-in_default
+returns-in_default c = after_stretch c.loop-place.invariant c.stretch_in-u.ensures
 
 pub overflow_add-place-then-escape_at-6 : goal.overflow_add-place-then-escape_at-6
 overflow_add-place-then-escape_at-6 c =
-    let named = c.if-set-ge-NO_SET.false in
-    let told = told_at _ _ _ (c.escape_at.ensures c.if-escape_at.true) c.told-d.ensures named in
-    omega (arith, (designation_some _ _ _ told.0 named).1)
+    let told = told_found _ _ _ _ (c.escape_at.ensures c.if-escape_at.true) c.told.ensures c.in-Some.is in
+    omega (arith, (designation_some _ _ _ told.0 told.1.0).1)
 
 pub loop-place-smaller-in-GL : goal.loop-place-smaller-in-GL
 loop-place-smaller-in-GL c =
-    let named = c.if-set-ge-NO_SET.false in
-    let told = told_at _ _ _ (c.escape_at.ensures c.if-escape_at.true) c.told-d.ensures named in
-    let some = designation_some _ _ _ told.0 named in omega (arith, some.0, some.1)
+    let told = told_found _ _ _ _ (c.escape_at.ensures c.if-escape_at.true) c.told.ensures c.in-Some.is in
+    let some = designation_some _ _ _ told.0 told.1.0 in omega (arith, some.0, some.1)
 
 pub loop-place-preserved-in-GL : goal.loop-place-preserved-in-GL
 unfolding put
 loop-place-preserved-in-GL c =
-    let named = c.if-set-ge-NO_SET.false in
     let inv = c.loop-place.invariant in
-    let told = told_at _ _ _ (c.escape_at.ensures c.if-escape_at.true) c.told-d.ensures named in (
-      reaches_told _ _ _ _ _ _ _ (after_stretch inv c.stretch_in-u.ensures) _ told.0 named GL c.in-GL.is,
-      c.left_of-high-in-GL.ensures ∙ ap left_of (c.form_after.ensures ∙ sym told.1),
+    let told = told_found _ _ _ _ (c.escape_at.ensures c.if-escape_at.true) c.told.ensures c.in-Some.is in (
+      reaches_told _ _ _ _ _ _ _ (after_stretch inv c.stretch_in-u.ensures) _ told.0 told.1.0 GL c.in-GL.is,
+      c.left_of-high-in-GL.ensures ∙ ap left_of (c.form_after.ensures ∙ sym told.1.1),
       inv.2,
     )
 
 pub loop-place-smaller-in-GR : goal.loop-place-smaller-in-GR
 loop-place-smaller-in-GR c =
-    let named = c.if-set-ge-NO_SET.false in
-    let told = told_at _ _ _ (c.escape_at.ensures c.if-escape_at.true) c.told-d.ensures named in
-    let some = designation_some _ _ _ told.0 named in omega (arith, some.0, some.1)
+    let told = told_found _ _ _ _ (c.escape_at.ensures c.if-escape_at.true) c.told.ensures c.in-Some.is in
+    let some = designation_some _ _ _ told.0 told.1.0 in omega (arith, some.0, some.1)
 
 pub loop-place-preserved-in-GR : goal.loop-place-preserved-in-GR
 unfolding put
 loop-place-preserved-in-GR c =
-    let named = c.if-set-ge-NO_SET.false in
     let inv = c.loop-place.invariant in
-    let told = told_at _ _ _ (c.escape_at.ensures c.if-escape_at.true) c.told-d.ensures named in (
-      reaches_told _ _ _ _ _ _ _ (after_stretch inv c.stretch_in-u.ensures) _ told.0 named GR c.in-GR.is,
+    let told = told_found _ _ _ _ (c.escape_at.ensures c.if-escape_at.true) c.told.ensures c.in-Some.is in (
+      reaches_told _ _ _ _ _ _ _ (after_stretch inv c.stretch_in-u.ensures) _ told.0 told.1.0 GR c.in-GR.is,
       inv.1,
-      c.right_of-low-in-GR.ensures ∙ ap right_of (c.form_after-in-GR.ensures ∙ sym told.1),
+      c.right_of-low-in-GR.ensures ∙ ap right_of (c.form_after-in-GR.ensures ∙ sym told.1.1),
     )
 
 pub returns-then-u-eq0 : goal.returns-then-u-eq0

@@ -1,6 +1,6 @@
 -- `archive::turns::passed` meets its contract: a designation that was found stands within the string, and its set is put on its side.
 use Rattle.element.proofs.Names.{arith, put}
-use Rattle.archive.proofs.Ready.{inside, few_left, no_escape, none_told, told_fits, placed_is}
+use Rattle.archive.proofs.Ready.{inside, few_left, no_escape, none_found, found_fits, found_is}
 use Rattle.archive.proofs.turns.passed.Goals as goal
 use Rattle.archive.proofs.turns.passed.Goals.{then-s-at-lt4-via-then-s-at-lt4, then-s-at-lt4-via-else-s-at-lt4+then-s-at-ne27}
 
@@ -20,26 +20,21 @@ pub bounds-s-at : goal.bounds-s-at
 unfolding put
 bounds-s-at c = inside _ _ c.requires
 
-pub returns-then-set-ge-NO_SET : goal.returns-then-set-ge-NO_SET
+pub returns-in_default : goal.returns-in_default
 unfolding put
-returns-then-set-ge-NO_SET c = none_told _ _ c.requires c.if-s-at-lt4.false c.if-s-at-ne27.false _ c.told-d.ensures
-    c.if-set-ge-NO_SET.true
+returns-in_default c = none_found _ _ c.requires c.if-s-at-lt4.false c.if-s-at-ne27.false _ c.told.ensures c.in_default.not-Some
 
 pub overflow_add-at-7 : goal.overflow_add-at-7
 unfolding put
-overflow_add-at-7 c = let h =
-    told_fits _ _ c.requires c.if-s-at-lt4.false c.if-s-at-ne27.false _ c.told-d.ensures
-    c.if-set-ge-NO_SET.false in
-    omega (arith, h)
+overflow_add-at-7 c =
+    let h = found_fits _ _ c.requires c.if-s-at-lt4.false c.if-s-at-ne27.false _ c.told.ensures _ c.in-Some.is in omega (arith, h)
 
 pub returns-in-GL : goal.returns-in-GL
 unfolding put
 returns-in-GL c = rw c.placed_at-next.ensures
-    (placed_is _ _ c.requires c.if-s-at-lt4.false c.if-s-at-ne27.false _ c.told-d.ensures
-    c.if-set-ge-NO_SET.false _ _ c.in-GL.is c.row_of.ensures)
+    (found_is _ _ c.requires c.if-s-at-lt4.false c.if-s-at-ne27.false _ c.told.ensures _ c.in-Some.is _ _ c.in-GL.is c.row_of.ensures)
 
 pub returns-in-GR : goal.returns-in-GR
 unfolding put
 returns-in-GR c = rw c.placed_at-next.ensures
-    (placed_is _ _ c.requires c.if-s-at-lt4.false c.if-s-at-ne27.false _ c.told-d.ensures
-    c.if-set-ge-NO_SET.false _ _ c.in-GR.is c.row_of-in-GR.ensures)
+    (found_is _ _ c.requires c.if-s-at-lt4.false c.if-s-at-ne27.false _ c.told.ensures _ c.in-Some.is _ _ c.in-GR.is c.row_of-in-GR.ensures)

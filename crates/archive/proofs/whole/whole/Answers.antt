@@ -1,7 +1,9 @@
 -- `archive::whole::whole` meets its contract: at each turn of the loop what is left answers what the whole string does (`Head`). What is passed at
 -- once leads on (`turn_on`), so this holds where the two ways meet, of a mark and of anything else (`ahead`); and the element there is a turn of the
 -- first reader's check.
-use Rattle.element.proofs.Names.{◌≤◌, arith, ◌∙◌, on_lt, on_ge}
+use Rattle.element.proofs.Names.{◌≤◌, arith, ap, refl, ◌∙◌, on_lt, on_ge}
+use Rattle.std.proofs.Common.{Ok}
+use Rattle.state.specs.Elements.{shape_seen}
 use Rattle.grammar.specs.Reading.{check_of}
 use Rattle.check_string.proofs.Turn.{turn_done, turn_ends, turn_refuses, turn_stops}
 use Rattle.archive_laws.proofs.Turn.{HeadBy, first_by, turn_on, refuses_fits, designates_by, goes_by}
@@ -24,7 +26,7 @@ ahead j =
 
 pub returns-then-s-gt-OCTETS : goal.returns-then-s-gt-OCTETS
 unfolding check_of
-returns-then-s-gt-OCTETS c = λ _. on_lt _ _ _ _ _ c.if-s-gt-OCTETS.true c.refused.ensures
+returns-then-s-gt-OCTETS c = λ _. on_lt _ _ _ _ _ c.if-s-gt-OCTETS.true c.at.ensures
 
 pub loop-at-init : goal.loop-at-init
 unfolding check_of
@@ -52,85 +54,89 @@ unfolding check_of
 loop-at-preserved-then-not-settled c = turn_on _ _ _ _ _ c.loop-at.invariant _ c.begun-st.ensures _ _ _
     c.passed-p.ensures
 
-pub returns-in-Ends : goal.returns-in-Ends
+pub returns-in-Ok-Ends : goal.returns-in-Ok-Ends
 unfolding check_of
-returns-in-Ends c = λ is.
-    let here = ahead (goal.at.returns-in-Ends c).Joined-s-at in
-    let h = turn_ends _ _ _ _ (here.0.head is) _ c.shape-shape.ensures c.in-Ends.is in
+returns-in-Ok-Ends c = λ is.
+    let here = ahead (goal.at.returns-in-Ok-Ends c).Joined-s-at in
+    let k = ap (λ x. shape_seen (Ok x)) c.in-Ok-Ends.field-0-is in
+    let h = turn_ends _ _ _ _ (here.0.head is) _ c.in-Ok-Ends.ensures k in
     on_ge _ _ _ _ _ c.if-s-gt-OCTETS.false (c.accepted.ensures ∙ h)
 
-pub overflow_add-place : goal.overflow_add-place
-overflow_add-place c =
-    let here = ahead (goal.at.overflow_add-place c).Joined-s-at in
-    let h = refuses_fits _ _ _ _ _ here.0 _ c.shape-shape.ensures c.in-Refuses.is in
+pub overflow_add-at-in-Err : goal.overflow_add-at-in-Err
+overflow_add-at-in-Err c =
+    let here = ahead (goal.at.overflow_add-at-in-Err c).Joined-s-at in
+    let h = refuses_fits _ _ _ _ _ here.0 _ c.in-Err.ensures refl in
     omega (arith, h)
 
-pub returns-in-Refuses : goal.returns-in-Refuses
+pub returns-in-Err : goal.returns-in-Err
 unfolding check_of
-returns-in-Refuses c = λ is.
-    let here = ahead (goal.at.returns-in-Refuses c).Joined-s-at in
-    let h = turn_refuses _ _ _ _ (here.0.head is) _ c.shape-shape.ensures c.in-Refuses.is in
-    on_ge _ _ _ _ _ c.if-s-gt-OCTETS.false (c.refused-in-Refuses.ensures ∙ h)
+returns-in-Err c = λ is.
+    let here = ahead (goal.at.returns-in-Err c).Joined-s-at in
+    let h = turn_refuses _ _ _ _ (here.0.head is) _ c.in-Err.ensures refl in
+    on_ge _ _ _ _ _ c.if-s-gt-OCTETS.false (c.at-in-Err.ensures ∙ h)
 
 pub overflow_add-at : goal.overflow_add-at
 overflow_add-at c =
     let here = ahead (goal.at.overflow_add-at c).Joined-s-at in
-    let h = designates_by _ _ _ _ _ here.0 _ c.shape-shape.ensures c.in-Designates.is in
+    let k = ap (λ x. shape_seen (Ok x)) c.in-Ok-Designates.field-0-is in
+    let h = designates_by _ _ _ _ _ here.0 _ c.in-Ok-Designates.ensures k in
     omega (arith, h.fits)
 
-pub loop-at-smaller-in-Designates : goal.loop-at-smaller-in-Designates
-loop-at-smaller-in-Designates c =
-    let here = ahead (goal.at.loop-at-smaller-in-Designates c).Joined-s-at in
-    let h = designates_by _ _ _ _ _ here.0 _ c.shape-shape.ensures c.in-Designates.is in
+pub loop-at-smaller-in-Ok-Designates : goal.loop-at-smaller-in-Ok-Designates
+loop-at-smaller-in-Ok-Designates c =
+    let here = ahead (goal.at.loop-at-smaller-in-Ok-Designates c).Joined-s-at in
+    let k = ap (λ x. shape_seen (Ok x)) c.in-Ok-Designates.field-0-is in
+    let h = designates_by _ _ _ _ _ here.0 _ c.in-Ok-Designates.ensures k in
     omega (arith, h.fits, h.some, here.1)
 
-pub loop-at-preserved-in-Designates : goal.loop-at-preserved-in-Designates
-loop-at-preserved-in-Designates c =
-    let here = ahead (goal.at.loop-at-preserved-in-Designates c).Joined-s-at in
-    let h = designates_by _ _ _ _ _ here.0 _ c.shape-shape.ensures c.in-Designates.is in
+pub loop-at-preserved-in-Ok-Designates : goal.loop-at-preserved-in-Ok-Designates
+loop-at-preserved-in-Ok-Designates c =
+    let here = ahead (goal.at.loop-at-preserved-in-Ok-Designates c).Joined-s-at in
+    let k = ap (λ x. shape_seen (Ok x)) c.in-Ok-Designates.field-0-is in
+    let h = designates_by _ _ _ _ _ here.0 _ c.in-Ok-Designates.ensures k in
     rw c.designated-st.ensures h.head
 
-pub returns-in-Stops : goal.returns-in-Stops
+pub returns-in-Err-step : goal.returns-in-Err-step
 unfolding check_of
-returns-in-Stops c = λ is.
-    let here = ahead (goal.at.returns-in-Stops c).Joined-s-at in
-    let h = turn_stops _ _ _ _ (here.0.head is) _ c.shape-shape.ensures c.in-Gives.is c.step-step.ensures
-    c.in-Stops.is in
-    on_ge _ _ _ _ _ c.if-s-gt-OCTETS.false (c.refused-in-Stops.ensures ∙ h)
+returns-in-Err-step c = λ is.
+    let here = ahead (goal.at.returns-in-Err-step c).Joined-s-at in
+    let k = ap (λ x. shape_seen (Ok x)) c.in-Ok-Gives.field-0-is in
+    let h = turn_stops _ _ _ _ (here.0.head is) _ c.in-Ok-Gives.ensures k c.in-Err-step.ensures refl in
+    on_ge _ _ _ _ _ c.if-s-gt-OCTETS.false (c.at-in-Err-step.ensures ∙ h)
 
-pub overflow_add-at-in-Goes : goal.overflow_add-at-in-Goes
-overflow_add-at-in-Goes c =
-    let here = ahead (goal.at.overflow_add-at-in-Goes c).Joined-s-at in
-    let h = goes_by _ _ _ _ _ here.0 _ c.shape-shape.ensures c.in-Gives.is c.step-step.ensures
-    c.in-Goes.is in
+pub overflow_add-at-in-Ok : goal.overflow_add-at-in-Ok
+overflow_add-at-in-Ok c =
+    let here = ahead (goal.at.overflow_add-at-in-Ok c).Joined-s-at in
+    let k = ap (λ x. shape_seen (Ok x)) c.in-Ok-Gives.field-0-is in
+    let h = goes_by _ _ _ _ _ here.0 _ c.in-Ok-Gives.ensures k c.in-Ok.ensures refl in
     omega (arith, h.fits, c.if-s-gt-OCTETS.false)
 
-pub overflow_add-at-in-Goes-2 : goal.overflow_add-at-in-Goes-2
-overflow_add-at-in-Goes-2 c =
-    let here = ahead (goal.at.overflow_add-at-in-Goes-2 c).Joined-s-at in
-    let h = goes_by _ _ _ _ _ here.0 _ c.shape-shape.ensures c.in-Gives.is c.step-step.ensures
-    c.in-Goes.is in
+pub overflow_add-at-in-Ok-2 : goal.overflow_add-at-in-Ok-2
+overflow_add-at-in-Ok-2 c =
+    let here = ahead (goal.at.overflow_add-at-in-Ok-2 c).Joined-s-at in
+    let k = ap (λ x. shape_seen (Ok x)) c.in-Ok-Gives.field-0-is in
+    let h = goes_by _ _ _ _ _ here.0 _ c.in-Ok-Gives.ensures k c.in-Ok.ensures refl in
     omega (arith, h.fits, c.if-s-gt-OCTETS.false)
 
-pub overflow_add-count-in-Goes : goal.overflow_add-count-in-Goes
-overflow_add-count-in-Goes c =
-    let here = ahead (goal.at.overflow_add-count-in-Goes c).Joined-s-at in
-    let h = goes_by _ _ _ _ _ here.0 _ c.shape-shape.ensures c.in-Gives.is c.step-step.ensures
-    c.in-Goes.is in
+pub overflow_add-count-in-Ok : goal.overflow_add-count-in-Ok
+overflow_add-count-in-Ok c =
+    let here = ahead (goal.at.overflow_add-count-in-Ok c).Joined-s-at in
+    let k = ap (λ x. shape_seen (Ok x)) c.in-Ok-Gives.field-0-is in
+    let h = goes_by _ _ _ _ _ here.0 _ c.in-Ok-Gives.ensures k c.in-Ok.ensures refl in
     omega (arith, h.head.few, h.fits, c.if-s-gt-OCTETS.false)
 
 pub loop-at-smaller : goal.loop-at-smaller
 loop-at-smaller c =
     let here = ahead (goal.at.loop-at-smaller c).Joined-s-at in
-    let h = goes_by _ _ _ _ _ here.0 _ c.shape-shape.ensures c.in-Gives.is c.step-step.ensures
-    c.in-Goes.is in
+    let k = ap (λ x. shape_seen (Ok x)) c.in-Ok-Gives.field-0-is in
+    let h = goes_by _ _ _ _ _ here.0 _ c.in-Ok-Gives.ensures k c.in-Ok.ensures refl in
     omega (arith, h.fits, h.some, here.1)
 
 pub loop-at-preserved : goal.loop-at-preserved
 loop-at-preserved c =
     let here = ahead (goal.at.loop-at-preserved c).Joined-s-at in
-    let h = goes_by _ _ _ _ _ here.0 _ c.shape-shape.ensures c.in-Gives.is c.step-step.ensures
-    c.in-Goes.is in
+    let k = ap (λ x. shape_seen (Ok x)) c.in-Ok-Gives.field-0-is in
+    let h = goes_by _ _ _ _ _ here.0 _ c.in-Ok-Gives.ensures k c.in-Ok.ensures refl in
     rw c.directed-st.ensures h.head
 
 pub returns : goal.returns
