@@ -55,15 +55,16 @@ fn put_row(work: &[u8], row: usize, left: bool, segments: &[u8], out: &mut [u8],
     if unit_octets::two_octets(tag) {
         let high = unit_octets::on_side(left, work[row + layout::HIGH]);
         let low = unit_octets::on_side(left, work[row + layout::LOW]);
-        put([high, low], out, at)
-    } else if tag < tag::TAB {
-        let octet = unit_octets::single(tag, left, work[row + layout::LOW]);
-        put([octet], out, at)
-    } else if tag < tag::LEFT_TO_RIGHT {
-        put([unit_octets::control(tag)], out, at)
-    } else {
-        unit_octets::put_other(tag, work, row, segments, out, at)
+        return put([high, low], out, at);
     }
+    if tag < tag::TAB {
+        let octet = unit_octets::single(tag, left, work[row + layout::LOW]);
+        return put([octet], out, at);
+    }
+    if tag < tag::LEFT_TO_RIGHT {
+        return put([unit_octets::control(tag)], out, at);
+    }
+    unit_octets::put_other(tag, work, row, segments, out, at)
 }
 
 // Writes n rows by their plan from the output's first place on, and answers the next place.
@@ -72,13 +73,16 @@ fn emit(work: &[u8], n: usize, segments: &[u8], out: &mut [u8]) -> usize
         × (length (writing (units_in segments.now work.now 0 n) fresh.sets) ≤ length out.old) }
     ensures { Written out.old 0 (writing (units_in segments.now work.now 0 n) fresh.sets) result out.new }
 {
+    // copied: of a static the compiler computes the address at every row
+    let in_gl = PLACES_IN_GL;
+    let in_gr = PLACES_IN_GR;
     let mut k: usize = 1;
     let mut at: usize = 0;
     for i in 0..n {
         let row = layout::ROW * i;
         let x = numbers::class_of(work[row + layout::TAG]);
-        let l = usize::from(PLACES_IN_GL[x]);
-        let r = usize::from(PLACES_IN_GR[x]);
+        let l = usize::from(in_gl[x]);
+        let r = usize::from(in_gr[x]);
         let j = choose(x, k, l, r, work, row);
         let a = unit_octets::put_change(k, j, out, at);
         let left = j / size::COLUMNS == l;

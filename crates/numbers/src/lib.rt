@@ -101,5 +101,15 @@ pub fn chosen(x: usize, k: usize, u: u8, v: u8) -> usize
 pub fn changed(last: usize, x: usize) -> bool
     ensures { result ≡ changes last x }
 {
-    x != class::FREE && x != last && (x != class::SPACE || last != 0)
+    // test by test: of one condition the compiler computes all parts at every row of the plan
+    if x == class::FREE {
+        return false;
+    }
+    if x == last {
+        return false;
+    }
+    if x == class::SPACE {
+        return last != 0;
+    }
+    true
 }

@@ -1,13 +1,8 @@
 -- Stores into a list, place by place, and into a table, column by column.
 use Rattle.element.proofs.Names.{◌≡◌, refl, sym, ap, ap₂, ◌∙◌, subst, List, ◌⊎◌, inl, inr, ⊎_elim, ℕ, ◌+◌, ◌*◌, ◌/◌, ◌%◌, ◌≤◌}
-use Rattle.element.proofs.Names.{◌<◌, ◌-◌, ◌++◌, min, arith, length, get_or, set, take, drop, length-set, length-take, ltb, eqb, ltb-true, ltb-false}
-use Rattle.element.proofs.Names.{eqb-true, eqb-false, test}
+use Rattle.element.proofs.Names.{◌<◌, min, arith, length, get_or, set, length-set, ltb, eqb, ltb-true, ltb-false, eqb-true, eqb-false, test}
 use lib.Seq.{get_or-set_same, get_or-set_other}
-use lib.ListN.{get_or-append}
-use borrow.Rule.Slice.PartMut.{put_mid, post_of}
-use Rattle.std.proofs.Common.{rules}
-use Rattle.std.proofs.lemmas.List.{places, get_or-append_right, get_or-take, get_or-drop}
-use Rattle.table.specs.Table.{FilledTo, PlacesFilled, ColumnFilled, Columns, Swept, ColumnRead, from_gl}
+use Rattle.table.specs.Table.{FilledTo, ColumnFilled, Columns, Swept, ColumnRead, from_gl}
 
 below_cases : (j k : ℕ) → j < k + 1 → (j < k) ⊎ (j ≡ k)
 below_cases j k h = test (ltb j k) (λ e. inl (ltb-true j k e)) (λ e. inr (let l = ltb-false j k e in omega arith))
@@ -35,33 +30,10 @@ pub filled_end : {place f : ℕ → ℕ} {k : ℕ} {before after : List ℕ} (m 
     → FilledTo place f m before after
 filled_end {place} {f} {k} {before} {after} m s l h = subst (λ (i : ℕ). FilledTo place f i before after) (omega arith) s
 
--- a part of n places that is written whole
-pub filled_part : (at n k : ℕ) (f : ℕ → ℕ) (before part : List ℕ) → k ≡ n → length part ≡ n → at + n ≤ length before
-    → ((r : ℕ) → r < n → get_or part r 0 ≡ f r)
-    → PlacesFilled f at n before (put_mid at k before part)
-filled_part at n k f before part ek el h e = record { there = there; kept = kept; long = search (rules, places) }
-  where
-    tail : List ℕ
-    tail = part ++ post_of at k before
-
-    fits : length (take at before) ≡ at
-    fits = length-take at before ∙ omega arith
-
-    there : (r : ℕ) → r < n → get_or (take at before ++ tail) (at + r) 0 ≡ f r
-    there r l =
-        get_or-append_right (take at before) tail at (at + r) 0 fits (omega arith)
-        ∙ ap (λ (i : ℕ). get_or tail i 0) (let z : at + r - at ≡ r = omega arith in z) ∙ get_or-append part (post_of at k before) 0 r (omega arith) ∙ e r l
-
-    kept : (p : ℕ) → ((r : ℕ) → r < n → p ≡ at + r → ⊥) → get_or (take at before ++ tail) p 0 ≡ get_or before p 0
-    kept p apart =
-        test (ltb p at)
-        (λ q. let l = ltb-true p at q in get_or-append (take at before) tail 0 p (omega (arith, fits)) ∙ get_or-take at before p 0 l)
-        (λ q. let l = ltb-false p at q in
-        test (ltb p (at + n)) (λ w. let m = ltb-true p (at + n) w in absurd (apart (p - at) (omega arith) (omega arith)))
-        (λ w. let m = ltb-false p (at + n) w in
-        get_or-append_right (take at before) tail at p 0 fits l ∙ get_or-append_right part (post_of at k before) n (p - at) 0 el (omega arith)
-        ∙ get_or-drop k (drop at before) (p - at - n) 0 ∙ get_or-drop at before (k + (p - at - n)) 0
-        ∙ ap (λ (i : ℕ). get_or before i 0) (let z : at + (k + (p - at - n)) ≡ p = omega arith in z)))
+-- what is read first is what is then stored
+pub filled_same : {place f g : ℕ → ℕ} {m : ℕ} {before after : List ℕ} → ((r : ℕ) → r < m → f r ≡ g r) → FilledTo place f m before after
+    → FilledTo place g m before after
+filled_same e s = record { there = λ r h. s.there r h ∙ e r h; kept = s.kept; long = s.long }
 
 -- ---- columns that are computed from what they hold
 

@@ -49,6 +49,11 @@ pub record ColumnRead (costs : List ℕ) (r : ℕ) (added : List ℕ) : Type 0 w
   pub five : length added ≡ size.gl
   pub each : (g : ℕ) → g < size.gl → get_or added g 0 ≡ get_or costs (size.columns * g + r) 0
 
+-- 16 costs from a place on
+pub record RowRead (costs : List ℕ) (from : ℕ) (row : List ℕ) : Type 0 where
+  pub sixteen : length row ≡ size.columns
+  pub each : (r : ℕ) → r < size.columns → get_or row r 0 ≡ get_or costs (from + r) 0
+
 -- a column before a unit that GL alone serves, from the costs a and b with sets 0 and 2 in GL, and from what each costs more
 abbrev pub from_gl : ℕ → ℕ → ℕ → ℕ → ℕ → List ℕ
 from_gl a p b q price =

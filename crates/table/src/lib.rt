@@ -2,7 +2,7 @@
 #![tactic(auto)]
 
 ghost use Rattle.std.specs.Prelude.{◌≡◌, cond, ◌+◌, ◌-◌, ◌*◌, ◌%◌, ◌≤◌, ◌<◌, min, eqb, length, get_or};
-ghost use Rattle.table.specs.Table.{FilledTo, PlacesFilled, Charges, ColumnRead, Kept};
+ghost use Rattle.table.specs.Table.{FilledTo, PlacesFilled, Charges, ColumnRead, RowRead, Kept};
 ghost use Rattle.numbers.specs.Size as sizes;
 
 use numbers::{class, size};
@@ -38,12 +38,28 @@ pub fn column(costs: &[u8; size::NUMBERS], r: usize) -> [u8; size::GL]
     ]
 }
 
-// Keeps 16 costs, from a place on.
+// The 16 costs from a place on.
+fn row_of(costs: &[u8; size::NUMBERS], from: usize) -> [u8; size::COLUMNS]
+    requires { from + sizes.columns ≤ sizes.numbers }
+    ensures { RowRead costs.now from result }
+{
+    let mut row = [0u8; size::COLUMNS];
+    for r in 0..size::COLUMNS {
+        row[r] = costs[from + r];
+    }
+    row
+}
+
+// Keeps 16 costs, from a place on. Through an array of its own, which cannot lie in the work room: so the compiler stores all 16 at once, where
+// by `copy_from_slice` it tests first whether the two overlap.
 fn keep_row(cur: &[u8; size::NUMBERS], from: usize, work: &mut [u8], at: usize)
     requires { (from + sizes.columns ≤ sizes.numbers) × (at + sizes.columns ≤ length work.old) }
     ensures { PlacesFilled (λ r. get_or cur.now (from + r) 0) at sizes.columns work.old work.new }
 {
-    work[at..at + size::COLUMNS].copy_from_slice(&cur[from..from + size::COLUMNS]);
+    let row = row_of(cur, from);
+    for r in 0..size::COLUMNS {
+        work[at + r] = row[r];
+    }
 }
 
 // Keeps the costs of the five rows in a column.

@@ -114,7 +114,8 @@ fn part(segments: &[u8], start: usize, n: usize) -> &[u8]
     &rest[..n.min(rest.len())]
 }
 
-// Stores an extended segment of d and a part.
+// Stores an extended segment of d and a part. Not put into its caller: there it takes registers of the loop over the rows (`emit`).
+#[inline(never)]
 fn put_segment(d: u8, part: &[u8], out: &mut [u8], at: usize) -> usize
     requires { length part.now ≤ 16383 }
     ensures { Stored out.old at (octets GL (ext d part.now)) result out.new }

@@ -51,7 +51,7 @@ returns-then-tag-lt-LEFT_TO_RIGHT c = let args = c.args in
     c.if-tag-lt-TAB.false c.if-tag-lt-LEFT_TO_RIGHT.true)
     c.put-then-tag-lt-LEFT_TO_RIGHT.ensures
 
-pub returns-else-tag-lt-LEFT_TO_RIGHT : goal.returns-else-tag-lt-LEFT_TO_RIGHT
-returns-else-tag-lt-LEFT_TO_RIGHT c = let args = c.args in
+pub returns : goal.returns
+returns c = let args = c.args in
     let e = other_octets args.segments.now args.work.now args.row _ c.if-tag-lt-TAB.false in
     written_as e (stored_written (room_as e _ c.requires.1) c.put_other.ensures)

@@ -1,11 +1,13 @@
--- `table::keep_row` meets its contract: a part is written whole.
-use Rattle.element.proofs.Names.{arith, ap, ◌∙◌, List, ℕ, get_or}
-use Rattle.std.proofs.Common.{rules}
-use Rattle.std.proofs.lemmas.List.{places}
-use Rattle.table.proofs.Filled.{filled_part}
+-- `table::keep_row` meets its contract. The invariant: the first r costs of the row are kept.
+use Rattle.element.proofs.Names.{arith, refl}
+use Rattle.table.proofs.Filled.{filled_none, filled_more, filled_end, filled_same}
 use Rattle.table.proofs.keep_row.Goals as goal
 
+pub loop-r-init : goal.loop-r-init
+loop-r-init c = filled_none _ _ _
+
+pub loop-r-preserved : goal.loop-r-preserved
+loop-r-preserved c = filled_more _ _ _ _ _ _ (λ q h z. omega arith) c.loop-r.invariant (omega arith) refl
+
 pub returns : goal.returns
-returns c = let copied = c.copy_from_slice.ensures.after in
-    filled_part _ 16 _ _ _ _ (omega arith) (omega (arith, c.copy_from_slice.ensures.len))
-    (omega arith) (λ r h. ap (λ (l : List ℕ). get_or l r 0) copied ∙ search (rules, places))
+returns c = filled_same c.row_of-row.ensures.each (filled_end 16 c.loop-r.invariant (search arith) (search arith))

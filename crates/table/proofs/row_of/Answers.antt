@@ -1,0 +1,13 @@
+-- `table::row_of` meets its contract. The invariant: the first r costs are there.
+use Rattle.element.proofs.Names.{arith, refl}
+use Rattle.table.proofs.Filled.{filled_none, filled_more, filled_end}
+use Rattle.table.proofs.row_of.Goals as goal
+
+pub loop-r-init : goal.loop-r-init
+loop-r-init c = filled_none _ _ _
+
+pub loop-r-preserved : goal.loop-r-preserved
+loop-r-preserved c = filled_more _ _ _ _ _ _ (λ q h z. omega arith) c.loop-r.invariant (omega (arith, c.loop-r.invariant.long)) refl
+
+pub returns : goal.returns
+returns c = record { sixteen = c.loop-r.invariant.long; each = (filled_end 16 c.loop-r.invariant (search arith) (search arith)).there }
