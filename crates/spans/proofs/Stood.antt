@@ -1,7 +1,8 @@
 -- The units of a span are those that `advance` gives, one after another from the cursor on (`span_turns`). For what the octets are taken for is
 -- what `advance` takes them for, and a tab or a newline is the element that stands there. A span has one unit or more (`span_first`) and
 -- no more than are asked for (`span_most`), and they are in the string (`span_fits`). Characters of two octets in GL and in GR are one case (`Twos`).
-use Rattle.element.proofs.Names.{ℕ, zero, suc, ◌+◌, ◌-◌, ◌*◌, ◌/◌, ◌%◌, ◌^◌, ◌≤◌, ◌<◌, arith, ◌≡◌, refl, ap, sym, ◌∙◌, Bool, true, false, false≢true, List, ◌∷◌, ◌⊎◌, inl, inr}
+use Rattle.element.proofs.Names.{ℕ, zero, suc, ◌+◌, ◌-◌, ◌*◌, ◌/◌, ◌%◌, ◌^◌, ◌≤◌, ◌<◌, arith, ◌≡◌, refl, ap, sym, ◌∙◌, Bool, true, false, false≢true, List}
+use Rattle.element.proofs.Names.{◌∷◌, ◌⊎◌, inl, inr}
 use Rattle.element.proofs.Names.{eqb, leb, ltb, length, get_or, eqb-true, ltb-true, ltb-false, leb-true, leb-false, le-ltb, le-leb, pick, off, test, tested}
 use Rattle.element.proofs.Names.{pick_by, pick_last, from, on_false, on_ne, on_lt, on_ge, from_octet, UnitRecord, no_set, first_double, step_of, part}
 use Rattle.element.proofs.Names.{State, Sets, Found}
@@ -21,7 +22,8 @@ use Rattle.cursor.specs.Cursor.{octet_of, quick_of, text_turn, advance_at, advan
 use Rattle.cursor.specs.declared.Cursor.{Cursor}
 use Rattle.cursor.specs.declared.Turn.{Turn}
 use Rattle.cursor.proofs.Rules.{on_mark, on_quick, on_text, on_double, on_advance}
-use Rattle.spans.specs.Spans.{any, ones, left_twos, right_twos, single_under, left_first, has_two, form_at, lesser_of, any_of, of_form, twos_of, by_form, span_of, Fits, is_two}
+use Rattle.spans.specs.Spans.{any, ones, left_twos, right_twos, single_under, left_first, has_two, form_at, lesser_of, any_of, of_form, twos_of}
+use Rattle.spans.specs.Spans.{by_form, span_of, Fits, is_two}
 use Rattle.spans.specs.Spans.{moved_by, moved_of, stands_by, stands_after, one_unit_at, two_octet_unit_at, unit_by, unit_after}
 use Rattle.spans.specs.declared.Form.{Form}
 use Rattle.spans.specs.declared.Span.{Span}

@@ -1,8 +1,8 @@
 // Stretches of units of one width that leave the state as it is.
 ghost use Rattle.std.specs.Prelude.{◌≡◌, true, ◌+◌, ◌*◌, ◌^◌, ◌≤◌, ◌<◌, length};
 ghost use Rattle.base.specs.Choice.{from};
-ghost use Rattle.stretch.specs.Characters.{number, gl_octet, graphic_on, gr_octet, single_of, one_at, two_at, Within, Four, Filled, Along, singles_of, pairs_of};
-ghost use Rattle.stretch.specs.Characters.{settled_of, stretch, twos_of, by_forms_of, stretch_at};
+ghost use Rattle.stretch.specs.Characters.{gl_octet, graphic_on, gr_octet, single_of, one_at, two_at, Within, Four, Filled, Along, singles_of, pairs_of};
+ghost use Rattle.stretch.specs.Characters.{number, settled_of, stretch, twos_of, by_forms_of, stretch_at};
 
 use charset::{FORM_94, FORM_94X94, FORM_96, Side};
 use state::State;
