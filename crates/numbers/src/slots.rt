@@ -23,7 +23,7 @@ pub fn after_first(x: usize, k: usize) -> usize
     }
 }
 
-// The number after the second.
+// The number after the second. No one function with the first: they ask the sides in another order, so it would take a flag and test it.
 #[tactic(auto, using(base::proofs::Ladder::ladder), unfolding(crate::specs::Numbers::after_second))]
 pub fn after_second(x: usize, k: usize) -> usize
     ensures { result ≡ after_second x k }
