@@ -3,6 +3,7 @@
 #![tactic(auto)]
 
 use base::{Answer, Unit};
+use reader::Item;
 use state::directions::Directions;
 use state::{Sets, State};
 use std::io;
