@@ -151,7 +151,7 @@ fn list_quickly(s: &[u8], l: Stand, out: &mut [u64]) -> Stand
 fn end_of(n: usize, k: usize, answer: Answer) -> Answer
     ensures { result ≡ end_of n k answer }
 {
-    if k == 0 && answer.number != Refusal::BadUnit {
+    if k == 0 && answer.number != Refusal::BadUnit.number() {
         answer
     } else {
         Answer::accepted(n, k)
