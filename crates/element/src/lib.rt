@@ -53,15 +53,15 @@ pub fn stepped(part: Part, st: State, step: Result<Directions, Refusal>) -> Resu
 
 // A shape under a state: a designation changes the sets alone, and a unit, by the direction rule, the directions alone.
 #[tactic(auto, unfolding(crate::specs::Element::directed_of))]
-pub fn directed(
-    shape: Result<Shape, Refused>,
-    st: State,
-) -> Result<Element, Refused>
+pub fn directed(shape: Result<Shape, Refused>, st: State) -> Result<Element, Refused>
     ensures { element_seen result ≡ directed_of (shape_seen shape) st }
 {
     match shape? {
         Shape::Ends => Ok(Element::End),
-        Shape::Designates(octets, side, set) => Ok(Element::Silent(octets, st.designated(side, set))),
+        Shape::Designates(octets, side, set) => Ok(Element::Silent(
+            octets,
+            st.designated(side, set),
+        )),
         Shape::Gives(part) => {
             let step = st.directions.step(part.text, part.kind);
             stepped(part, st, step)

@@ -45,7 +45,13 @@ pub fn character(set: u8, code: u16, directions: Directions) -> Result<Direction
 }
 
 // An extended segment of n octets that start at a place of those lent.
-pub fn segment(d: u16, start: usize, n: usize, segments: &[u8], directions: Directions) -> Result<Directions, Refusal>
+pub fn segment(
+    d: u16,
+    start: usize,
+    n: usize,
+    segments: &[u8],
+    directions: Directions,
+) -> Result<Directions, Refusal>
     ensures { step_seen result ≡ pick (leb (start + n) (length segments.now))
         (fault (some (ext d (take n (drop start segments.now)))) directions) (Stops refusals.bad_unit) }
 {

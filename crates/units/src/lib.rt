@@ -58,8 +58,7 @@ fn record(part: Part, at: usize, directions: Directions) -> Unit
 }
 
 // The next unit from a place and a state on.
-#[tactic(auto, using(base::proofs::Ladder::ladder, base::proofs::Ladder::after, crate::proofs::Turn::gives_end, crate::proofs::Turn::gives_refused,
-    crate::proofs::Turn::gives_silent, crate::proofs::Turn::gives_found), unfolding(crate::specs::Next::next_of))]
+#[tactic(auto, using(base::proofs::Ladder::ladder, base::proofs::Ladder::after, crate::proofs::Turn::gives_end, crate::proofs::Turn::gives_refused, crate::proofs::Turn::gives_silent, crate::proofs::Turn::gives_found), unfolding(crate::specs::Next::next_of))]
 pub fn next_unit(s: &[u8], place: usize, state: State) -> Result<Given, Stopped>
     ensures { outcome_seen result ≡ next_of s.now place state }
 {

@@ -14,4 +14,4 @@ returns-in-Err c = stopped_as _ _ _ _ _ _ c.in-Err.ensures refl c.at.ensures
 
 pub returns-in-Ok : goal.returns-in-Ok
 unfolding stop_at
-returns-in-Ok c = stopped_found _ _ _ _ c.in-Ok.ensures c.at-2.ensures
+returns-in-Ok c = stopped_found _ _ _ _ c.in-Ok.ensures c.at-in-Ok.ensures
