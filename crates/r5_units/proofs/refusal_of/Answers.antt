@@ -1,5 +1,5 @@
 -- `r5_units::refusal_of` meets its contract.
-use Rattle.element.proofs.Names.{arith, ap, refl, sym, ◌∙◌}
+use Rattle.element.proofs.Names.{ap, refl, sym, ◌∙◌}
 use Rattle.r5_units.proofs.Refusals.{single_accepted, plain_accepted, goes_by_kind, stops_bad, stops_by_kind, is_bad_unit, no_bad_unit}
 use Rattle.state.specs.Directions.{step_seen}
 use Rattle.r5_units.proofs.refusal_of.Goals as goal

@@ -4,7 +4,7 @@ use Rattle.base.proofs.Ladder.{after}
 use Rattle.element.proofs.Sizes.{silent, found}
 use Rattle.grammar.proofs.Places.{refused_within, step_passed}
 use Rattle.state.specs.Elements.{element_seen}
-use Rattle.std.proofs.Common.{Ok, Err}
+use Rattle.std.proofs.Common.{Ok}
 use Rattle.units.proofs.Turn.{gives_found, gives_refused}
 use Rattle.units.specs.Next.{next_of}
 use Rattle.units.proofs.next_unit.Goals as goal

@@ -1,5 +1,5 @@
 -- `stepping::stopped` meets its contract, element by element; the place of a refusal lies in the string.
-use Rattle.element.proofs.Names.{arith, refl, ◌∙◌}
+use Rattle.element.proofs.Names.{arith, refl}
 use Rattle.grammar.proofs.Places.{refused_within}
 use Rattle.runs.specs.Steps.{stop_at}
 use Rattle.runs.proofs.Steps.{stopped_as, stopped_found}
