@@ -7,39 +7,46 @@ use base::{Unit, kind};
 use rows::{layout, tag};
 
 // Whether a record can stand in a row.
-#[tactic(auto, unfolding(rows::specs::Stowable::stowable_of, base::specs::Choice::pick))]
 pub fn stowable(unit: Unit) -> bool
     ensures { result ≡ stowable_of unit }
 {
     if unit.kind == kind::SEGMENT {
-        return matches!(unit.code, 0x30..=0x34) && unit.length <= 16383;
+        if unit.code < 0x30 {
+            return false;
+        }
+        if unit.code <= 0x34 {
+            return unit.length <= 16383;
+        }
+        return false;
     }
-    unit.kind < kind::SEGMENT
+    unit.kind <= kind::SEGMENT
 }
 
 // The tag of a record.
-#[tactic(auto, unfolding(rows::specs::Rows::tag_of, base::specs::Choice::pick))]
 fn tag_of(unit: Unit) -> u8
     requires { Stowable unit }
     ensures { result ≡ tag_of unit }
 {
-    match unit.kind {
-        kind::CHARACTER => unit.set,
-        kind::SEGMENT => (unit.code - tag::D) as u8,
-        _ => tag::KIND + unit.kind,
+    let kind = unit.kind;
+    if kind == kind::CHARACTER {
+        return unit.set;
     }
+    if kind == kind::SEGMENT {
+        return (unit.code - tag::D) as u8;
+    }
+    tag::KIND + kind
 }
 
 // The number beside it.
-#[tactic(auto, unfolding(rows::specs::Rows::number_of, base::specs::Choice::pick))]
 fn number_of(unit: Unit) -> u16
     requires { Stowable unit }
     ensures { result ≡ number_of unit }
 {
-    match unit.kind {
-        kind::SEGMENT => unit.length as u16,
-        _ => unit.code,
+    let kind = unit.kind;
+    if kind == kind::SEGMENT {
+        return unit.length as u16;
     }
+    unit.code
 }
 
 // Puts a record into row i, where the work room has that row.

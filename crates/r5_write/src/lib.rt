@@ -10,16 +10,20 @@ use record_rules::plain::plain;
 
 // How many of the first n records the quick check lets through, up to the first that it does not. In a loop of its own, so that the compiler keeps all
 // that it needs in registers.
+// By an index: the writer took 1.1 times as long with a `for`.
 fn plain_run(units: &[Unit], n: usize) -> usize
     requires { n ≤ length units.now }
     ensures { result ≡ quick_run units.now n 0 }
 {
-    for i in 0..n {
-        if !plain(units[i]) {
+    let mut i: usize = 0;
+    while i < n {
+        if plain(units[i]) {
+            i += 1;
+        } else {
             return i;
         }
     }
-    n
+    i
 }
 
 // Writes the units of a list as an X11R5 string with its 00, or answers why not. The octets of segments only tell what an extended segment is refused for.
@@ -30,8 +34,10 @@ pub fn write(units: &[Unit], segments: &[u8], out: &mut [u8]) -> Answer
     let n = check_list::looked_at(units.len());
     let run = plain_run(units, r5_pen::looked_first(n, out.len()));
     let mut pen = r5_pen::begin(run, n, out.len());
-    while pen.index < n {
-        pen = r5_pen::turn(pen, units[pen.index], n, segments, out);
+    let mut i = pen.index;
+    while i < n {
+        pen = r5_pen::turn(pen, units[i], n, segments, out);
+        i = pen.index;
     }
     r5_pen::finish(pen, units.len(), out)
 }

@@ -18,23 +18,24 @@ pub fn answer(s: &[u8], room: usize) -> Answer
     ensures { result ≡ read_answer s.now room }
 {
     let a = check_string::answer(s);
-    if a.number == refusal::ACCEPTED && room < a.count {
-        Answer::no_room(a.count)
-    } else {
-        a
+    if a.number == refusal::ACCEPTED {
+        if room < a.count {
+            return Answer::no_room(a.count);
+        }
+        return a;
     }
+    a
 }
 
 // How many records an answer stores.
-#[tactic(auto, using(base::proofs::Ladder::ladder), unfolding(crate::specs::Listing::stored_of))]
 fn stored(a: Answer) -> usize
     ensures { result ≡ stored_of a }
 {
-    if a.number == refusal::ACCEPTED {
-        a.count
-    } else {
-        0
+    let number = a.number;
+    if number == refusal::ACCEPTED {
+        return a.count;
     }
+    0
 }
 
 // Stores the units of a span from a place of the list on, and answers how many.
@@ -43,13 +44,17 @@ fn fill(s: &[u8], r: Span, units: &mut [Unit], start: usize) -> usize
     ensures { (result ≡ count_from s.now r r.most 0)
         × (units.new ≡ stored_from s.now r start r.most 0 units.old) }
 {
-    for j in 0..r.most {
-        if !stands_at(s, r, j) {
+    let n = r.most;
+    let mut j: usize = 0;
+    while j < n {
+        if stands_at(s, r, j) {
+            units[start + j] = nth(s, r, j);
+            j += 1;
+        } else {
             return j;
         }
-        units[start + j] = nth(s, r, j);
     }
-    r.most
+    j
 }
 
 // The units of a string are stored from the list's first place on, and the rest of it stays; a refusal stores none.

@@ -1,24 +1,28 @@
 // The units of a span by their number: whether one stands there, and its record.
-ghost use Rattle.std.specs.Prelude.{◌≡◌, ◌+◌, ◌*◌, ◌<◌, ◌^◌, true, leb, length, get_or};
+ghost use Rattle.std.specs.Prelude.{◌≡◌, ◌+◌, ◌*◌, ◌<◌, ◌^◌, leb, length, get_or};
 ghost use Rattle.state.specs.State.{sets};
-ghost use Rattle.spans.specs.Spans.{ones, is_two, single_under, left_first, Fits, moved_of, stands_after, one_unit_at, two_octet_unit_at, unit_after};
+ghost use Rattle.spans.specs.Spans.{ones, single_under, left_first, Fits, moved_of, stands_after, one_unit_at, two_octet_unit_at, unit_after};
 
 use base::Unit;
 use cursor::octets::{one_octet, two_octets};
 use cursor::{Cursor, set_at};
-use spans::{Form, Span, left_first, single};
+use spans::{LEFT_TWOS, ONES, RIGHT_TWOS, Span, left_first, single};
 
 // The cursor after j units of a span.
 pub fn moved(r: Span, j: usize) -> Cursor
-    requires { (r.form ≡ ones → r.cursor.place + j < 2 ^ 64) × (is_two r.form ≡ true → r.cursor.place + 2 * j < 2 ^ 64) }
+    requires { (r.form ≡ ones → r.cursor.place + j < 2 ^ 64) × (ones < r.form → r.cursor.place + 2 * j < 2 ^ 64) }
     ensures { result ≡ moved_of r j }
 {
     let c = r.cursor;
-    match r.form {
-        Form::Any => c.placed_at(c.place),
-        Form::Ones => c.placed_at(c.place + j),
-        Form::LeftTwos | Form::RightTwos => c.placed_at(c.place + 2 * j),
+    if r.form == ONES {
+        let place = c.place + j;
+        return c.placed_at(place);
     }
+    if ONES < r.form {
+        let place = c.place + 2 * j;
+        return c.placed_at(place);
+    }
+    c.placed_at(c.place)
 }
 
 // The octet at a place, as `single` and `left_first` take it, and as the first of two in GR. Each reads it by itself, so that the compiler
@@ -50,12 +54,16 @@ pub fn stands_at(s: &[u8], r: Span, j: usize) -> bool
     ensures { result ≡ stands_after s.now r j }
 {
     let c = r.cursor;
-    match r.form {
-        Form::Any => true,
-        Form::Ones => single_at(s, c.place + j, c.gl, c.gr),
-        Form::LeftTwos => left_at(s, c.place + 2 * j),
-        Form::RightTwos => right_at(s, c.place + 2 * j),
+    if r.form == ONES {
+        return single_at(s, c.place + j, c.gl, c.gr);
     }
+    if r.form == LEFT_TWOS {
+        return left_at(s, c.place + 2 * j);
+    }
+    if r.form == RIGHT_TWOS {
+        return right_at(s, c.place + 2 * j);
+    }
+    true
 }
 
 // The units at a place, in the state of a cursor, whose direction does not change within a span.
@@ -80,10 +88,14 @@ pub fn nth(s: &[u8], r: Span, j: usize) -> Unit
     ensures { result ≡ unit_after s.now r j }
 {
     let c = r.cursor;
-    match r.form {
-        Form::Any => r.unit,
-        Form::Ones => one(s, c.place + j, c),
-        Form::LeftTwos => two(s, c.place + 2 * j, c.gl, c),
-        Form::RightTwos => two(s, c.place + 2 * j, c.gr, c),
+    if r.form == ONES {
+        return one(s, c.place + j, c);
     }
+    if r.form == LEFT_TWOS {
+        return two(s, c.place + 2 * j, c.gl, c);
+    }
+    if r.form == RIGHT_TWOS {
+        return two(s, c.place + 2 * j, c.gr, c);
+    }
+    r.unit
 }

@@ -1,7 +1,7 @@
 // A quick check of characters and spaces. The set gives the bounds, and one test serves all sets: a processor cannot foresee a test whose
 // outcome changes from word to word.
 ghost use Rattle.std.specs.Prelude.{◌≡◌};
-ghost use Rattle.record_rules.specs.Plain.{used_by, plain_of, settled_by_text};
+ghost use Rattle.record_rules.specs.Plain.{used_by, set_by, code_by, plain_of, settled_by_text};
 
 use base::{Unit, kind};
 use charset::NO_SET;
@@ -9,7 +9,6 @@ use state::directions::Directions;
 
 // Whether both octets of a code lie in the bounds of its set. Each octet is measured from its lowest, round the 256, so that one that is
 // too low is too high. The bounds are computed from the set, and not chosen by tests, of which the compiler would make branches.
-#[tactic(auto, unfolding(crate::specs::Plain::used_by, base::specs::Choice::pick))]
 fn used(set: u8, code: u16) -> bool
     ensures { result ≡ used_by set code }
 {
@@ -20,27 +19,43 @@ fn used(set: u8, code: u16) -> bool
     let two_octets = (set as u32 + 4) / 16;
     let wider = (set as u32 + 13) / 16 - two_octets;
     let low = (code as u32 % 256 + 223 + wider) % 256;
+    if 0x5D + 2 * wider < low {
+        return false;
+    }
     let high = (code as u32 / 256 + 256 - 0x21 * two_octets) % 256;
-    low <= 0x5D + 2 * wider && high <= 0x5D * two_octets
+    high <= 0x5D * two_octets
 }
 
-// Whether a record is a space, or a character whose set uses its code. A space is looked at as the first character of set 0.
-#[tactic(auto, unfolding(crate::specs::Plain::plain_of, crate::specs::Plain::set_by, crate::specs::Plain::code_by, base::specs::Choice::pick))]
+// A space is looked at as the first character of set 0.
+fn set_by(kind: u8, set: u8) -> u8
+    ensures { result ≡ set_by kind set }
+{
+    if kind == kind::SPACE { 0 } else { set }
+}
+
+fn code_by(kind: u8, code: u16) -> u16
+    ensures { result ≡ code_by kind code }
+{
+    if kind == kind::SPACE { 0x21 } else { code }
+}
+
+// Whether a record is a space, or a character whose set uses its code.
 pub fn plain(unit: Unit) -> bool
     ensures { result ≡ plain_of unit }
 {
-    let (set, code) = if unit.kind == kind::SPACE {
-        (0, 0x21)
-    } else {
-        (unit.set, unit.code)
-    };
-    unit.kind <= kind::SPACE && used(set, code)
+    let kind = unit.kind;
+    if kind <= kind::SPACE {
+        return used(set_by(kind, unit.set), code_by(kind, unit.code));
+    }
+    false
 }
 
 // Whether text leaves the directions as they are: there was no mark, and there was text.
-#[tactic(auto, unfolding(crate::specs::Plain::settled_by_text, base::specs::Choice::pick))]
 pub fn settled(directions: Directions) -> bool
     ensures { result ≡ settled_by_text directions }
 {
-    !directions.marked && directions.texted
+    if directions.marked {
+        return false;
+    }
+    directions.texted
 }

@@ -1,12 +1,10 @@
 -- The units of a span are those that `advance` gives, one after another from the cursor on (`span_turns`). For what the octets are taken for is
 -- what `advance` takes them for, and a tab or a newline is the element that stands there. A span has one unit or more (`span_first`) and
 -- no more than are asked for (`span_most`), and they are in the string (`span_fits`). Characters of two octets in GL and in GR are one case (`Twos`).
-use Rattle.element.proofs.Names.{ℕ, zero, suc, ◌+◌, ◌-◌, ◌*◌, ◌/◌, ◌%◌, ◌^◌, ◌≤◌, ◌<◌, arith, ◌≡◌, refl, ap, sym, ◌∙◌, Bool, true, false, false≢true, List}
-use Rattle.element.proofs.Names.{◌∷◌, ◌⊎◌, inl, inr}
+use Rattle.element.proofs.Names.{ℕ, zero, suc, ◌+◌, ◌-◌, ◌*◌, ◌/◌, ◌%◌, ◌^◌, ◌≤◌, ◌<◌, arith, ◌≡◌, refl, ap, sym, ◌∙◌, Bool, true, false, List, ◌∷◌}
 use Rattle.element.proofs.Names.{eqb, leb, ltb, length, get_or, eqb-true, ltb-true, ltb-false, leb-true, leb-false, le-ltb, le-leb, pick, off, test, tested}
 use Rattle.element.proofs.Names.{pick_by, pick_last, from, on_false, on_ne, on_lt, on_ge, from_octet, UnitRecord, no_set, first_double, step_of, part}
 use Rattle.element.proofs.Names.{State, Sets, Found}
-use Rattle.std.proofs.Common.{min}
 use Rattle.state.specs.Directions.{in_force_of}
 use native.Mathlib.Nat.{mod-eq_of_lt}
 use Rattle.base.specs.Kind as kind
@@ -22,10 +20,8 @@ use Rattle.cursor.specs.Cursor.{octet_of, quick_of, text_turn, advance_at, advan
 use Rattle.cursor.specs.declared.Cursor.{Cursor}
 use Rattle.cursor.specs.declared.Turn.{Turn}
 use Rattle.cursor.proofs.Rules.{on_mark, on_quick, on_text, on_double, on_advance}
-use Rattle.spans.specs.Spans.{any, ones, left_twos, right_twos, single_under, left_first, has_two, form_at, lesser_of, any_of, of_form, twos_of}
-use Rattle.spans.specs.Spans.{by_form, span_of, Fits, is_two}
-use Rattle.spans.specs.Spans.{moved_by, moved_of, stands_by, stands_after, one_unit_at, two_octet_unit_at, unit_by, unit_after}
-use Rattle.spans.specs.declared.Form.{Form}
+use Rattle.spans.specs.Spans.{any, ones, left_twos, right_twos, single_under, left_first, has_two, form_at, lesser_of, any_of, of_form, by_form, span_of, Fits}
+use Rattle.spans.specs.Spans.{moved_of, stands_after, one_unit_at, two_octet_unit_at, unit_after}
 use Rattle.spans.specs.declared.Span.{Span}
 
 -- ---- what an octet is taken for
@@ -153,25 +149,6 @@ least m n =
     pick_by (λ x. (x ≤ m) × ((x ≤ n) × (1 ≤ m → 1 ≤ n → 1 ≤ x))) (ltb m n) (λ e. (omega arith, (omega (tested, e), λ i j. i)))
     (λ e. (omega (tested, e), (omega arith, λ i j. j)))
 
--- the library's lesser of two numbers is the definition's
-pub lesser_min : (m n : ℕ) → min m n ≡ lesser_of m n
-unfolding lesser_of
-lesser_min m n =
-    test (ltb m n) (λ e. on_lt m n _ _ _ (ltb-true m n e) (omega (arith, ltb-true m n e)))
-    (λ e. on_ge m n _ _ _ (ltb-false m n e) (omega (arith, ltb-false m n e)))
-
--- the forms of two octets are one case
-pub two_form : (s : List ℕ) (c : Cursor) (n : ℕ) (f : Form) (octets : ℕ) → (f ≡ left_twos) ⊎ (f ≡ right_twos)
-    → by_form s c n f octets ≡ twos_of s c n f octets
-unfolding by_form
-two_form s c n f octets (inl e) = rw e refl
-two_form s c n f octets (inr e) = rw e refl
-
-pub two_moved : (f : Form) (c : Cursor) (j : ℕ) → (f ≡ left_twos) ⊎ (f ≡ right_twos) → moved_by f c j ≡ placed_at (c.place + 2 * j) c
-unfolding moved_by
-two_moved f c j (inl e) = rw e refl
-two_moved f c j (inr e) = rw e refl
-
 module _ (s : List ℕ) (c : Cursor) (n : ℕ) where
   abbrev to : Sets
   to = (state_in c).sets
@@ -183,33 +160,33 @@ module _ (s : List ℕ) (c : Cursor) (n : ℕ) where
   octet = get_or s c.place 0
 
   -- a form of two octets, the set on its side, and the test of a first octet: the test of each unit, the unit, the cursor after it
-  record Twos (form : Form) (set : ℕ) (first : ℕ → Bool) : Type 0 where
+  record Twos (form set : ℕ) (first : ℕ → Bool) : Type 0 where
     stands : (m j : ℕ) → stands_after s (of_form c form m) j ≡ first (get_or s (c.place + 2 * j) 0)
     unit : (m j : ℕ) → unit_after s (of_form c form m) j ≡ two_octet_unit_at s (c.place + 2 * j) set c
     moved : (m j : ℕ) → moved_of (of_form c form m) j ≡ placed_at (c.place + 2 * j) c
-    two : is_two form ≡ true
+    two : ones < form
     starts : (b : ℕ) → first b ≡ true → (0x20 < b) × Text b set to
 
   in_left : Twos left_twos c.gl left_first
-  unfolding stands_after stands_by unit_after unit_by moved_of moved_by by_form left_first pick
+  unfolding stands_after unit_after moved_of by_form left_first pick
   in_left =
       record {
         stands = λ m j. refl;
         unit = λ m j. refl;
         moved = λ m j. refl;
-        two = refl;
+        two = omega arith;
         starts = λ b e. (let k = pick_last (leb b 0x20) (ltb b 0x7F) e in
             (leb-false b 0x20 k.0, left b to (omega (tested, k.0)) (ltb-true b 0x7F k.1)));
       }
 
   in_right : Twos right_twos c.gr (leb 0xA0)
-  unfolding stands_after stands_by unit_after unit_by moved_of moved_by by_form pick
+  unfolding stands_after unit_after moved_of by_form pick
   in_right =
       record {
         stands = λ m j. refl;
         unit = λ m j. refl;
         moved = λ m j. refl;
-        two = refl;
+        two = omega arith;
         starts = λ b e. (omega (tested, e), right b to (leb-true 0xA0 b e));
       }
 
@@ -217,7 +194,7 @@ module _ (s : List ℕ) (c : Cursor) (n : ℕ) where
   data Spans : Span → Type 0 where
     as-any : Spans (any_of s c)
     as-ones : c.place < length s → single_under octet to ≡ true → Spans (of_form c ones (lesser_of octets n))
-    as-twos : {form : Form} {set m : ℕ} {first : ℕ → Bool} → Twos form set first → 2 ≤ octets → 2 * m ≤ octets → (1 ≤ n → (m ≤ n) × (1 ≤ m))
+    as-twos : {form set m : ℕ} {first : ℕ → Bool} → Twos form set first → 2 ≤ octets → 2 * m ≤ octets → (1 ≤ n → (m ≤ n) × (1 ≤ m))
         → first octet ≡ true → has_two set ≡ true → Spans (of_form c form m)
 
   -- so many characters of two are in the string
@@ -225,13 +202,13 @@ module _ (s : List ℕ) (c : Cursor) (n : ℕ) where
   halves h = let k = least (octets / 2) n in (omega (arith, k.0), λ i. (k.1.0, k.1.1 (omega (arith, h)) i))
 
   by_left : left_first octet ≡ true → has_two c.gl ≡ true → Spans (by_form s c n left_twos octets)
-  unfolding by_form twos_of pick
+  unfolding by_form pick
   by_left l t =
       pick_by Spans (ltb octets 2) (λ _. as-any)
       (λ k. (let h = ltb-false octets 2 k in as-twos in_left h (halves h).0 (halves h).1 l t))
 
   by_right : leb 0xA0 octet ≡ true → has_two c.gr ≡ true → Spans (by_form s c n right_twos octets)
-  unfolding by_form twos_of pick
+  unfolding by_form pick
   by_right l t =
       pick_by Spans (ltb octets 2) (λ _. as-any)
       (λ k. (let h = ltb-false octets 2 k in as-twos in_right h (halves h).0 (halves h).1 l t))
@@ -247,7 +224,7 @@ module _ (s : List ℕ) (c : Cursor) (n : ℕ) where
   spanned : Spans (span_of s c n)
   unfolding span_of form_at
   spanned =
-      let P : Form → Type 0 = λ f. Spans (by_form s c n f octets) in
+      let P : ℕ → Type 0 = λ f. Spans (by_form s c n f octets) in
       pick_by Spans (leb (length s) c.place) (λ _. as-any)
       (λ h. pick_by P (single_under octet to) (λ e. by_ones (leb-false (length s) c.place h) e)
       (λ _. pick_by P (left_first octet) (λ l. pick_by P (has_two c.gl) (λ t. by_left l t) (λ _. by_any))
@@ -256,10 +233,13 @@ module _ (s : List ℕ) (c : Cursor) (n : ℕ) where
 
   -- ---- its units are in the string, and there is one
   fits_by : {r : Span} → Spans r → Fits s r
-  fits_by as-any = record { of_ones = λ e. cc; of_twos = λ e. absurd (false≢true e) }
-  fits_by (as-ones h e) = record { of_ones = λ _. omega (arith, h, (least octets n).0); of_twos = λ e. absurd (false≢true e) }
-  fits_by (as-twos w h i k l t) =
-      record { of_ones = λ e. (let z = rw e at w.two in absurd (false≢true z)); of_twos = λ _. omega (arith, h, i) }
+  fits_by as-any = record {
+    of_ones = λ e. absurd (let z : ◌≡◌ {A = ℕ} any ones = e in omega (arith, z));
+    of_twos = λ e. absurd (let z : ones < any = e in omega (arith, z));
+  }
+  fits_by (as-ones h e) =
+      record { of_ones = λ _. omega (arith, h, (least octets n).0); of_twos = λ e. absurd (let z : ones < ones = e in omega (arith, z)) }
+  fits_by (as-twos w h i k l t) = record { of_ones = λ e. absurd (omega (arith, e, w.two)); of_twos = λ _. omega (arith, h, i) }
 
   most_by : {r : Span} → 1 ≤ n → Spans r → (r.most ≤ n) × (1 ≤ r.most)
   most_by i as-any = (i, omega arith)
@@ -273,7 +253,7 @@ module _ (s : List ℕ) (c : Cursor) (n : ℕ) where
   nothing = omega arith
 
   first_by : {r : Span} → Spans r → stands_after s r 0 ≡ true
-  unfolding stands_after stands_by pick
+  unfolding stands_after pick
   first_by as-any = refl
   first_by (as-ones h e) = rw (← none) e
   first_by (as-twos w h i k l t) = rw (w.stands _ 0, ← nothing) l
@@ -296,24 +276,24 @@ module _ (s : List ℕ) (c : Cursor) (n : ℕ) where
   stood r (suc j) = moved_of r (suc j)
 
   ones_at : (m j : ℕ) → stood (of_form c ones m) j ≡ placed_at (c.place + j) c
-  unfolding moved_of moved_by pick
+  unfolding moved_of pick
   ones_at m zero = ap (λ (p : ℕ). placed_at p c) none
   ones_at m (suc j) = refl
 
-  twos_at : {form : Form} {set : ℕ} {first : ℕ → Bool} → Twos form set first → (m j : ℕ)
+  twos_at : {form set : ℕ} {first : ℕ → Bool} → Twos form set first → (m j : ℕ)
       → stood (of_form c form m) j ≡ placed_at (c.place + 2 * j) c
   twos_at w m zero = ap (λ (p : ℕ). placed_at p c) nothing
   twos_at w m (suc j) = w.moved m (suc j)
 
   any_by : (j : ℕ) → j < 1 → turn (unit_after s (any_of s c) j) (stood (any_of s c) (suc j)) ≡ advance_of s (stood (any_of s c) j)
-  unfolding unit_after unit_by moved_of moved_by pick
+  unfolding unit_after moved_of pick
   any_by zero h = refl
   any_by (suc j) h = absurd (omega (arith, h))
 
   module _ (short : length s ≤ limit.octets) where
     turns-by : {r : Span} → Spans r → (j : ℕ) → j < r.most → stands_after s r j ≡ true
         → turn (unit_after s r j) (stood r (suc j)) ≡ advance_of s (stood r j)
-    unfolding stands_after stands_by unit_after unit_by pick
+    unfolding stands_after unit_after pick
     turns-by as-any j h e = any_by j h
     turns-by (as-ones k i) j h e =
         let on : c.place + j + 1 ≡ c.place + suc j = omega arith in

@@ -3,20 +3,20 @@
 
 ghost use Rattle.std.specs.Prelude.{◌≡◌};
 ghost use Rattle.state.specs.State.{sets};
-ghost use Rattle.spans.specs.Spans.{single_under, left_first, has_two, form_at, any_of, of_form, span_of};
+ghost use Rattle.spans.specs.Spans.{single_under, left_first, has_two, form_at, lesser_of, any_of, of_form, span_of};
 
 use base::Unit;
 use charset::{FIRST_DOUBLE, NO_SET};
 use cursor::{Cursor, advance};
 
 // The forms: any one unit, units of one octet, characters of two octets in GL, and in GR.
-#[derive(Clone, Copy)]
-pub enum Form {
-    Any,
-    Ones,
-    LeftTwos,
-    RightTwos,
-}
+const ANY: u8 = 0;
+
+pub const ONES: u8 = 1;
+
+pub const LEFT_TWOS: u8 = 2;
+
+pub const RIGHT_TWOS: u8 = 3;
 
 // The units of a form that start at a cursor, so many at most, which leave its state as it is. Of any one unit the unit is given, and the cursor
 // is the one after it.
@@ -25,56 +25,76 @@ pub struct Span {
     pub cursor: Cursor,
     pub most: usize,
     pub unit: Unit,
-    pub form: Form,
+    pub form: u8,
 }
 
 // An octet that is a unit: a tab, a newline, a space or a character.
-#[tactic(auto, using(base::proofs::Ladder::ladder), unfolding(crate::specs::Spans::single_under))]
 pub fn single(b: u8, gl: u8, gr: u8) -> bool
     ensures { result ≡ single_under b (sets gl gr) }
 {
     if b < 0x20 {
-        (0x09..=0x0A).contains(&b)
-    } else if b < 0x7F {
-        gl < FIRST_DOUBLE
-    } else {
-        0xA0 <= b && gr < FIRST_DOUBLE
+        if b < 0x09 {
+            return false;
+        }
+        return b <= 0x0A;
     }
+    if b < 0x7F {
+        return gl < FIRST_DOUBLE;
+    }
+    if b < 0xA0 {
+        return false;
+    }
+    gr < FIRST_DOUBLE
 }
 
 // The first octet of a character of two in GL.
-#[tactic(auto, using(base::proofs::Ladder::ladder), unfolding(crate::specs::Spans::left_first))]
 pub fn left_first(b: u8) -> bool
     ensures { result ≡ left_first b }
 {
-    (0x21..0x7F).contains(&b)
+    if b <= 0x20 {
+        return false;
+    }
+    b < 0x7F
 }
 
-#[tactic(auto, using(base::proofs::Ladder::ladder), unfolding(crate::specs::Spans::has_two))]
 fn has_two(set: u8) -> bool
     ensures { result ≡ has_two set }
 {
-    (FIRST_DOUBLE..NO_SET).contains(&set)
+    if set < FIRST_DOUBLE {
+        return false;
+    }
+    set < NO_SET
 }
 
 // The form of the unit that an octet begins.
-#[tactic(auto, using(base::proofs::Ladder::ladder), unfolding(crate::specs::Spans::form_at))]
-fn form_at(b: u8, gl: u8, gr: u8) -> Form
+fn form_at(b: u8, gl: u8, gr: u8) -> u8
     ensures { result ≡ form_at b (sets gl gr) }
 {
     if single(b, gl, gr) {
-        Form::Ones
-    } else if left_first(b) {
-        if has_two(gl) {
-            Form::LeftTwos
-        } else {
-            Form::Any
-        }
-    } else if 0xA0 <= b && has_two(gr) {
-        Form::RightTwos
-    } else {
-        Form::Any
+        return ONES;
     }
+    if left_first(b) {
+        if has_two(gl) {
+            return LEFT_TWOS;
+        }
+        return ANY;
+    }
+    if b < 0xA0 {
+        return ANY;
+    }
+    if has_two(gr) {
+        return RIGHT_TWOS;
+    }
+    ANY
+}
+
+pub fn lesser(m: usize, n: usize) -> usize
+    ensures { result ≡ lesser_of m n }
+{
+    if m < n {
+        return m;
+    }
+    n
 }
 
 // Any one unit. The cursor is made anew: copied as it stands, its padding would be carried along too.
@@ -82,22 +102,24 @@ fn any_unit(s: &[u8], c: Cursor) -> Span
     ensures { result ≡ any_of s.now c }
 {
     let t = advance(s, c);
+    let next = t.cursor;
+    let unit = t.unit;
     Span {
-        cursor: t.cursor.placed_at(t.cursor.place),
+        cursor: next.placed_at(next.place),
         most: 1,
-        unit: t.unit,
-        form: Form::Any,
+        unit: unit,
+        form: ANY,
     }
 }
 
-fn of_form(c: Cursor, form: Form, most: usize) -> Span
+fn of_form(c: Cursor, form: u8, most: usize) -> Span
     ensures { result ≡ of_form c form most }
 {
     Span {
         cursor: c,
-        most,
+        most: most,
         unit: Unit::BLANK,
-        form,
+        form: form,
     }
 }
 
@@ -109,17 +131,16 @@ pub fn span_at(s: &[u8], c: Cursor, n: usize) -> Span
     if s.len() <= at {
         return any_unit(s, c);
     }
-    let octets = s.len() - at;
     let form = form_at(s[at], c.gl, c.gr);
-    match form {
-        Form::Any => any_unit(s, c),
-        Form::Ones => of_form(c, form, octets.min(n)),
-        Form::LeftTwos | Form::RightTwos => {
-            if octets < 2 {
-                any_unit(s, c)
-            } else {
-                of_form(c, form, (octets / 2).min(n))
-            }
-        }
+    if form == ANY {
+        return any_unit(s, c);
     }
+    let octets = s.len() - at;
+    if form == ONES {
+        return of_form(c, form, lesser(octets, n));
+    }
+    if octets < 2 {
+        return any_unit(s, c);
+    }
+    of_form(c, form, lesser(octets / 2, n))
 }

@@ -11,18 +11,22 @@ use check_list::Progress;
 
 // Checks the records from a place on quickly, and puts them into their rows, up to the first that this check does not let through, whose
 // place is the answer. In a loop of its own, so that the compiler keeps all that it needs in registers.
+// By an index: `write` of characters took 1.1 times as long with a `for`.
 fn stow_quickly(progress: Progress, units: &[Unit], from: usize, n: usize, work: &mut [u8]) -> usize
     requires { (from ≤ n) × (n ≤ length units.now) }
     ensures { (result ≡ quick_end progress units.now from n)
         × Passed progress units.now from (quick_end progress units.now from n) work.old work.new }
 {
-    let end = check_list::quick_until(progress, from, n);
-    for i in from..end {
-        if !check_list::quick_turn(units[i], i, work) {
-            return i;
+    let mut end = check_list::quick_until(progress, from, n);
+    let mut i = from;
+    while i < end {
+        if check_list::quick_turn(units[i], i, work) {
+            i += 1;
+        } else {
+            end = i;
         }
     }
-    end
+    i
 }
 
 // The answer once the list is checked.

@@ -10,18 +10,15 @@ loop-i-preserved c =
     let us = c.args.units.now in
     let n = c.args.n in
     let i = c.loop-i.i in
-    let e : plain_of (get_or us i no_record) ≡ true = sym c.plain.ensures ∙ c.if-not-plain.false in
-    rw (add-one i) (run_goes us (n - i) (n - suc i) i (omega arith) e ∙ c.loop-i.invariant)
+    let e : plain_of (get_or us i no_record) ≡ true = sym c.plain.ensures ∙ c.if-plain.true in
+    rw (add-one i) (omega arith, run_goes us (n - i) (n - suc i) i (omega arith) e ∙ c.loop-i.invariant.1)
 
-pub returns-then-not-plain : goal.returns-then-not-plain
-returns-then-not-plain c =
+pub returns-else-plain : goal.returns-else-plain
+returns-else-plain c =
     let us = c.args.units.now in
     let i = c.loop-i.i in
-    let e : plain_of (get_or us i no_record) ≡ false = sym c.plain.ensures ∙ c.if-not-plain.true in
-    run_stops us (c.args.n - i) i e ∙ c.loop-i.invariant
+    let e : plain_of (get_or us i no_record) ≡ false = sym c.plain.ensures ∙ c.if-plain.false in
+    run_stops us (c.args.n - i) i e ∙ c.loop-i.invariant.1
 
 pub returns : goal.returns
-returns c =
-    let i = c.loop-i.i in
-    let z : c.args.n ≡ i = omega arith in
-    z ∙ run_over c.args.units.now (c.args.n - i) i (omega arith) ∙ c.loop-i.invariant
+returns c = run_over c.args.units.now (c.args.n - c.loop-i.i) c.loop-i.i (omega arith) ∙ c.loop-i.invariant.1

@@ -7,19 +7,19 @@ use Rattle.read.proofs.fill.Goals as goal
 pub loop-j-preserved : goal.loop-j-preserved
 loop-j-preserved c =
     let m : c.args.r.most - c.loop-j.j ≡ suc (c.args.r.most - suc c.loop-j.j) = omega arith in
-    let yes : stands_after c.args.s.now c.args.r c.loop-j.j ≡ true = sym c.stands_at.ensures ∙ c.if-not-stands_at.false in
+    let yes : stands_after c.args.s.now c.args.r c.loop-j.j ≡ true = sym c.if-stands_at.ensures in
     record {
+      within = omega arith;
       count = rw (add-one c.loop-j.j) (count_goes _ _ _ _ _ m yes ∙ c.loop-j.invariant.count);
       stored = rw (add-one c.loop-j.j, c.nth.ensures) (stored_goes _ _ _ _ _ _ _ m yes ∙ c.loop-j.invariant.stored);
     }
 
-pub returns-then-not-stands_at : goal.returns-then-not-stands_at
-returns-then-not-stands_at c =
-    let no : stands_after c.args.s.now c.args.r c.loop-j.j ≡ false = sym c.stands_at.ensures ∙ c.if-not-stands_at.true in
+pub returns-else-stands_at : goal.returns-else-stands_at
+returns-else-stands_at c =
+    let no : stands_after c.args.s.now c.args.r c.loop-j.j ≡ false = sym c.if-stands_at.ensures in
     (sym (count_stops _ _ _ _ no) ∙ c.loop-j.invariant.count, sym (stored_stops _ _ _ _ _ _ no) ∙ c.loop-j.invariant.stored)
 
 pub returns : goal.returns
 returns c =
-    let all : c.loop-j.j ≡ c.args.r.most = omega arith in
     let m : c.args.r.most - c.loop-j.j ≡ 0 = omega arith in
-    (sym all ∙ sym (count_over _ _ _ _ m) ∙ c.loop-j.invariant.count, sym (stored_over_lem _ _ _ _ _ _ m) ∙ c.loop-j.invariant.stored)
+    (sym (count_over _ _ _ _ m) ∙ c.loop-j.invariant.count, sym (stored_over_lem _ _ _ _ _ _ m) ∙ c.loop-j.invariant.stored)

@@ -1,10 +1,10 @@
 -- Each turn stores a span of units, at least one and no more than are wanted (`count_some`, `count_most`), and moves the cursor past them
 -- (`cursor_next`, `list_next`).
-use Rattle.std.proofs.Common.{◌≡◌, true, ◌≤◌, ◌<◌, ◌+◌, ◌-◌, ◌*◌, ◌^◌, ◌∙◌, ap, ap₂, sym, ℕ, length, List, arith}
+use Rattle.std.proofs.Common.{◌≡◌, ◌≤◌, ◌<◌, ◌+◌, ◌-◌, ◌*◌, ◌^◌, ◌∙◌, ap, ap₂, sym, ℕ, length, List, arith}
 use native.Mathlib.Nat.{le_antisymm}
 use Rattle.base.specs.declared.Unit.{Unit as UnitRecord}
 use Rattle.cursor.specs.declared.Cursor.{Cursor}
-use Rattle.spans.specs.Spans.{Fits, ones, is_two, span_of, moved_of}
+use Rattle.spans.specs.Spans.{Fits, ones, span_of, moved_of}
 use Rattle.spans.specs.declared.Span.{Span}
 use Rattle.spans.proofs.Stood.{span_fits, span_most}
 use Rattle.read.specs.Stores.{count_from, stored_from}
@@ -38,7 +38,7 @@ turn s ys i n e less =
 -- the place after the units is in the string
 placed : (s : List ℕ) (c : Cursor) (n k : ℕ) → length s ≤ 65535 → k ≡ count_from s (span_of s c n) (span_of s c n).most 0
     → ((span_of s c n).form ≡ ones → (span_of s c n).cursor.place + k < 2 ^ 64)
-    × (is_two (span_of s c n).form ≡ true → (span_of s c n).cursor.place + 2 * k < 2 ^ 64)
+    × (ones < (span_of s c n).form → (span_of s c n).cursor.place + 2 * k < 2 ^ 64)
 placed s c n k short e =
     let h : count_from s (span_of s c n) (span_of s c n).most 0 ≤ 0 + (span_of s c n).most = count_most s _ _ 0 in
     let f : Fits s (span_of s c n) = span_fits s c n in

@@ -1,33 +1,34 @@
--- `spans::span_at` meets its contract, by the form of the first unit.
-use Rattle.element.proofs.Names.{refl, ◌∙◌, on_lt, on_ge, on_gt, ladder}
-use Rattle.spans.specs.Spans.{by_form, twos_of, span_of}
-use Rattle.spans.proofs.Stood.{lesser_min, two_form}
+-- `spans::span_at` meets its contract, test by test. Assumes nothing.
+use Rattle.element.proofs.Names.{ladder, on_eq, on_ne, on_lt, on_ge, on_gt}
+use Rattle.spans.specs.Spans.{by_form, span_of}
 use Rattle.spans.proofs.span_at.Goals as goal
 
 pub returns-then-s-at : goal.returns-then-s-at
-unfolding span_of
-returns-then-s-at c = search ladder depth 9
-
-pub returns-in-Any : goal.returns-in-Any
 unfolding by_form span_of
-returns-in-Any c = on_gt _ _ _ _ _ c.if-s-at.false (rw (← c.form_at-form.ensures, c.in-Any.is) c.any_unit-in-Any.ensures)
+returns-then-s-at c = search ladder depth 12
 
-pub returns-in-Ones : goal.returns-in-Ones
+pub returns-then-form-eq-ANY : goal.returns-then-form-eq-ANY
 unfolding by_form span_of
-returns-in-Ones c =
-    c.of_form.ensures ∙ on_gt _ _ _ _ _ c.if-s-at.false
-    (rw (← c.form_at-form.ensures, c.in-Ones.is, c.min.ensures, lesser_min) refl)
+returns-then-form-eq-ANY c = search ladder depth 12
+
+pub returns-then-form-eq-ONES : goal.returns-then-form-eq-ONES
+unfolding by_form span_of
+returns-then-form-eq-ONES c = on_gt _ _ _ _ _ c.if-s-at.false
+    (rw (← c.form_at-form.ensures)
+    (on_ne _ _ _ _ _ c.if-form-eq-ANY.false (on_eq _ _ _ _ _ c.if-form-eq-ONES.true
+    (rw (← c.lesser.ensures) c.of_form.ensures))))
 
 pub returns-then-octets-lt2 : goal.returns-then-octets-lt2
-unfolding by_form twos_of span_of
-returns-then-octets-lt2 c =
-    on_gt _ _ _ _ _ c.if-s-at.false
-    (rw (← c.form_at-form.ensures, two_form c.args.s.now c.args.c c.args.n c.form_at-form.result _ c.in-LeftTwos.is)
-    (on_lt _ _ _ _ _ c.if-octets-lt2.true c.any_unit-then-octets-lt2.ensures))
+unfolding by_form span_of
+returns-then-octets-lt2 c = on_gt _ _ _ _ _ c.if-s-at.false
+    (rw (← c.form_at-form.ensures)
+    (on_ne _ _ _ _ _ c.if-form-eq-ANY.false
+    (on_ne _ _ _ _ _ c.if-form-eq-ONES.false (on_lt _ _ _ _ _ c.if-octets-lt2.true c.any_unit-then-octets-lt2.ensures))))
 
-pub returns-else-octets-lt2 : goal.returns-else-octets-lt2
-unfolding by_form twos_of span_of
-returns-else-octets-lt2 c =
-    c.of_form-else-octets-lt2.ensures ∙ on_gt _ _ _ _ _ c.if-s-at.false
-    (rw (← c.form_at-form.ensures, two_form c.args.s.now c.args.c c.args.n c.form_at-form.result _ c.in-LeftTwos.is)
-    (on_ge _ _ _ _ _ c.if-octets-lt2.false (rw (c.min-else-octets-lt2.ensures, lesser_min) refl)))
+pub returns : goal.returns
+unfolding by_form span_of
+returns c = on_gt _ _ _ _ _ c.if-s-at.false
+    (rw (← c.form_at-form.ensures)
+    (on_ne _ _ _ _ _ c.if-form-eq-ANY.false
+    (on_ne _ _ _ _ _ c.if-form-eq-ONES.false
+    (on_ge _ _ _ _ _ c.if-octets-lt2.false (rw (← c.lesser-2.ensures) c.of_form-2.ensures)))))

@@ -1,20 +1,53 @@
--- `numbered::nth` meets its contract, form by form.
-use Rattle.element.proofs.Names.{refl}
-use Rattle.spans.specs.Spans.{unit_by, unit_after}
+-- `numbered::nth` meets its contract: the unit is in the string (`Within`), and the tests are those of its definition. Assumes nothing.
+use Rattle.element.proofs.Names.{ladder, arith}
+use Rattle.read.proofs.Within.{one_within, two_within}
+use Rattle.spans.specs.Spans.{unit_after}
 use Rattle.read.proofs.numbered.nth.Goals as goal
 
-pub returns-in-Any : goal.returns-in-Any
-unfolding unit_by unit_after
-returns-in-Any c = rw c.in-Any.is refl
+pub overflow_add-c : goal.overflow_add-c
+unfolding unit_after
+overflow_add-c c = omega (arith, one_within c.requires c.if-r-eq-ONES.true)
 
-pub returns-in-Ones : goal.returns-in-Ones
-unfolding unit_by unit_after
-returns-in-Ones c = rw c.in-Ones.is c.one.ensures
+pub one-requires : goal.one-requires
+unfolding unit_after
+one-requires c = omega (arith, one_within c.requires c.if-r-eq-ONES.true)
 
-pub returns-in-LeftTwos : goal.returns-in-LeftTwos
-unfolding unit_by unit_after
-returns-in-LeftTwos c = rw c.in-LeftTwos.is c.two.ensures
+pub returns-then-r-eq-ONES : goal.returns-then-r-eq-ONES
+unfolding unit_after
+returns-then-r-eq-ONES c = search ladder depth 9
 
-pub returns-in-RightTwos : goal.returns-in-RightTwos
-unfolding unit_by unit_after
-returns-in-RightTwos c = rw c.in-RightTwos.is c.two-in-RightTwos.ensures
+pub overflow_mul-j : goal.overflow_mul-j
+unfolding unit_after
+overflow_mul-j c = record { fits = omega (arith, two_within c.requires (omega (arith, c.if-r-eq-LEFT_TWOS.true))) }
+
+pub overflow_add-c-then-r-eq-LEFT_TWOS : goal.overflow_add-c-then-r-eq-LEFT_TWOS
+unfolding unit_after
+overflow_add-c-then-r-eq-LEFT_TWOS c = omega (arith, two_within c.requires (omega (arith, c.if-r-eq-LEFT_TWOS.true)))
+
+pub two-requires : goal.two-requires
+unfolding unit_after
+two-requires c = omega (arith, two_within c.requires (omega (arith, c.if-r-eq-LEFT_TWOS.true)))
+
+pub returns-then-r-eq-LEFT_TWOS : goal.returns-then-r-eq-LEFT_TWOS
+unfolding unit_after
+returns-then-r-eq-LEFT_TWOS c = search ladder depth 9
+
+pub overflow_mul-j-then-r-eq-RIGHT_TWOS : goal.overflow_mul-j-then-r-eq-RIGHT_TWOS
+overflow_mul-j-then-r-eq-RIGHT_TWOS c = let h = two_within c.requires (omega (arith, c.if-r-eq-RIGHT_TWOS.true)) in
+    record { fits = omega (arith, h) }
+
+pub overflow_add-c-then-r-eq-RIGHT_TWOS : goal.overflow_add-c-then-r-eq-RIGHT_TWOS
+overflow_add-c-then-r-eq-RIGHT_TWOS c = let h = two_within c.requires (omega (arith, c.if-r-eq-RIGHT_TWOS.true)) in
+    omega (arith, h)
+
+pub two-requires-then-r-eq-RIGHT_TWOS : goal.two-requires-then-r-eq-RIGHT_TWOS
+two-requires-then-r-eq-RIGHT_TWOS c = let h = two_within c.requires (omega (arith, c.if-r-eq-RIGHT_TWOS.true)) in
+    omega (arith, h)
+
+pub returns-then-r-eq-RIGHT_TWOS : goal.returns-then-r-eq-RIGHT_TWOS
+unfolding unit_after
+returns-then-r-eq-RIGHT_TWOS c = search ladder depth 9
+
+pub returns : goal.returns
+unfolding unit_after
+returns c = search ladder depth 9

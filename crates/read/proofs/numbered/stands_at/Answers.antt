@@ -1,20 +1,53 @@
--- `numbered::stands_at` meets its contract, form by form.
-use Rattle.element.proofs.Names.{refl}
-use Rattle.spans.specs.Spans.{stands_by, stands_after}
+-- `numbered::stands_at` meets its contract: the unit is in the string (`Within`), and the tests are those of its definition. Assumes nothing.
+use Rattle.element.proofs.Names.{ladder, arith}
+use Rattle.read.proofs.Within.{one_within, two_within}
+use Rattle.spans.specs.Spans.{stands_after}
 use Rattle.read.proofs.numbered.stands_at.Goals as goal
 
-pub returns-in-Any : goal.returns-in-Any
-unfolding stands_by stands_after
-returns-in-Any c = rw c.in-Any.is refl
+pub overflow_add-c : goal.overflow_add-c
+unfolding stands_after
+overflow_add-c c = omega (arith, one_within c.requires c.if-r-eq-ONES.true)
 
-pub returns-in-Ones : goal.returns-in-Ones
-unfolding stands_by stands_after
-returns-in-Ones c = rw c.in-Ones.is c.single_at.ensures
+pub single_at-requires : goal.single_at-requires
+unfolding stands_after
+single_at-requires c = omega (arith, one_within c.requires c.if-r-eq-ONES.true)
 
-pub returns-in-LeftTwos : goal.returns-in-LeftTwos
-unfolding stands_by stands_after
-returns-in-LeftTwos c = rw c.in-LeftTwos.is c.left_at.ensures
+pub returns-then-r-eq-ONES : goal.returns-then-r-eq-ONES
+unfolding stands_after
+returns-then-r-eq-ONES c = search ladder depth 9
 
-pub returns-in-RightTwos : goal.returns-in-RightTwos
-unfolding stands_by stands_after
-returns-in-RightTwos c = rw c.in-RightTwos.is c.right_at.ensures
+pub overflow_mul-j : goal.overflow_mul-j
+unfolding stands_after
+overflow_mul-j c = record { fits = omega (arith, two_within c.requires (omega (arith, c.if-r-eq-LEFT_TWOS.true))) }
+
+pub overflow_add-c-then-r-eq-LEFT_TWOS : goal.overflow_add-c-then-r-eq-LEFT_TWOS
+unfolding stands_after
+overflow_add-c-then-r-eq-LEFT_TWOS c = omega (arith, two_within c.requires (omega (arith, c.if-r-eq-LEFT_TWOS.true)))
+
+pub left_at-requires : goal.left_at-requires
+unfolding stands_after
+left_at-requires c = omega (arith, two_within c.requires (omega (arith, c.if-r-eq-LEFT_TWOS.true)))
+
+pub returns-then-r-eq-LEFT_TWOS : goal.returns-then-r-eq-LEFT_TWOS
+unfolding stands_after
+returns-then-r-eq-LEFT_TWOS c = search ladder depth 9
+
+pub overflow_mul-j-then-r-eq-RIGHT_TWOS : goal.overflow_mul-j-then-r-eq-RIGHT_TWOS
+overflow_mul-j-then-r-eq-RIGHT_TWOS c = let h = two_within c.requires (omega (arith, c.if-r-eq-RIGHT_TWOS.true)) in
+    record { fits = omega (arith, h) }
+
+pub overflow_add-c-then-r-eq-RIGHT_TWOS : goal.overflow_add-c-then-r-eq-RIGHT_TWOS
+overflow_add-c-then-r-eq-RIGHT_TWOS c = let h = two_within c.requires (omega (arith, c.if-r-eq-RIGHT_TWOS.true)) in
+    omega (arith, h)
+
+pub right_at-requires : goal.right_at-requires
+right_at-requires c = let h = two_within c.requires (omega (arith, c.if-r-eq-RIGHT_TWOS.true)) in
+    omega (arith, h)
+
+pub returns-then-r-eq-RIGHT_TWOS : goal.returns-then-r-eq-RIGHT_TWOS
+unfolding stands_after
+returns-then-r-eq-RIGHT_TWOS c = search ladder depth 9
+
+pub returns : goal.returns
+unfolding stands_after
+returns c = search ladder depth 9
