@@ -1,7 +1,8 @@
 -- What a look at a string tells, on plain values: the octets before the first 00 are those before its place; where nothing before it stops the quick look,
 -- X11R5 has all their elements; and what the look refuses is refused with the string's own answer.
 use Rattle.element.proofs.Names.{ℕ, zero, suc, ◌+◌, ◌≤◌, ◌<◌, arith, ◌≡◌, refl, ap, sym, ◌∙◌, List, [], ◌∷◌, length, length-take, get_or, take}
-use Rattle.element.proofs.Names.{eqb, ltb, false}
+use Rattle.element.proofs.Names.{eqb, eqb-true, eqb-false, ltb, false}
+use Rattle.std.specs.Prelude.{Ok, Err}
 use Rattle.element.proofs.Names.{ltb-true, ltb-false, ne_eqb, pick, test, refused_at, Answer, List·getD-eq-default}
 use Prim.Native.Nat.{min}
 use lib.Seq.{get_or-take}
@@ -13,7 +14,7 @@ use Rattle.x11r5.proofs.Clean.{Plain, plain}
 use Rattle.x11r5.proofs.Elements.{same_elements}
 use Rattle.x11r5.proofs.Reading.{by_null, never_ended}
 use Rattle.r5_read.specs.Stops.{is_of, stop_by, FirstStop, FirstNull}
-use Rattle.r5_read.specs.Look.{Left, Refused}
+use Rattle.r5_read.specs.Look.{Left, Refused, Looked}
 
 -- ---- octets
 
@@ -127,3 +128,9 @@ module _ (s : List ℕ) (at end : ℕ) (f : FirstStop s at) (n : FirstNull s at 
             octets = sym before_is;
             same = accepted_same (before_null s) (sym (ap (λ (x : Answer). x.number) checked) ∙ z);
           }
+
+    -- refused with the check's answer, or left
+    pub look_checked : (a : Answer) → a ≡ unended_check_of (take end s) → Looked s (pick (eqb a.number refusal.accepted) (Ok end) (Err a))
+    unfolding pick
+    look_checked a is =
+        test (eqb a.number refusal.accepted) (λ e. rw e (look_accepted a is (eqb-true _ _ e))) (λ e. rw e (look_refused a is (eqb-false _ _ e)))

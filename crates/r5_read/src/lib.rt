@@ -11,13 +11,12 @@ mod look;
 mod stops;
 
 // The units of a string, up to its first 00, are stored from the list's first place on, and the rest of it stays; a refusal stores none. What is not
-// refused at a look is left to the base reader, the faster of the two, whose contracts are one.
+// refused at a look is left to the base reader, the faster of the two, whose contracts are one; of what is, it is given no octets, which leaves the list.
 pub fn read(s: &[u8], units: &mut [Unit]) -> Answer
     ensures { (result ≡ r5_read_answer s.now (length units.old))
         × (units.new ≡ r5_list_after s.now units.old) }
 {
-    match look_over(s) {
-        Ok(end) => archive::read(&s[..end], units),
-        Err(refused) => refused,
-    }
+    let looked = look_over(s);
+    let answer = archive::read(&s[..looked.unwrap_or(0)], units);
+    looked.err().unwrap_or(answer)
 }

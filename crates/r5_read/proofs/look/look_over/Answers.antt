@@ -3,7 +3,7 @@ use Rattle.r5_read.proofs.Looks.{look_endless, look_clean, look_refused, look_ac
 use Rattle.r5_read.proofs.look.look_over.Goals as goal
 
 pub returns-then-end-s : goal.returns-then-end-s
-returns-then-end-s c = look_endless _ _ _ c.first_stop-at.ensures c.null_from-end.ensures c.if-end-s.true _ c.at.ensures
+returns-then-end-s c = look_endless _ _ _ c.first_stop-at.ensures c.null_from-end.ensures c.if-end-s.true _ c.endless.ensures
 
 pub returns-else-at-end : goal.returns-else-at-end
 returns-else-at-end c =
