@@ -280,18 +280,18 @@ module _ (s : List ℕ) (c : RowCursor) (ready : Ready s c) where
     -- by what the three octets after 1B tell
     module _ (i : get_or s at 0 ≡ 0x1B) (d : Designation)
         (e : d ≡ told_of (get_or s (at + 1) 0) (get_or s (at + 1 + 1) 0) (get_or s (at + 1 + 1 + 1) 0)) where
-      none_told : no_set ≤ d.set → c ≡ rowed (passed_of s k)
+      pub none_told : no_set ≤ d.set → c ≡ rowed (passed_of s k)
       none_told q = none_is _ (sequence_at s at _ h i refl) (told_none _ _ _ d e q)
 
       module _ (named : d.set < no_set) where
         told_at : d ≡ designation_at (from at s)
         told_at = sequence_at s at d h i (told_set _ _ _ d e named)
 
-        told_fits : at + d.octets ≤ length s
+        pub told_fits : at + d.octets ≤ length s
         told_fits = placed_fits s at d told_at named
 
         -- the cursor after it, as the code makes it
-        placed_is : (row : ℕ) (v : Side) → d.side ≡ v → row ≡ row_of (put (on v d.set) st.sets)
+        pub placed_is : (row : ℕ) (v : Side) → d.side ≡ v → row ≡ row_of (put (on v d.set) st.sets)
             → record { cursor = cursor (at + d.octets) (designated_of v d.set st); row = row; direction = c.direction } ≡ rowed (passed_of s k)
         unfolding passed_of placed_of
         placed_is row v j q =

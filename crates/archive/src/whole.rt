@@ -54,7 +54,7 @@ fn placed(s: &[u8], at: usize, start: Sets) -> Reach
     let mut place = at;
     let mut sets = start;
     while place < s.len() && s[place] == 0x1B {
-        let Some(d) = designation_at(s, place) else {
+        let Ok(d) = designation_at(s, place) else {
             break;
         };
         place += d.octets;

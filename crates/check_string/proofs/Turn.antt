@@ -11,13 +11,14 @@ use Rattle.grammar.proofs.Places.{ahead, at_end, at_refused, at_passed, refused_
 use Rattle.state.specs.State.{directed_to}
 use Rattle.state.specs.Elements.{Ends}
 use Rattle.stretch.specs.Characters.{stretch_at}
-use Rattle.std.proofs.Common.{Some}
-use Rattle.std.specs.declared.option.Option.{Option}
-use Rattle.designations.specs.Designation.{if_named, designation_at}
+use Rattle.std.proofs.Common.{Ok}
+use Rattle.std.specs.Prelude.{Result}
+use Rattle.designations.specs.Designation.{named_or, designation_at}
 use Rattle.stretch.specs.declared.characters.Stretch.{Stretch}
 use Rattle.designations.specs.declared.Designation.{Designation}
+use Rattle.designations.specs.declared.Unnamed.{Unnamed}
 use Rattle.designations.proofs.Designations.{designation_silent}
-use Rattle.designations.proofs.Found.{some_found}
+use Rattle.designations.proofs.Found.{ok_named}
 use Rattle.stretch.proofs.Law.{units_answer}
 use Rattle.stretch.proofs.Stretches.{stretch_ahead}
 
@@ -112,13 +113,13 @@ module _ (s : List ℕ) (at count : ℕ) (st : State) (h : Head s at count st) w
   turn_done k = turn_end s at count st End (rw (from_end s at k) (sym (at_nothing st))) h refl
 
   -- a designation that is found by its octets
-  turn_designation : (d : Designation) → d ≡ designation_at (from at s) → d.set < no_set
+  pub turn_designation : (d : Designation) → d ≡ designation_at (from at s) → d.set < no_set
       → Next s at d.octets count (designated_of d.side d.set st)
   turn_designation d e k = turn_silent s at count st _ (designation_silent (from at s) st d e k) h refl
 
-  pub turn_designated : (o : Option Designation) (d : Designation) → o ≡ if_named (designation_at (from at s)) → o ≡ Some d
+  pub turn_designated : (o : Result Designation Unnamed) (d : Designation) → o ≡ named_or (designation_at (from at s)) → o ≡ Ok d
       → Next s at d.octets count (designated_of d.side d.set st)
-  turn_designated o d e i = let h = some_found o d _ e i in turn_designation d h.0 h.1
+  turn_designated o d e i = let h = ok_named o _ e d i in turn_designation d h.0 h.1
 
   -- a stretch
   pub turn_stretch : (r : Stretch) → r ≡ stretch_at (from at s) st → 0 < r.octets → Next s at r.octets (count + r.units) st

@@ -30,7 +30,7 @@ fn whole(s: &[u8]) -> Answer
     let mut st = State::FRESH;
     while at < s.len() {
         if s[at] == 0x1B {
-            if let Some(d) = designation_at(s, at) {
+            if let Ok(d) = designation_at(s, at) {
                 at += d.octets;
                 st = st.designated(d.side, d.set);
                 continue;

@@ -199,8 +199,8 @@ fn passed(s: &[u8], c: Cursor) -> Cursor
     ensures { result ≡ passed_of s.now c }
 {
     match designation_at(s, c.place) {
-        Some(d) => cursor_at(c.place + d.octets, c.state().designated(d.side, d.set)),
-        None => c,
+        Ok(d) => cursor_at(c.place + d.octets, c.state().designated(d.side, d.set)),
+        Err(_) => c,
     }
 }
 

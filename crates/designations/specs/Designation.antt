@@ -1,6 +1,6 @@
 -- The designation at the start of octets, where there are four: what the code finds by its octets. That it is the reader's is proved
 -- (`designation_silent`), so that nothing here has to be believed.
-use Rattle.std.specs.Prelude.{ℕ, ◌+◌, ◌-◌, ◌*◌, ◌/◌, ◌%◌, ◌^◌, Bool, List, [], ◌∷◌, eqb, ltb, Some, None}
+use Rattle.std.specs.Prelude.{ℕ, ◌+◌, ◌-◌, ◌*◌, ◌/◌, ◌%◌, ◌^◌, Bool, List, [], ◌∷◌, eqb, ltb, Some, None, Result, Ok, Err}
 use Rattle.std.specs.declared.option.Option.{Option}
 use Rattle.base.specs.Choice.{pick}
 use Rattle.charset.specs.Charsets.{form_94, form_96, form_94x94, no_set, set_of}
@@ -8,6 +8,7 @@ use Rattle.charset.specs.Finals.{named_of}
 use Rattle.charset.specs.declared.Side.{Side}
 use Rattle.charset.specs.declared.Side.TheVariants.{GL, GR}
 use Rattle.designations.specs.declared.Designation.{Designation}
+use Rattle.designations.specs.declared.Unnamed.{Unnamed}
 
 abbrev pub designation_with : ℕ → Side → ℕ → Designation
 designation_with octets side set = record { octets = octets; side = side; set = set }
@@ -18,6 +19,13 @@ absent = designation_with 0 GL no_set
 -- what the code answers: the designation where its set is one of the fifteen, and none elsewhere
 unfoldable pub if_named : Designation → Option Designation
 if_named d = pick (ltb d.set no_set) (Some d) None
+
+abbrev pub unnamed : Designation → Unnamed
+unnamed d = record { octets = d.octets; side = d.side }
+
+-- the same, and its octets and its side where it names no set
+unfoldable pub named_or : Designation → Result Designation Unnamed
+named_or d = pick (ltb d.set no_set) (Ok d) (Err (unnamed d))
 
 abbrev pub by_final_of : ℕ → ℕ → Side → ℕ → Designation
 by_final_of octets form side last = designation_with octets side (set_of form side last)

@@ -3,7 +3,7 @@
 
 ghost use Rattle.std.specs.Prelude.{◌≡◌};
 ghost use Rattle.base.specs.Choice.{from, pick};
-ghost use Rattle.designations.specs.Designation.{if_named, by_final_of, multi_octet_at, sequence_of, designation_at, side_by, told_of, form_after};
+ghost use Rattle.designations.specs.Designation.{if_named, named_or, by_final_of, multi_octet_at, sequence_of, designation_at, side_by, told_of, form_after};
 
 use charset::{FORM_94, FORM_94X94, FORM_96, NO_SET, Side};
 
@@ -15,39 +15,53 @@ pub struct Designation {
     pub set: u8,
 }
 
+// What names no set: the octets and the side that its designation would have; no octets, and GL, where it is no designation.
+#[derive(Clone, Copy)]
+pub struct Unnamed {
+    pub octets: usize,
+    pub side: Side,
+}
+
+impl Unnamed {
+    const NONE: Unnamed = Unnamed {
+        octets: 0,
+        side: Side::GL,
+    };
+}
+
 // The designation of a form and side, by its final octet.
-fn by_final(octets: usize, form: u8, side: Side, last: u8) -> Option<Designation>
-    ensures { result ≡ if_named (by_final_of octets form side last) }
+fn by_final(octets: usize, form: u8, side: Side, last: u8) -> Result<Designation, Unnamed>
+    ensures { result ≡ named_or (by_final_of octets form side last) }
 {
     let set = charset::set_of(form, side, last);
     if set < NO_SET {
-        Some(Designation { octets, side, set })
+        Ok(Designation { octets, side, set })
     } else {
-        None
+        Err(Unnamed { octets, side })
     }
 }
 
 // The octets after 1B 24.
-fn multi_octet(b: u8, last: u8) -> Option<Designation>
-    ensures { result ≡ if_named (multi_octet_at b last) }
+fn multi_octet(b: u8, last: u8) -> Result<Designation, Unnamed>
+    ensures { result ≡ named_or (multi_octet_at b last) }
 {
     match b {
         0x28 => by_final(4, FORM_94X94, Side::GL, last),
         0x29 => by_final(4, FORM_94X94, Side::GR, last),
-        _ => None,
+        _ => Err(Unnamed::NONE),
     }
 }
 
 // The designation that 1B and these three octets begin with.
-pub fn sequence(b: u8, c: u8, d: u8) -> Option<Designation>
-    ensures { result ≡ if_named (sequence_of b c d) }
+pub fn sequence(b: u8, c: u8, d: u8) -> Result<Designation, Unnamed>
+    ensures { result ≡ named_or (sequence_of b c d) }
 {
     match b {
         0x24 => multi_octet(c, d),
         0x28 => by_final(3, FORM_94, Side::GL, c),
         0x29 => by_final(3, FORM_94, Side::GR, c),
         0x2D => by_final(3, FORM_96, Side::GR, c),
-        _ => None,
+        _ => Err(Unnamed::NONE),
     }
 }
 
@@ -88,13 +102,13 @@ pub fn told(b: u8, c: u8, d: u8) -> Option<Designation>
 }
 
 // The designation at a place, where it has four octets from there on.
-pub fn designation_at(s: &[u8], at: usize) -> Option<Designation>
-    ensures { result ≡ if_named (designation_at (from at s.now)) }
+pub fn designation_at(s: &[u8], at: usize) -> Result<Designation, Unnamed>
+    ensures { result ≡ named_or (designation_at (from at s.now)) }
 {
     if at < s.len() && 4 <= s.len() - at && s[at] == 0x1B {
         sequence(s[at + 1], s[at + 2], s[at + 3])
     } else {
-        None
+        Err(Unnamed::NONE)
     }
 }
 

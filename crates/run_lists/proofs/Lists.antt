@@ -14,10 +14,11 @@ use Rattle.grammar.proofs.Places.{refused_number}
 use Rattle.reader.specs.Step.{may_stand}
 use Rattle.state.specs.Directions.{in_force_of}
 use Rattle.stretch.specs.Characters.{settled_of}
-use Rattle.std.proofs.Common.{Some}
-use Rattle.std.specs.declared.option.Option.{Option}
-use Rattle.designations.specs.Designation.{if_named, designation_at}
+use Rattle.std.proofs.Common.{Ok}
+use Rattle.std.specs.Prelude.{Result}
+use Rattle.designations.specs.Designation.{named_or, designation_at}
 use Rattle.designations.specs.declared.Designation.{Designation}
+use Rattle.designations.specs.declared.Unnamed.{Unnamed}
 use Rattle.pieces.specs.Pieces.{piece, is_run, set_in}
 use Rattle.pieces.specs.Pieces.{Piece}
 use Rattle.pieces.proofs.Step.{element_at, piece_at}
@@ -198,8 +199,8 @@ module _ {s : List ℕ} {l : Stand} {o : List ℕ} {direction at k : ℕ} {st : 
         record { onward = on_shown h.onward room c w low (v ∙ rw (p, h.way)); settled = h.settled; way = h.way; words = h.words }
 
     -- a designation
-    pub designates : (x : Option Designation) (d : Designation) (next : State) {left' right' : ℕ} → x ≡ if_named (designation_at (from at s)) → x ≡ Some d
-        → next ≡ designated_of d.side d.set st → Words next direction left' right'
+    pub designates : (x : Result Designation Unnamed) (d : Designation) (next : State) {left' right' : ℕ} → x ≡ named_or (designation_at (from at s))
+        → x ≡ Ok d → next ≡ designated_of d.side d.set st → Words next direction left' right'
         → Texts s l o direction (at + d.octets) k next left' right' out
     designates x d next e f is words =
         let keeps = ap (λ (y : State). y.directions) is ∙ designated_keeps d.side d.set st in

@@ -123,7 +123,7 @@ fn list_text(s: &[u8], l: Stand, direction: u8, out: &mut [u64]) -> Stand
                 continue;
             }
         }
-        let Some(d) = designation_at(s, at) else {
+        let Ok(d) = designation_at(s, at) else {
             return stand_at(at, k, st);
         };
         at += d.octets;

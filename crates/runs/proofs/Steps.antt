@@ -13,11 +13,11 @@ use Rattle.state.specs.declared.elements.Element.TheVariants.{End as CodeEnd, Si
 use Rattle.grammar.specs.Reading.{Octets, none_refused}
 use Rattle.grammar.proofs.Places.{ahead, at_end, at_refused, at_passed, step_passed}
 use Rattle.stretch.specs.Characters.{settled_of}
-use Rattle.std.proofs.Common.{Some}
-use Rattle.std.specs.declared.option.Option.{Option}
-use Rattle.designations.proofs.Found.{some_found}
-use Rattle.designations.specs.Designation.{if_named, designation_at}
+use Rattle.std.specs.Prelude.{Result}
+use Rattle.designations.proofs.Found.{ok_named}
+use Rattle.designations.specs.Designation.{named_or, designation_at}
 use Rattle.designations.specs.declared.Designation.{Designation}
+use Rattle.designations.specs.declared.Unnamed.{Unnamed}
 use Rattle.designations.proofs.Designations.{designation_silent}
 use Rattle.pieces.specs.PieceKind as piece_kind
 use Rattle.pieces.specs.Pieces.{Piece, piece, no_piece, kind_number, viewed, side_kind_of, piece_of, is_run, same_run_of, joined, pieces_from}
@@ -271,9 +271,9 @@ module _ (s : List ℕ) where
 
     -- ---- the turns of the loops
 
-    pub cut_found : (o : Option Designation) (d : Designation) → o ≡ if_named (designation_at (from at s)) → o ≡ Some d
+    pub cut_found : (o : Result Designation Unnamed) (d : Designation) → o ≡ named_or (designation_at (from at s)) → o ≡ Ok d
         → Cut at st (piece at (at + d.octets) piece_kind.control (designated_of d.side d.set st)) (designated_of d.side d.set st)
-    cut_found o d e f = let h = some_found o d _ e f in cut_designation d h.0 h.1
+    cut_found o d e f = let h = ok_named o _ e d f in cut_designation d h.0 h.1
 
     -- text that leaves the state, up to the end that the code finds
     pub text_cut : Octets s → (k e : ℕ) → k < 2 → settled_of st.directions ≡ true → e ≡ text_to st.sets k at (from at s) → at < e
@@ -302,9 +302,13 @@ module _ (s : List ℕ) where
     turn_over h e = turn_none (no_piece at) (on_past s at st (no_piece at) h refl) refl e
 
 -- in whatever state
-pub found_fits : (s : List ℕ) (at : ℕ) (o : Option Designation) (d : Designation) → o ≡ if_named (designation_at (from at s)) → o ≡ Some d
+pub designation_fits : (s : List ℕ) (at : ℕ) (d : Designation) → d ≡ designation_at (from at s) → d.set < no_set
     → (at < at + d.octets) × (at + d.octets ≤ length s)
-found_fits s at o d e f = let c = cut_found s at fresh o d e f in (c.more, c.within)
+designation_fits s at d e k = let c = cut_designation s at fresh d e k in (c.more, c.within)
+
+pub found_fits : (s : List ℕ) (at : ℕ) (o : Result Designation Unnamed) (d : Designation) → o ≡ named_or (designation_at (from at s)) → o ≡ Ok d
+    → (at < at + d.octets) × (at + d.octets ≤ length s)
+found_fits s at o d e f = let h = ok_named o _ e d f in designation_fits s at d h.0 h.1
 
 pub side_low : {k : ℕ} (b : ℕ) → k ≡ side_kind_of b → k < 2
 unfolding side_kind_of

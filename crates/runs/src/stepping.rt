@@ -100,7 +100,7 @@ pub fn run_from(s: &[u8], place: usize, state: State) -> RunStep
     while at < s.len() {
         let b = s[at];
         if b == 0x1B {
-            if let Some(d) = designation_at(s, at) {
+            if let Ok(d) = designation_at(s, at) {
                 at += d.octets;
                 st = st.designated(d.side, d.set);
                 continue;

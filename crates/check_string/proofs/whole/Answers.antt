@@ -19,16 +19,16 @@ loop-at-init c = head_first _
 pub overflow_add-at : goal.overflow_add-at
 unfolding check_of
 overflow_add-at c = let head = c.loop-at.invariant in
-    let h = turn_designated _ _ _ _ head _ _ c.designation_at.ensures c.in-Some.is in omega (arith, h.fits)
+    let h = turn_designated _ _ _ _ head _ _ c.designation_at.ensures c.in-Ok.is in omega (arith, h.fits)
 
-pub loop-at-smaller-in-Some : goal.loop-at-smaller-in-Some
-loop-at-smaller-in-Some c = let head = c.loop-at.invariant in
-    let h = turn_designated _ _ _ _ head _ _ c.designation_at.ensures c.in-Some.is in
+pub loop-at-smaller-in-Ok : goal.loop-at-smaller-in-Ok
+loop-at-smaller-in-Ok c = let head = c.loop-at.invariant in
+    let h = turn_designated _ _ _ _ head _ _ c.designation_at.ensures c.in-Ok.is in
     omega (arith, h.fits, h.some)
 
-pub loop-at-preserved-in-Some : goal.loop-at-preserved-in-Some
-loop-at-preserved-in-Some c = let head = c.loop-at.invariant in
-    let h = turn_designated _ _ _ _ head _ _ c.designation_at.ensures c.in-Some.is in
+pub loop-at-preserved-in-Ok : goal.loop-at-preserved-in-Ok
+loop-at-preserved-in-Ok c = let head = c.loop-at.invariant in
+    let h = turn_designated _ _ _ _ head _ _ c.designation_at.ensures c.in-Ok.is in
     rw c.designated-st.ensures h.head
 
 pub overflow_add-at-then-run-gt0 : goal.overflow_add-at-then-run-gt0
@@ -93,26 +93,26 @@ returns-in-Err-step c = let k = ap (λ x. shape_seen (Ok x)) c.in-Ok-Gives.field
     let h = turn_stops _ _ _ _ c.loop-at.invariant _ c.in-Ok-Gives.ensures k c.in-Err-step.ensures refl in
     on_ge _ _ _ _ _ c.if-s-gt-OCTETS.false (c.at-in-Err-step.ensures ∙ h)
 
-pub overflow_add-at-in-Ok : goal.overflow_add-at-in-Ok
-overflow_add-at-in-Ok c = let k = ap (λ x. shape_seen (Ok x)) c.in-Ok-Gives.field-0-is in
-    let h = turn_goes _ _ _ _ c.loop-at.invariant _ c.in-Ok-Gives.ensures k c.in-Ok.ensures refl in omega (arith, h.fits)
+pub overflow_add-at-in-Ok-step : goal.overflow_add-at-in-Ok-step
+overflow_add-at-in-Ok-step c = let k = ap (λ x. shape_seen (Ok x)) c.in-Ok-Gives.field-0-is in
+    let h = turn_goes _ _ _ _ c.loop-at.invariant _ c.in-Ok-Gives.ensures k c.in-Ok-step.ensures refl in omega (arith, h.fits)
 
-pub overflow_add-at-in-Ok-2 : goal.overflow_add-at-in-Ok-2
-overflow_add-at-in-Ok-2 c = let k = ap (λ x. shape_seen (Ok x)) c.in-Ok-Gives.field-0-is in
-    let h = turn_goes _ _ _ _ c.loop-at.invariant _ c.in-Ok-Gives.ensures k c.in-Ok.ensures refl in omega (arith, h.fits)
+pub overflow_add-at-in-Ok-step-2 : goal.overflow_add-at-in-Ok-step-2
+overflow_add-at-in-Ok-step-2 c = let k = ap (λ x. shape_seen (Ok x)) c.in-Ok-Gives.field-0-is in
+    let h = turn_goes _ _ _ _ c.loop-at.invariant _ c.in-Ok-Gives.ensures k c.in-Ok-step.ensures refl in omega (arith, h.fits)
 
-pub overflow_add-count-in-Ok : goal.overflow_add-count-in-Ok
-overflow_add-count-in-Ok c = let k = ap (λ x. shape_seen (Ok x)) c.in-Ok-Gives.field-0-is in
-    let h = turn_goes _ _ _ _ c.loop-at.invariant _ c.in-Ok-Gives.ensures k c.in-Ok.ensures refl in
+pub overflow_add-count-in-Ok-step : goal.overflow_add-count-in-Ok-step
+overflow_add-count-in-Ok-step c = let k = ap (λ x. shape_seen (Ok x)) c.in-Ok-Gives.field-0-is in
+    let h = turn_goes _ _ _ _ c.loop-at.invariant _ c.in-Ok-Gives.ensures k c.in-Ok-step.ensures refl in
     omega (arith, h.head.few, h.fits, c.if-s-gt-OCTETS.false)
 
 pub loop-at-smaller : goal.loop-at-smaller
 loop-at-smaller c = let k = ap (λ x. shape_seen (Ok x)) c.in-Ok-Gives.field-0-is in
-    let h = turn_goes _ _ _ _ c.loop-at.invariant _ c.in-Ok-Gives.ensures k c.in-Ok.ensures refl in omega (arith, h.fits, h.some)
+    let h = turn_goes _ _ _ _ c.loop-at.invariant _ c.in-Ok-Gives.ensures k c.in-Ok-step.ensures refl in omega (arith, h.fits, h.some)
 
 pub loop-at-preserved : goal.loop-at-preserved
 loop-at-preserved c = let k = ap (λ x. shape_seen (Ok x)) c.in-Ok-Gives.field-0-is in
-    let h = turn_goes _ _ _ _ c.loop-at.invariant _ c.in-Ok-Gives.ensures k c.in-Ok.ensures refl in
+    let h = turn_goes _ _ _ _ c.loop-at.invariant _ c.in-Ok-Gives.ensures k c.in-Ok-step.ensures refl in
     rw c.directed-st.ensures h.head
 
 pub returns : goal.returns

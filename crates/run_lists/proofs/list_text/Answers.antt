@@ -63,15 +63,15 @@ pub returns-in_default : goal.returns-in_default
 returns-in_default c = rw c.stand_at-in_default.ensures c.loop-k.invariant.onward
 
 pub overflow_add-at : goal.overflow_add-at
-overflow_add-at c = omega (arith, (found_fits _ _ _ _ c.designation_at.ensures c.in-Some.is).1)
+overflow_add-at c = omega (arith, (found_fits _ _ _ _ c.designation_at.ensures c.in-Ok.is).1)
 
 pub loop-k-smaller : goal.loop-k-smaller
-loop-k-smaller c = let fits = found_fits _ _ _ _ c.designation_at.ensures c.in-Some.is in
+loop-k-smaller c = let fits = found_fits _ _ _ _ c.designation_at.ensures c.in-Ok.is in
     omega (arith, fits.0, fits.1)
 
 pub loop-k-preserved : goal.loop-k-preserved
 loop-k-preserved c = designates c.loop-k.invariant c.loop-k-test.true _ _ _ c.designation_at.ensures
-    c.in-Some.is c.designated-st.ensures
+    c.in-Ok.is c.designated-st.ensures
     (record { left_is = c.upper-left-in-loop-k.ensures; right_is = c.upper-right-in-loop-k.ensures })
 
 pub shape_of-out : goal.shape_of-out

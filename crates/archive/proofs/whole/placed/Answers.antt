@@ -14,21 +14,21 @@ pub returns-in_default : goal.returns-in_default
 returns-in_default c = (c.loop-place.invariant, refl)
 
 pub overflow_add-place : goal.overflow_add-place
-overflow_add-place c = omega (arith, (designation_found _ _ _ _ c.designation_at.ensures c.in-Some.is).1)
+overflow_add-place c = omega (arith, (designation_found _ _ _ _ c.designation_at.ensures c.in-Ok.is).1)
 
 pub loop-place-smaller-in-GL : goal.loop-place-smaller-in-GL
-loop-place-smaller-in-GL c = let some = designation_found _ _ _ _ c.designation_at.ensures c.in-Some.is in omega (arith, some.0, some.1)
+loop-place-smaller-in-GL c = let some = designation_found _ _ _ _ c.designation_at.ensures c.in-Ok.is in omega (arith, some.0, some.1)
 
 pub loop-place-preserved-in-GL : goal.loop-place-preserved-in-GL
 unfolding put
-loop-place-preserved-in-GL c = places_found _ _ _ _ _ c.loop-place.invariant _ _ c.designation_at.ensures c.in-Some.is GL c.in-GL.is
+loop-place-preserved-in-GL c = places_found _ _ _ _ _ c.loop-place.invariant _ _ c.designation_at.ensures c.in-Ok.is GL c.in-GL.is
 
 pub loop-place-smaller : goal.loop-place-smaller
-loop-place-smaller c = let some = designation_found _ _ _ _ c.designation_at.ensures c.in-Some.is in omega (arith, some.0, some.1)
+loop-place-smaller c = let some = designation_found _ _ _ _ c.designation_at.ensures c.in-Ok.is in omega (arith, some.0, some.1)
 
 pub loop-place-preserved : goal.loop-place-preserved
 unfolding put
-loop-place-preserved c = places_found _ _ _ _ _ c.loop-place.invariant _ _ c.designation_at.ensures c.in-Some.is GR c.in-GR.is
+loop-place-preserved c = places_found _ _ _ _ _ c.loop-place.invariant _ _ c.designation_at.ensures c.in-Ok.is GR c.in-GR.is
 
 pub returns-after-loop-place : goal.returns-after-loop-place
 returns-after-loop-place c = (c.loop-place.invariant, refl)
