@@ -42,7 +42,11 @@ pub fn shape(s: &[u8], at: usize, sets: Sets) -> Result<Shape, Refused>
 
 // A unit whose step by the direction rule is known.
 #[tactic(auto, unfolding(crate::specs::Element::stepped_of))]
-pub fn stepped<R: Reason>(part: Part, st: State, step: Result<Directions, R>) -> Result<Element, Refused<R>>
+pub fn stepped<R: Reason>(
+    part: Part,
+    st: State,
+    step: Result<Directions, R>,
+) -> Result<Element, Refused<R>>
     ensures { element_by R.number result ≡ stepped_of part st (step_by R.number step) }
 {
     match step {
@@ -63,7 +67,10 @@ fn told<R: Reason>(step: Result<Directions, Refusal>) -> Result<Directions, R>
 
 // A shape under a state: a designation changes the sets alone, and a unit, by the direction rule, the directions alone.
 #[tactic(auto, unfolding(crate::specs::Element::directed_of))]
-pub fn directed<R: Reason>(shape: Result<Shape, Refused<R>>, st: State) -> Result<Element, Refused<R>>
+pub fn directed<R: Reason>(
+    shape: Result<Shape, Refused<R>>,
+    st: State,
+) -> Result<Element, Refused<R>>
     ensures { element_by R.number result ≡ directed_of (shape_by R.number shape) st }
 {
     match shape? {

@@ -37,14 +37,14 @@ pub step_over-requires-then-is_run : goal.step_over-requires-then-is_run
 step_over-requires-then-is_run c =
     let low = ltb-true _ _ (sym c.is_run.ensures ∙ c.if-is_run.true) in
     let cut = begun_cut _ _ _ (λ i. omega (arith, c.type_inv.s i)) _ _ _ c.in-Some-piece_at.ensures low c.number-then-is_run.ensures
-        c.text_end-end-then-is_run.ensures in
+    c.text_end-end-then-is_run.ensures in
     omega (arith, begun_starts _ _ _ _ c.in-Some-piece_at.ensures low, cut.more)
 
 pub returns-then-is_run : goal.returns-then-is_run
 returns-then-is_run c =
     let low = ltb-true _ _ (sym c.is_run.ensures ∙ c.if-is_run.true) in
     let cut = begun_cut _ _ _ (λ i. omega (arith, c.type_inv.s i)) _ _ _ c.in-Some-piece_at.ensures low c.number-then-is_run.ensures
-        c.text_end-end-then-is_run.ensures in
+    c.text_end-end-then-is_run.ensures in
     after c.loop-at.invariant (turn_shown _ _ _ cut low refl c.step_over-then-is_run.ensures)
 
 pub loop-at-smaller : goal.loop-at-smaller
