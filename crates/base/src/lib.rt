@@ -10,7 +10,7 @@ pub mod kind;
 pub mod limit;
 pub mod refusal;
 
-pub use crate::refusal::Refusal;
+pub use crate::refusal::{Reason, Refusal};
 
 // An answer: the number of the refusal (0 for accepted), its place and its count.
 #[repr(C)]

@@ -1,5 +1,5 @@
 // Why something is refused, and the numbers of refusal.
-ghost use Rattle.std.specs.Prelude.{◌≡◌};
+ghost use Rattle.std.specs.Prelude.{◌≡◌, ℕ};
 ghost use Rattle.base.specs.Refusal.{number_of};
 
 // The number of no refusal.
@@ -46,5 +46,30 @@ impl Refusal {
         ensures { result ≡ number_of self }
     {
         self as u8
+    }
+}
+
+// A reason for which something is refused: a refusal, or any number, as another caller may have it.
+pub trait Reason: Copy {
+    ghost number: { Self → ℕ };
+
+    // The reason that a refusal is.
+    fn of(refusal: Refusal) -> Self
+        ensures { number result ≡ number_of refusal };
+}
+
+impl Reason for Refusal {
+    ghost number = { number_of };
+
+    fn of(refusal: Refusal) -> Refusal {
+        refusal
+    }
+}
+
+impl Reason for u8 {
+    ghost number = { λ n. n };
+
+    fn of(refusal: Refusal) -> u8 {
+        refusal.number()
     }
 }

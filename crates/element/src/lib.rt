@@ -3,11 +3,11 @@
 
 ghost use Rattle.std.specs.Prelude.{◌≡◌, ◌<◌, length};
 ghost use Rattle.base.specs.Choice.{from};
-ghost use Rattle.state.specs.Directions.{step_seen};
-ghost use Rattle.state.specs.Elements.{shape_seen, element_seen};
+ghost use Rattle.state.specs.Directions.{step_by, step_seen};
+ghost use Rattle.state.specs.Elements.{shape_by, shape_seen, element_by, element_seen};
 ghost use Rattle.element.specs.Element.{shape_of, stepped_of, directed_of, element_of};
 
-use base::{Refusal, kind};
+use base::{Reason, Refusal, kind};
 use state::directions::Directions;
 use state::elements::{Element, Part, Refused, Shape, bare};
 use state::{Sets, State};
@@ -42,19 +42,36 @@ pub fn shape(s: &[u8], at: usize, sets: Sets) -> Result<Shape, Refused>
 
 // A unit whose step by the direction rule is known.
 #[tactic(auto, unfolding(crate::specs::Element::stepped_of))]
-pub fn stepped(part: Part, st: State, step: Result<Directions, Refusal>) -> Result<Element, Refused>
-    ensures { element_seen result ≡ stepped_of part st (step_seen step) }
+pub fn stepped<R: Reason>(
+    part: Part,
+    st: State,
+    step: Result<Directions, R>,
+) -> Result<Element, Refused<R>>
+    ensures { element_by R.number result ≡ stepped_of part st (step_by R.number step) }
 {
     match step {
         Ok(directions) => Ok(Element::Found(part, st.directed(directions))),
-        Err(refusal) => Err(Refused(refusal, 0)),
+        Err(reason) => Err(Refused(reason, 0)),
+    }
+}
+
+// A step whose refusal is told as a reason. A `match`: the borrow checker does not cover `map_err(R::of)` yet.
+fn told<R: Reason>(step: Result<Directions, Refusal>) -> Result<Directions, R>
+    ensures { step_by R.number result ≡ step_seen step }
+{
+    match step {
+        Ok(directions) => Ok(directions),
+        Err(refusal) => Err(R::of(refusal)),
     }
 }
 
 // A shape under a state: a designation changes the sets alone, and a unit, by the direction rule, the directions alone.
 #[tactic(auto, unfolding(crate::specs::Element::directed_of))]
-pub fn directed(shape: Result<Shape, Refused>, st: State) -> Result<Element, Refused>
-    ensures { element_seen result ≡ directed_of (shape_seen shape) st }
+pub fn directed<R: Reason>(
+    shape: Result<Shape, Refused<R>>,
+    st: State,
+) -> Result<Element, Refused<R>>
+    ensures { element_by R.number result ≡ directed_of (shape_by R.number shape) st }
 {
     match shape? {
         Shape::Ends => Ok(Element::End),
@@ -64,7 +81,7 @@ pub fn directed(shape: Result<Shape, Refused>, st: State) -> Result<Element, Ref
         )),
         Shape::Gives(part) => {
             let step = st.directions.step(part.text, part.kind);
-            stepped(part, st, step)
+            stepped(part, st, told(step))
         }
     }
 }

@@ -4,6 +4,7 @@ use Rattle.base.specs.Choice.{pick}
 use Rattle.base.specs.Kind as kind
 use Rattle.grammar.specs.Reading.{Elements, end_at, stopped_at, silent_at, found_at, size, elements_of}
 use Rattle.state.specs.State.{fresh}
+use Rattle.state.specs.declared.Sets.{Sets}
 use Rattle.state.specs.declared.State.{State}
 use Rattle.state.specs.Elements.{Element, End, Refused, Silent, Found}
 use Rattle.pieces.specs.PieceKind as piece_kind
@@ -98,9 +99,12 @@ unfoldable pub holding : List Piece → ℕ → ℕ
 holding [] i = 0
 holding (p ∷ ps) i = pick (contains p i) (1 + holding ps i) (holding ps i)
 
--- the set that stands on the side of a run
+-- the set that stands on the side of a run, by the number of its kind, which is GR's for any but GL's
+abbrev pub set_on : Sets → ℕ → ℕ
+set_on sets k = pick (eqb k piece_kind.gl_run) sets.gl sets.gr
+
 unfoldable pub set_in : Piece → ℕ
-set_in p = pick (eqb p.kind piece_kind.gl_run) p.state.sets.gl p.state.sets.gr
+set_in p = set_on p.state.sets p.kind
 
 -- the state in which the octet at a place i is read, of elements that start with a state: that before its element
 unfoldable pub state_at : State → Elements → ℕ → State

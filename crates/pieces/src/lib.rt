@@ -4,25 +4,32 @@
 ghost use Rattle.std.specs.Prelude.{◌≡◌};
 ghost use Rattle.base.specs.Choice.{from};
 ghost use Rattle.element.specs.Element.{element_of};
-ghost use Rattle.pieces.specs.Pieces.{kind_number, viewed, seen, is_run, side_kind_of, piece_kind_of, piece_of, set_in};
+ghost use Rattle.pieces.specs.Pieces.{kind_number, seen, is_run, side_kind_of, piece_kind_of, piece_of, set_on};
 
 use base::kind;
-use state::State;
 use state::elements::Element;
+use state::{Sets, State};
 
-// What a piece is.
+// What a piece is, each kind with its number.
 #[derive(Clone, Copy, PartialEq, Eq)]
 pub enum PieceKind {
-    GlRun,
-    GrRun,
-    Tab,
-    Newline,
+    GlRun = 0,
+    GrRun = 1,
+    Tab = 2,
+    Newline = 3,
     // a designation or a direction mark
-    Control,
-    Segment,
+    Control = 4,
+    Segment = 5,
 }
 
 impl PieceKind {
+    // The number of the kind.
+    pub fn number(self) -> u8
+        ensures { result ≡ kind_number self }
+    {
+        self as u8
+    }
+
     pub fn is_run(self) -> bool
         ensures { result ≡ is_run (kind_number self) }
     {
@@ -94,14 +101,14 @@ pub fn piece_at(s: &[u8], at: usize, st: State) -> Option<Piece>
     }
 }
 
-// The set on the side of a run.
-#[tactic(auto, using(base::proofs::Ladder::ladder), unfolding(crate::specs::Pieces::set_in))]
-pub fn set_in(run: Piece) -> u8
-    ensures { result ≡ set_in (viewed run) }
+// The set on the side of a run, by the number of its kind; any other number is taken for a GR run's.
+#[tactic(auto, using(base::proofs::Ladder::ladder))]
+pub fn set_in(sets: Sets, kind: u8) -> u8
+    ensures { result ≡ set_on sets kind }
 {
-    let sets = run.state.sets;
-    match run.kind {
-        PieceKind::GlRun => sets.gl,
-        _ => sets.gr,
+    if kind == PieceKind::GlRun.number() {
+        sets.gl
+    } else {
+        sets.gr
     }
 }

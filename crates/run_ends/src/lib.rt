@@ -3,7 +3,6 @@
 
 ghost use Rattle.std.specs.Prelude.{◌≡◌};
 ghost use Rattle.base.specs.Choice.{from};
-ghost use Rattle.pieces.specs.Pieces.{kind_number};
 ghost use Rattle.run_ends.specs.Ends.{ones_to, twos_to, left_to, right_to, text_to};
 
 use charset::{FORM_94X94, FORM_96};
@@ -84,13 +83,14 @@ pub fn right_end(s: &[u8], at: usize, sets: Sets) -> usize
     }
 }
 
-// The end of a run of a kind that reaches a place.
+// The end of a run of a kind, by its number, that reaches a place; any other number is taken for a GR run's.
 #[tactic(auto, using(base::proofs::Ladder::ladder), unfolding(crate::specs::Ends::text_to))]
-pub fn text_end(s: &[u8], at: usize, sets: Sets, kind: PieceKind) -> usize
-    ensures { result ≡ text_to sets (kind_number kind) at (from at s.now) }
+pub fn text_end(s: &[u8], at: usize, sets: Sets, kind: u8) -> usize
+    ensures { result ≡ text_to sets kind at (from at s.now) }
 {
-    match kind {
-        PieceKind::GlRun => left_end(s, at, sets),
-        _ => right_end(s, at, sets),
+    if kind == PieceKind::GlRun.number() {
+        left_end(s, at, sets)
+    } else {
+        right_end(s, at, sets)
     }
 }

@@ -87,7 +87,8 @@ fn word(run: Piece) -> u64
     requires { (run.start ≤ limits.octets) × (run.end ≤ limits.octets) }
     ensures { result ≡ word_of (shown_of 0 (viewed run)) }
 {
-    let part = upper(pieces::set_in(run), run.state.directions.in_force());
+    let set = pieces::set_in(run.state.sets, run.kind.number());
+    let part = upper(set, run.state.directions.in_force());
     joined(run.start, run.end, part)
 }
 
@@ -180,7 +181,7 @@ fn list_from(s: &[u8], place: usize, state: State, out: &mut [u64]) -> RunsStep
         };
         let after = next.state;
         if next.kind.is_run() {
-            let end = text_end(s, next.end, after.sets, next.kind);
+            let end = text_end(s, next.end, after.sets, next.kind.number());
             out[k] = word(Piece { end, ..next });
             l = stand_at(end, k + 1, after);
             continue;

@@ -275,17 +275,17 @@ module _ (s : List ℕ) where
         → Cut at st (piece at (at + d.octets) piece_kind.control (designated_of d.side d.set st)) (designated_of d.side d.set st)
     cut_found o d e f = let h = ok_named o _ e d f in cut_designation d h.0 h.1
 
-    -- text that leaves the state, up to the end that the code finds
-    pub text_cut : Octets s → (k e : ℕ) → k < 2 → settled_of st.directions ≡ true → e ≡ text_to st.sets k at (from at s) → at < e
+    -- text that leaves the state, up to the end that the code finds for a number j, which is that of the kind
+    pub text_cut : Octets s → (k e j : ℕ) → k < 2 → settled_of st.directions ≡ true → j ≡ k → e ≡ text_to st.sets j at (from at s) → at < e
         → Cut at st (piece at e k st) st
-    text_cut o k e low settled is l = cut_text k low (rw is (text_grows s st settled o k low at)) l
+    text_cut o k e j low settled same is l = cut_text k low (rw (is, same) (text_grows s st settled o k low at)) l
 
     -- the first text of a string, or of what a position made by hand leaves open
-    pub begun_cut : Octets s → (q : Piece) (e : ℕ) → q ≡ piece_at s at st → q.kind < 2
-        → e ≡ text_to q.state.sets q.kind q.end (from q.end s) → Cut at st (piece q.start e q.kind q.state) q.state
-    begun_cut o q e is low end =
+    pub begun_cut : Octets s → (q : Piece) (e j : ℕ) → q ≡ piece_at s at st → q.kind < 2 → j ≡ q.kind
+        → e ≡ text_to q.state.sets j q.end (from q.end s) → Cut at st (piece q.start e q.kind q.state) q.state
+    begun_cut o q e j is low same end =
         let settled : settled_of q.state.directions ≡ true = rw is (text_settled s st at (lt-ltb _ 2 (rw is at low))) in
-        cut_run q is low (rw end (text_grows s q.state settled o q.kind low q.end))
+        cut_run q is low (rw (end, same) (text_grows s q.state settled o q.kind low q.end))
 
     pub begun_starts : (q : Piece) → q ≡ piece_at s at st → q.kind < 2 → q.start ≡ at
     begun_starts q is low = (moved-run at st q is low).starts

@@ -50,12 +50,12 @@ pub fn no_run(answer: Answer) -> Bounds
 }
 
 // A run of a string of n octets.
-#[tactic(auto, using(base::proofs::Ladder::ladder), unfolding(crate::specs::Runs::shown_of))]
+#[tactic(auto, using(base::proofs::Ladder::ladder), unfolding(crate::specs::Runs::shown_of, pieces::specs::Pieces::set_in))]
 fn shown(n: usize, run: Piece) -> Bounds
     requires { run.start ≤ run.end }
     ensures { result ≡ shown_of n (viewed run) }
 {
-    let set = pieces::set_in(run);
+    let set = pieces::set_in(run.state.sets, run.kind.number());
     Bounds {
         start: run.start,
         end: run.end,

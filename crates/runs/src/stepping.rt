@@ -107,7 +107,7 @@ pub fn run_from(s: &[u8], place: usize, state: State) -> RunStep
             }
         } else if settled(st.directions) {
             let kind = pieces::side_kind(b);
-            let end = text_end(s, at, st.sets, kind);
+            let end = text_end(s, at, st.sets, kind.number());
             if at < end {
                 let run = Piece {
                     start: at,
@@ -123,7 +123,7 @@ pub fn run_from(s: &[u8], place: usize, state: State) -> RunStep
         };
         let after = next.state;
         if next.kind.is_run() {
-            let end = text_end(s, next.end, after.sets, next.kind);
+            let end = text_end(s, next.end, after.sets, next.kind.number());
             return step_over(s.len(), Piece { end, ..next });
         }
         at = next.end;

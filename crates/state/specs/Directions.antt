@@ -13,10 +13,14 @@ pub data Step : Type 0 where
   Goes : Directions → Step
   Stops : ℕ → Step
 
--- a step as the code answers it
+-- a step as the code answers it, where each reason has a number
+abbrev pub step_by : {R : Type 0} → (R → ℕ) → Result Directions R → Step
+step_by number (Ok d) = Goes d
+step_by number (Err r) = Stops (number r)
+
+-- and where the reason is a refusal
 abbrev pub step_seen : Result Directions Refusal → Step
-step_seen (Ok d) = Goes d
-step_seen (Err r) = Stops (refusal.number_of r)
+step_seen = step_by refusal.number_of
 
 -- how many directions are open; their ways, a binary digit for each, the last opened lowest; whether a mark was read, and whether text
 abbrev pub directions : ℕ → ℕ → Bool → Bool → Directions

@@ -1,7 +1,7 @@
 -- The parts of a shape's definition that text, segments and control sequences share.
 use Rattle.std.specs.Prelude.{ℕ, Bool, List, [], ◌∷◌, Result, Ok, Err}
 use Rattle.base.specs.Refusal as refusal
-use Rattle.base.specs.declared.refusal.Refusal.{TheVariants.Cut}
+use Rattle.base.specs.declared.refusal.Refusal.{Refusal, TheVariants.Cut}
 use Rattle.charset.specs.declared.Side.{Side}
 use Rattle.state.specs.Directions.{counts_as_text}
 use Rattle.state.specs.declared.elements.Part.{Part}
@@ -27,21 +27,28 @@ pub data Element : Type 0 where
   Silent : ℕ → State → Element
   Found : Part → State → Element
 
--- these as the code answers them
-abbrev pub shape_seen : Result CodeShape CodeRefused → Shape
-shape_seen (Ok CodeEnds) = Ends
-shape_seen (Ok (CodeDesignates k d c)) = Designates k d c
-shape_seen (Ok (CodeGives p)) = Gives p
-shape_seen (Err e) = Refuses (refusal.number_of e.0) e.1
+-- these as the code answers them, where each reason has a number
+abbrev pub shape_by : {R : Type 0} → (R → ℕ) → Result CodeShape (CodeRefused R) → Shape
+shape_by number (Ok CodeEnds) = Ends
+shape_by number (Ok (CodeDesignates k d c)) = Designates k d c
+shape_by number (Ok (CodeGives p)) = Gives p
+shape_by number (Err e) = Refuses (number e.0) e.1
 
-abbrev pub element_seen : Result CodeElement CodeRefused → Element
-element_seen (Ok CodeEnd) = End
-element_seen (Ok (CodeSilent k st)) = Silent k st
-element_seen (Ok (CodeFound p st)) = Found p st
-element_seen (Err e) = Refused (refusal.number_of e.0) e.1
+abbrev pub element_by : {R : Type 0} → (R → ℕ) → Result CodeElement (CodeRefused R) → Element
+element_by number (Ok CodeEnd) = End
+element_by number (Ok (CodeSilent k st)) = Silent k st
+element_by number (Ok (CodeFound p st)) = Found p st
+element_by number (Err e) = Refused (number e.0) e.1
+
+-- and where the reason is a refusal
+abbrev pub shape_seen : Result CodeShape (CodeRefused Refusal) → Shape
+shape_seen = shape_by refusal.number_of
+
+abbrev pub element_seen : Result CodeElement (CodeRefused Refusal) → Element
+element_seen = element_by refusal.number_of
 
 -- a cut after so many octets
-abbrev pub cut_after : ℕ → CodeRefused
+abbrev pub cut_after : ℕ → CodeRefused Refusal
 cut_after k = record { 0 = Cut; 1 = k }
 
 -- kind, set, code, octets before the unit's own, the unit's octets, whether it is text for the direction rule

@@ -19,9 +19,9 @@ pub struct Part {
     pub text: bool,
 }
 
-// Why an element is refused, and how far from its start the place is.
+// Why an element is refused, and how far from its start the place is. The reason is a refusal, but for a caller that has numbers of its own.
 #[derive(Clone, Copy, PartialEq, Eq)]
-pub struct Refused(pub Refusal, pub usize);
+pub struct Refused<R = Refusal>(pub R, pub usize);
 
 // What stands at a place before the direction rule is asked: it neither knows nor changes the directions.
 #[derive(Clone, Copy)]

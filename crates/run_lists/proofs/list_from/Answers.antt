@@ -30,7 +30,7 @@ pub word-requires : goal.word-requires
 word-requires c =
     let short = c.requires in
     let low = ltb-true _ _ (sym c.is_run.ensures ∙ c.if-is_run.true) in
-    let cut = begun_cut _ _ _ (λ i. omega (arith, c.type_inv.s i)) _ _ c.in-Some.ensures low c.text_end-end.ensures in
+    let cut = begun_cut _ _ _ (λ i. omega (arith, c.type_inv.s i)) _ _ _ c.in-Some.ensures low c.number.ensures c.text_end-end.ensures in
     (omega (arith, short, begun_starts _ _ _ _ c.in-Some.ensures low, cut.more, cut.within), omega (arith, short, cut.within))
 
 pub offset_bounds-out-k : goal.offset_bounds-out-k
@@ -44,13 +44,13 @@ overflow_add-k c = let long = (on_join c.loop-out.invariant c.list_quickly-l.ens
 pub loop-out-smaller-then-is_run : goal.loop-out-smaller-then-is_run
 loop-out-smaller-then-is_run c =
     let low = ltb-true _ _ (sym c.is_run.ensures ∙ c.if-is_run.true) in
-    let cut = begun_cut _ _ _ (λ i. omega (arith, c.type_inv.s i)) _ _ c.in-Some.ensures low c.text_end-end.ensures in
+    let cut = begun_cut _ _ _ (λ i. omega (arith, c.type_inv.s i)) _ _ _ c.in-Some.ensures low c.number.ensures c.text_end-end.ensures in
     rw c.stand_at-l-then-is_run.ensures (omega (arith, c.list_quickly-l.ensures.further, cut.more, cut.within))
 
 pub loop-out-preserved-then-is_run : goal.loop-out-preserved-then-is_run
 loop-out-preserved-then-is_run c =
     let low = ltb-true _ _ (sym c.is_run.ensures ∙ c.if-is_run.true) in
-    let cut = begun_cut _ _ _ (λ i. omega (arith, c.type_inv.s i)) _ _ c.in-Some.ensures low c.text_end-end.ensures in
+    let cut = begun_cut _ _ _ (λ i. omega (arith, c.type_inv.s i)) _ _ _ c.in-Some.ensures low c.number.ensures c.text_end-end.ensures in
     rw c.stand_at-l-then-is_run.ensures
     (on_shown (on_join c.loop-out.invariant c.list_quickly-l.ensures) c.if-out-k.false cut _ low c.word.ensures)
 

@@ -27,7 +27,7 @@ pub returns-then-at-end : goal.returns-then-at-end
 returns-then-at-end c =
     let low = side_low _ c.side_kind-kind.ensures in
     let settled = sym c.settled.ensures ∙ c.if-settled.true in
-    let cut = text_cut _ _ _ (λ i. omega (arith, c.type_inv.s i)) _ _ low settled c.text_end-end.ensures c.if-at-end.true in
+    let cut = text_cut _ _ _ (λ i. omega (arith, c.type_inv.s i)) _ _ _ low settled c.number.ensures c.text_end-end.ensures c.if-at-end.true in
     after c.loop-at.invariant (turn_shown _ _ _ cut low refl c.step_over.ensures)
 
 pub returns-in_default-piece_at : goal.returns-in_default-piece_at
@@ -36,13 +36,15 @@ returns-in_default-piece_at c = after c.loop-at.invariant (turn_none _ _ _ _ c.i
 pub step_over-requires-then-is_run : goal.step_over-requires-then-is_run
 step_over-requires-then-is_run c =
     let low = ltb-true _ _ (sym c.is_run.ensures ∙ c.if-is_run.true) in
-    let cut = begun_cut _ _ _ (λ i. omega (arith, c.type_inv.s i)) _ _ c.in-Some.ensures low c.text_end-end-then-is_run.ensures in
+    let cut = begun_cut _ _ _ (λ i. omega (arith, c.type_inv.s i)) _ _ _ c.in-Some.ensures low c.number-then-is_run.ensures
+    c.text_end-end-then-is_run.ensures in
     omega (arith, begun_starts _ _ _ _ c.in-Some.ensures low, cut.more)
 
 pub returns-then-is_run : goal.returns-then-is_run
 returns-then-is_run c =
     let low = ltb-true _ _ (sym c.is_run.ensures ∙ c.if-is_run.true) in
-    let cut = begun_cut _ _ _ (λ i. omega (arith, c.type_inv.s i)) _ _ c.in-Some.ensures low c.text_end-end-then-is_run.ensures in
+    let cut = begun_cut _ _ _ (λ i. omega (arith, c.type_inv.s i)) _ _ _ c.in-Some.ensures low c.number-then-is_run.ensures
+    c.text_end-end-then-is_run.ensures in
     after c.loop-at.invariant (turn_shown _ _ _ cut low refl c.step_over-then-is_run.ensures)
 
 pub loop-at-smaller : goal.loop-at-smaller
