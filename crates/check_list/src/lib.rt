@@ -16,11 +16,12 @@ use state::directions::Directions;
 
 mod record;
 
-// A record that offends: its index, and the number of its refusal.
+// A record that offends: the number of its refusal, and its index. The number first, since with the place first the compiler takes apart, octet by octet,
+// what is carried from record to record, and the processor waits where it is read whole.
 #[derive(Clone, Copy)]
 pub struct Offence {
-    pub place: usize,
     pub number: u8,
+    pub place: usize,
 }
 
 // How far a list is checked: what the directions are after the last record, or the first record that offends.
@@ -68,7 +69,16 @@ pub fn turn(progress: Progress, unit: Unit, i: usize, segments: &[u8], work: &mu
     ensures { (result ≡ turn_of segments.now unit i progress)
         × (work.new ≡ room_after (turn_of segments.now unit i progress) unit i work.old) }
 {
-    let directions = progress?;
+    let directions = match progress {
+        Ok(directions) => directions,
+        // no `?`: it copies an Offence whole, with what lies between its fields, and so takes apart what is carried from record to record
+        Err(first) => {
+            return Err(Offence {
+                number: first.number,
+                place: first.place,
+            });
+        }
+    };
     match judge(unit, segments, directions) {
         Ok(next) => {
             record::put(unit, i, work);

@@ -282,6 +282,12 @@ gl_two x h k = in_table places_in_gl 15 (leb 12) (λ y. y - 10) refl x k (le-leb
 pub gr_most : (x : ℕ) → 3 ≤ x → x < 15 → x - 2 ≡ get_or places_in_gr x 0
 gr_most x h k = in_table places_in_gr 15 (leb 3) (λ y. y - 2) refl x k (le-leb 3 x h)
 
+-- a set without a place in GL has one in GR
+pub gr_alone : (x l : ℕ) → x < 15 → l ≡ get_or places_in_gl x 0 → 5 ≤ l → get_or places_in_gr x 0 < 13
+gr_alone x l h el b =
+    ltb-true _ _
+    (up_to_where 15 (λ y. not (ltb (get_or places_in_gl y 0) 5)) (λ y. ltb (get_or places_in_gr y 0) 13) refl x h (rw (← el, le-ltb l 5)))
+
 -- the numbers by a class's places
 module _ (x l r k : ℕ) (el : l ≡ get_or places_in_gl x 0) (er : r ≡ get_or places_in_gr x 0) where
   pub first_gl : x < 15 → l < 5 → with_gl l k ≡ after_first x k

@@ -17,18 +17,20 @@ pub fn judge(unit: Unit, segments: &[u8], directions: Directions) -> Result<Dire
     ensures { step_seen result ≡ fault (unit_read segments.now unit) directions }
 {
     match unit.kind {
-        kind::CHARACTER => own::character(unit.set, unit.code, directions),
+        kind::CHARACTER => return own::character(unit.set, unit.code, directions),
         kind::SPACE..kind::SEGMENT => {
             let text = counts_as_text(unit.kind, 0);
-            directions.step(text, unit.kind)
+            return directions.step(text, unit.kind);
         }
-        kind::SEGMENT => own::segment(
-            unit.code,
-            unit.start as usize,
-            unit.length as usize,
-            segments,
-            directions,
-        ),
+        kind::SEGMENT => {
+            return own::segment(
+                unit.code,
+                unit.start as usize,
+                unit.length as usize,
+                segments,
+                directions,
+            );
+        }
         _ => Err(Refusal::BadUnit),
     }
 }

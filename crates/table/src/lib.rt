@@ -79,7 +79,7 @@ pub fn keep(x: usize, cur: &[u8; size::NUMBERS], work: &mut [u8], row: usize)
     if x < class::DOUBLE {
         return;
     }
-    if work.len().saturating_sub(row) < layout::TAG {
+    if work.len() < layout::TAG || work.len() - layout::TAG < row {
         return;
     }
     if x < class::SPACE {

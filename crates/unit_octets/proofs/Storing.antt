@@ -1,10 +1,10 @@
 -- Octets stored one after the other, and that they are those of designations and units.
 use Rattle.element.proofs.Names.{◌≡◌, refl, sym, ap, ap₂, ◌∙◌, subst, Bool, true, false, List, [], ◌∷◌, ◌++◌, ℕ}
-use Rattle.element.proofs.Names.{◌+◌, ◌*◌, ◌/◌, ◌%◌, ◌≤◌, ◌<◌, arith, ltb, leb, eqb, eq-eqb, ltb-true, ltb-false, lt-ltb, le-ltb, le-leb}
-use Rattle.element.proofs.Names.{lt-leb, eqb-true, ne_eqb, length, get_or, set, take, drop, length-append, sets, test, pick_last}
+use Rattle.element.proofs.Names.{◌+◌, ◌-◌, ◌*◌, ◌/◌, ◌%◌, ◌≤◌, ◌<◌, arith, add-one, ltb, leb, eqb, eq-eqb, ltb-true, ltb-false, lt-ltb, le-ltb, le-leb}
+use Rattle.element.proofs.Names.{lt-leb, eqb-true, ne_eqb, length, get_or, set, take, drop, length-append, length-drop, sets, test, pick_last}
 use Rattle.element.proofs.Names.{pick_by, pick, Side, GL, form_96, form_94x94, row_of, form_of, on}
 use mathlib.Core.List.{append_assoc}
-use lib.Seq.{length-sets, drop-drop}
+use lib.Seq.{length-sets, take-suc, take_all, drop-drop, get_or-drop}
 use borrow.Rule.Slice.PartMut.{put_mid}
 use Rattle.std.proofs.lemmas.List.Edits.{sets-eq}
 use Rattle.base.proofs.Stores.{sets_append}
@@ -13,7 +13,7 @@ use Rattle.charset.proofs.Laws.{narrow_form, wide_form}
 use Rattle.grammar.specs.Units.{Control, control, ext, wide, top, octets, lead, designation}
 use Rattle.rows.specs.Rows.{high_octet, low_octet, start_from, count_of, text_tagged, mark_tagged, other_tagged}
 use Rattle.rows.specs.Tag as tag
-use Rattle.rows.proofs.Units.{other_segment, other_mark}
+use Rattle.rows.proofs.Units.{part_length, other_segment, other_mark}
 use Rattle.shortest.specs.Writing.{designated}
 use Rattle.numbers.specs.Numbers.{sets_in_gl, sets_in_gr, change}
 use Rattle.unit_octets.specs.Octets.{Written, Stored, side_of, sign_of}
@@ -140,6 +140,27 @@ module _ (d : Side) (t a b : ℕ) where
       (ap₂ (λ (m n : ℕ). (top d + m) ∷ (top d + n) ∷ [])
       (let e : (a % 128 * 256 + b % 128) / 256 ≡ a % 128 = omega arith in e)
       (let e : (a % 128 * 256 + b % 128) % 256 ≡ b % 128 = omega arith in e))
+
+-- ---- a copy
+
+part : (o : List ℕ) (s k : ℕ) → k ≤ length o - s → length (take k (drop s o)) ≡ k
+part o s k h = part_length o k s ∙ omega arith
+
+pub copy_more : (l m o : List ℕ) (at s k n : ℕ) → k < n → n ≤ length o - s → m ≡ sets l at (take k (drop s o))
+    → set m (at + k) (get_or o (s + k) 0) ≡ sets l at (take (k + 1) (drop s o))
+copy_more l m o at s k n h f e =
+    ap (λ (x : List ℕ). set x (at + k) (get_or o (s + k) 0)) e
+    ∙ ap (λ (j : ℕ). set (sets l at (take k (drop s o))) (at + j) (get_or o (s + k) 0)) (sym (part o s k (omega arith)))
+    ∙ sets_append (take k (drop s o)) (get_or o (s + k) 0 ∷ []) l at
+    ∙ ap (sets l at)
+    (ap (λ (y : ℕ). take k (drop s o) ++ (y ∷ [])) (sym (get_or-drop s o k 0))
+    ∙ sym (take-suc (drop s o) k 0 (simp length-drop (omega arith))) ∙ ap (λ (j : ℕ). take j (drop s o)) (sym (add-one k)))
+
+pub copy_done : (l m o : List ℕ) (at s k n : ℕ) → k ≤ n → n ≤ k → n ≤ length o - s → m ≡ sets l at (take k (drop s o))
+    → Written l at (take n (drop s o)) (at + n) m
+copy_done l m o at s k n h h' f e =
+    let q : k ≡ n = omega arith in
+    record { next = omega (arith, part o s n f); now = e ∙ ap (λ (j : ℕ). sets l at (take j (drop s o))) q }
 
 -- a segment's octets: six, then its part
 pub segment_octets : (d : ℕ) (p : List ℕ) → octets GL (ext d p) ≡ (0x1B ∷ 0x25 ∷ 0x2F ∷ d ∷ (128 + length p / 128) ∷ (128 + length p % 128) ∷ []) ++ p

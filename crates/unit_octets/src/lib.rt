@@ -114,6 +114,18 @@ fn part(segments: &[u8], start: usize, n: usize) -> &[u8]
     &rest[..n.min(rest.len())]
 }
 
+// Copies a part. Octet by octet: the slice method that copies calls `memmove`, which the library for C would then need from outside.
+fn copy(part: &[u8], out: &mut [u8], at: usize) -> usize
+    requires { at + length part.now ≤ length out.old }
+    ensures { Written out.old at part.now result out.new }
+{
+    let n = part.len();
+    for k in 0..n {
+        out[at + k] = part[k];
+    }
+    at + n
+}
+
 // Stores an extended segment of d and a part. Not put into its caller: there it takes registers of the loop over the rows (`emit`).
 #[inline(never)]
 fn put_segment(d: u8, part: &[u8], out: &mut [u8], at: usize) -> usize
@@ -133,8 +145,7 @@ fn put_segment(d: u8, part: &[u8], out: &mut [u8], at: usize) -> usize
         (128 + n % 128) as u8,
     ];
     let at = stores::put(lead, out, at);
-    out[at..at + n].copy_from_slice(part);
-    at + n
+    copy(part, out, at)
 }
 
 // Stores the segment or the mark of the row that starts at a place, and answers the next place.

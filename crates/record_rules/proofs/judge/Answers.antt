@@ -15,5 +15,5 @@ returns-in-1-to-6 c = let args = c.args in
     ∙ ap (λ (t : Bool). step_of t args.unit.kind args.directions) c.counts_as_text-text.ensures
     ∙ kind_plain _ _ _ (λ e. omega arith) (omega arith)
 
-pub returns-in_default : goal.returns-in_default
-returns-in_default c = kind_none _ _ _ (omega arith)
+pub returns : goal.returns
+returns c = kind_none _ _ _ (omega arith)

@@ -1,6 +1,6 @@
 -- `unit_octets::put_segment` meets its contract: six octets, and the part.
 use Rattle.element.proofs.Names.{arith}
-use Rattle.unit_octets.proofs.Storing.{written_as, written_both, written_part, written_length, stored_yes, stored_no, stored_written, segment_octets}
+use Rattle.unit_octets.proofs.Storing.{written_as, written_both, written_length, stored_yes, stored_no, stored_written, segment_octets}
 use Rattle.unit_octets.proofs.Storing.{segment_length}
 use Rattle.unit_octets.proofs.put_segment.Goals as goal
 use Rattle.unit_octets.proofs.put_segment.Goals.{then-out-at-via-then-out-at, then-out-at-via-else-out-at+then-out-at-2}
@@ -13,14 +13,10 @@ returns-then-out-at c = let long = segment_length c.args.d c.args.part.now in
       | then-out-at-via-else-out-at+then-out-at-2 w ↦ omega (arith, long)
     ])
 
-pub overflow_add-at : goal.overflow_add-at
-overflow_add-at c = let lead = stored_written (omega arith) c.put-at.ensures in omega (arith, lead.next)
-
-pub slice_bounds-copy_from_slice-end : goal.slice_bounds-copy_from_slice-end
-slice_bounds-copy_from_slice-end c = let lead = stored_written (omega arith) c.put-at.ensures in omega (arith, lead.next, written_length lead)
+pub copy-requires : goal.copy-requires
+copy-requires c = let lead = stored_written (omega arith) c.put-at.ensures in omega (arith, lead.next, written_length lead)
 
 pub returns : goal.returns
 returns c = let lead = stored_written (omega arith) c.put-at.ensures in
     stored_yes (omega (arith, segment_length c.args.d c.args.part.now))
-    (written_as (segment_octets c.args.d c.args.part.now)
-    (written_both lead (written_part c.copy_from_slice.ensures.after (omega arith) (omega arith) (omega (arith, lead.next, written_length lead)))))
+    (written_as (segment_octets c.args.d c.args.part.now) (written_both lead c.copy.ensures))
