@@ -22,33 +22,74 @@ pub struct Unnamed {
     pub side: Side,
 }
 
-impl Unnamed {
-    const NONE: Unnamed = Unnamed {
-        octets: 0,
-        side: Side::GL,
-    };
-}
+// Where there is no designation.
+const ABSENT: Designation = Designation {
+    octets: 0,
+    side: Side::GL,
+    set: NO_SET,
+};
 
-// The designation of a form and side, by its final octet.
-fn by_final(octets: usize, form: u8, side: Side, last: u8) -> Result<Designation, Unnamed>
-    ensures { result ≡ named_or (by_final_of octets form side last) }
+// The designation of a form and side, by its final octet; its set is none where no set has that octet. So in the next three.
+fn by_final(octets: usize, form: u8, side: Side, last: u8) -> Designation
+    ensures { result ≡ by_final_of octets form side last }
 {
-    let set = charset::set_of(form, side, last);
-    if set < NO_SET {
-        Ok(Designation { octets, side, set })
-    } else {
-        Err(Unnamed { octets, side })
+    Designation {
+        octets,
+        side,
+        set: charset::set_of(form, side, last),
     }
 }
 
 // The octets after 1B 24.
-fn multi_octet(b: u8, last: u8) -> Result<Designation, Unnamed>
-    ensures { result ≡ named_or (multi_octet_at b last) }
+#[tactic(auto, using(base::proofs::Ladder::ladder), unfolding(crate::specs::Designation::multi_octet_at))]
+fn multi_octet(b: u8, last: u8) -> Designation
+    ensures { result ≡ multi_octet_at b last }
 {
     match b {
         0x28 => by_final(4, FORM_94X94, Side::GL, last),
         0x29 => by_final(4, FORM_94X94, Side::GR, last),
-        _ => Err(Unnamed::NONE),
+        _ => ABSENT,
+    }
+}
+
+// The three octets after 1B.
+#[tactic(auto, using(base::proofs::Ladder::ladder), unfolding(crate::specs::Designation::sequence_of))]
+fn by_sequence(b: u8, c: u8, d: u8) -> Designation
+    ensures { result ≡ sequence_of b c d }
+{
+    match b {
+        0x24 => multi_octet(c, d),
+        0x28 => by_final(3, FORM_94, Side::GL, c),
+        0x29 => by_final(3, FORM_94, Side::GR, c),
+        0x2D => by_final(3, FORM_96, Side::GR, c),
+        _ => ABSENT,
+    }
+}
+
+// The octets at a place. Not put into its callers, who ask whether a set is named: with that test in it, the compiler tells the sets apart by jumps.
+#[inline(never)]
+fn standing(s: &[u8], at: usize) -> Designation
+    ensures { result ≡ designation_at (from at s.now) }
+{
+    if at < s.len() && 4 <= s.len() - at && s[at] == 0x1B {
+        by_sequence(s[at + 1], s[at + 2], s[at + 3])
+    } else {
+        ABSENT
+    }
+}
+
+// A designation whose set is one of the fifteen, or what is known of one that names none.
+#[tactic(auto, using(base::proofs::Ladder::ladder), unfolding(crate::specs::Designation::named_or))]
+fn named(d: Designation) -> Result<Designation, Unnamed>
+    ensures { result ≡ named_or d }
+{
+    if d.set < NO_SET {
+        Ok(d)
+    } else {
+        Err(Unnamed {
+            octets: d.octets,
+            side: d.side,
+        })
     }
 }
 
@@ -56,13 +97,7 @@ fn multi_octet(b: u8, last: u8) -> Result<Designation, Unnamed>
 pub fn sequence(b: u8, c: u8, d: u8) -> Result<Designation, Unnamed>
     ensures { result ≡ named_or (sequence_of b c d) }
 {
-    match b {
-        0x24 => multi_octet(c, d),
-        0x28 => by_final(3, FORM_94, Side::GL, c),
-        0x29 => by_final(3, FORM_94, Side::GR, c),
-        0x2D => by_final(3, FORM_96, Side::GR, c),
-        _ => Err(Unnamed::NONE),
-    }
+    named(by_sequence(b, c, d))
 }
 
 #[tactic(auto, using(base::proofs::Ladder::ladder))]
@@ -105,11 +140,7 @@ pub fn told(b: u8, c: u8, d: u8) -> Option<Designation>
 pub fn designation_at(s: &[u8], at: usize) -> Result<Designation, Unnamed>
     ensures { result ≡ named_or (designation_at (from at s.now)) }
 {
-    if at < s.len() && 4 <= s.len() - at && s[at] == 0x1B {
-        sequence(s[at + 1], s[at + 2], s[at + 3])
-    } else {
-        Err(Unnamed::NONE)
-    }
+    named(standing(s, at))
 }
 
 // The form of the set that a designation names, by its first octet after 1B: known before the set is.
