@@ -1,6 +1,6 @@
 -- A turn of the check: by what it was before, and by what the record's refusal is.
 use Rattle.element.proofs.Names.{ℕ, ◌≤◌, ◌<◌, arith, ◌≡◌, refl, ap, true, false, List, eqb, leb, ltb, eqb-true, le-leb, le-ltb, UnitRecord, Directions}
-use Rattle.element.proofs.Names.{Step, Goes, Stops, pick, clash, test, pick_by, pick_last, off, tested}
+use Rattle.element.proofs.Names.{refused_at, Step, Goes, Stops, pick, clash, test, pick_by, pick_last, off, tested}
 use Rattle.base.proofs.Bools.{pick_both}
 use Rattle.grammar.specs.Records.{unit_read}
 use Rattle.shortest.specs.Records.{fault}
@@ -10,7 +10,7 @@ use Rattle.rows.specs.Stowable.{Stowable, stowable_of}
 use Rattle.record_rules.specs.Plain.{plain_of, settled_by_text}
 use Rattle.std.specs.Prelude.{Ok, Err}
 use Rattle.check_list.specs.Turn.{Progress, offends, on_fault, turn_of, room_after, quick_after, quick_until}
-use Rattle.check_list.specs.declared.Offence.{Offence}
+use Rattle.base.specs.declared.Answer.{Answer}
 use Rattle.shortest.proofs.Bad.{bad_stops, not_bad}
 use Rattle.record_rules.proofs.Quick.{plain_goes}
 use Rattle.check_list.proofs.Fits.{fits}
@@ -53,11 +53,11 @@ module _ (o : List ℕ) (r : UnitRecord) (i : ℕ) (p : Progress) (w : List ℕ)
   unfolding turn_of room_after
   turn_stops d n ep ef = (rw (ep, ef), rw (ep, ef))
 
-  pub turn_faulty : (f : Offence) → p ≡ Err f → (Err f ≡ turn_of o r i p) × (w ≡ room_after (turn_of o r i p) r i w)
+  pub turn_faulty : (f : Answer) → p ≡ Err f → (Err f ≡ turn_of o r i p) × (w ≡ room_after (turn_of o r i p) r i w)
   unfolding turn_of room_after
   turn_faulty f ep = (rw ep, rw ep)
 
-pub fine_faulty : (f : Offence) (d : Directions) → ◌≡◌ {A = Progress} (Err f) (Ok d) → ⊥
+pub fine_faulty : (f : Answer) (d : Directions) → ◌≡◌ {A = Progress} (Err f) (Ok d) → ⊥
 fine_faulty f d e = let z : ◌≡◌ {A = ℕ} 0 1 = cc in omega arith
 
 -- a record that is not refused is put into its row unchecked too
@@ -66,7 +66,7 @@ module _ (o : List ℕ) (r : UnitRecord) (i : ℕ) (w : List ℕ) (d : Direction
       → pick (stowable_of r) (with_record w i r) w ≡ room_after (on_fault x i) r i w
   unfolding room_after pick
   put_fault before (Goes next) e k = rw (stowable_tells r (stowable o r before next e))
-  put_fault before (Stops n) e k = absurd (fine_faulty (record { number = n; place = i }) d k)
+  put_fault before (Stops n) e k = absurd (fine_faulty (refused_at n i) d k)
 
   pub put_turn : (p : Progress) → turn_of o r i p ≡ Ok d → pick (stowable_of r) (with_record w i r) w ≡ room_after (turn_of o r i p) r i w
   unfolding turn_of
@@ -83,7 +83,7 @@ module _ (p : Progress) (from n : ℕ) where
   unfolding quick_until pick
   until_unsettled d ep es = rw (ep, es)
 
-  pub until_faulty : (f : Offence) → p ≡ Err f → from ≡ quick_until p from n
+  pub until_faulty : (f : Answer) → p ≡ Err f → from ≡ quick_until p from n
   unfolding quick_until pick
   until_faulty f ep = rw ep
 

@@ -1,7 +1,9 @@
 -- The check of a list of unit records, record by record.
 use Rattle.std.specs.Prelude.{ℕ, Bool, false, List, leb, Result, Ok, Err}
+use Rattle.base.specs.Answers.{refused_at}
 use Rattle.base.specs.Choice.{pick}
 use Rattle.base.specs.Limit as limit
+use Rattle.base.specs.declared.Answer.{Answer}
 use Rattle.base.specs.declared.Unit.{Unit as UnitRecord}
 use Rattle.state.specs.Directions.{undirected}
 use Rattle.state.specs.Directions.{Step}
@@ -11,14 +13,13 @@ use Rattle.grammar.specs.Records.{unit_read}
 use Rattle.shortest.specs.Records.{fault}
 use Rattle.rows.specs.Rows.{with_record}
 use Rattle.record_rules.specs.Plain.{settled_by_text}
-use Rattle.check_list.specs.declared.Offence.{Offence}
 
--- how far a list is checked: what the directions are, or the first record that offends
+-- how far a list is checked: what the directions are, or the answer by the first record that offends
 abbrev pub Progress : Type 0
-Progress = Result Directions Offence
+Progress = Result Directions Answer
 
 abbrev pub offends : ℕ → ℕ → Progress
-offends n i = Err (record { number = n; place = i })
+offends n i = Err (refused_at n i)
 
 -- before the first record
 abbrev pub begun : Progress

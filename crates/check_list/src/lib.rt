@@ -9,23 +9,17 @@ ghost use Rattle.rows.specs.Stowable.{stowable_of};
 ghost use Rattle.record_rules.specs.Plain.{plain_of};
 ghost use Rattle.check_list.specs.Turn.{begun, turn_of, room_after, looked_at, quick_until};
 
-use base::{Unit, limit};
+use base::{Answer, Unit, limit};
 use record_rules::judge;
 use record_rules::plain::{plain, settled};
 use state::directions::Directions;
 
 mod record;
 
-// A record that offends: the number of its refusal, and its index. The number first, since with the place first the compiler takes apart, octet by octet,
-// what is carried from record to record, and the processor waits where it is read whole.
-#[derive(Clone, Copy)]
-pub struct Offence {
-    pub number: u8,
-    pub place: usize,
-}
-
-// How far a list is checked: what the directions are after the last record, or the first record that offends.
-pub type Progress = Result<Directions, Offence>;
+// How far a list is checked: what the directions are after the last record, or the answer by the first record that offends. The answer and no struct of
+// number and place: in a `Result` of 24 octets its number would lie where the directions do, and the compiler would take these apart, octet by octet, at
+// each record, for which the processor waits where they are then read whole.
+pub type Progress = Result<Directions, Answer>;
 
 // Before the first record.
 pub fn begin() -> Progress
@@ -69,25 +63,17 @@ pub fn turn(progress: Progress, unit: Unit, i: usize, segments: &[u8], work: &mu
     ensures { (result ≡ turn_of segments.now unit i progress)
         × (work.new ≡ room_after (turn_of segments.now unit i progress) unit i work.old) }
 {
+    // by its arms and no `?`, so that the edit last_index can change the place alone
     let directions = match progress {
         Ok(directions) => directions,
-        // no `?`: it copies an Offence whole, with what lies between its fields, and so takes apart what is carried from record to record
-        Err(first) => {
-            return Err(Offence {
-                number: first.number,
-                place: first.place,
-            });
-        }
+        Err(first) => return Err(first),
     };
     match judge(unit, segments, directions) {
         Ok(next) => {
             record::put(unit, i, work);
             Ok(next)
         }
-        Err(refusal) => Err(Offence {
-            place: i,
-            number: refusal.number(),
-        }),
+        Err(refusal) => Err(refusal.at(i)),
     }
 }
 

@@ -4,7 +4,7 @@ use Rattle.base.specs.Limit as limit
 use Rattle.base.specs.Refusal as refusal
 use Rattle.std.specs.Prelude.{Ok, Err}
 use Rattle.check_list.specs.Turn.{Progress}
-use Rattle.check_list.specs.declared.Offence.{Offence}
+use Rattle.base.specs.declared.Answer.{Answer}
 use Rattle.emit.specs.Emit.{rows_answer, rows_output}
 use Rattle.write.specs.Stowed.{finish_answer, finish_output}
 
@@ -18,7 +18,7 @@ module _ (p : Progress) (n : ℕ) (o w out : List ℕ) where
   unfolding finish_answer finish_output pick
   finish_fine d h e = let l = le-ltb limit.units n h in (rw (l, e), rw (l, e))
 
-  pub finish_faulty : (f : Offence) → n ≤ limit.units → p ≡ Err f → (refused_at f.number f.place ≡ finish_answer p n o w (length out)) ×
+  pub finish_faulty : (f : Answer) → n ≤ limit.units → p ≡ Err f → (refused_at f.number f.place ≡ finish_answer p n o w (length out)) ×
       (out ≡ finish_output p n o w out)
   unfolding finish_answer finish_output pick
   finish_faulty f h e = let l = le-ltb limit.units n h in (rw (l, e), rw (l, e))

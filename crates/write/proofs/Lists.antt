@@ -1,5 +1,5 @@
 -- The check record by record is that of the whole list, and the rows of a list with no offending record hold its units.
-use Rattle.element.proofs.Names.{ℕ, zero, suc, ◌+◌, ◌*◌, ◌/◌, ◌≤◌, ◌<◌, arith, ◌≡◌, refl, sym, ap, ap₂, ◌∙◌, subst, true, false, List, []}
+use Rattle.element.proofs.Names.{refused_at, ℕ, zero, suc, ◌+◌, ◌*◌, ◌/◌, ◌≤◌, ◌<◌, arith, ◌≡◌, refl, sym, ap, ap₂, ◌∙◌, subst, true, false, List, []}
 use Rattle.element.proofs.Names.{◌∷◌, ◌⊎◌, inl, inr, ⊎_elim, Option, none, some, Option·some-injective, ltb, leb, length, get_or, set, drop, length-set}
 use Rattle.element.proofs.Names.{sets, ltb-true, lt-ltb, pick, pick_by, test, tested, UnitRecord, undirected, Directions, Step, Goes, Stops}
 use Rattle.std.specs.Prelude.{Ok, Err}
@@ -15,7 +15,7 @@ use Rattle.shortest.specs.Writing.{Good}
 use Rattle.rows.specs.Rows.{start_from, unit_tagged, unit_from, units_in, tag_of, seven_octets, with_record}
 use Rattle.record_rules.specs.Plain.{plain_of}
 use Rattle.check_list.specs.Turn.{Progress, begun, on_fault, turn_of, room_after, quick_after, looked_at}
-use Rattle.check_list.specs.declared.Offence.{Offence}
+use Rattle.base.specs.declared.Answer.{Answer}
 use Rattle.check_list.proofs.Fits.{fits}
 use Rattle.check_list.proofs.Turns.{fine_faulty, quick_goes, quick_room}
 use Rattle.write.specs.Stowed.{reached, HoldsRecord, Stowed, quick_run, Passed}
@@ -27,7 +27,7 @@ over : List ℕ → List UnitRecord → ℕ → Progress → Progress
 over o [] i p = p
 over o (r ∷ rs) i p = over o rs (suc i) (turn_of o r i p)
 
-over_faulty : (o : List ℕ) (rs : List UnitRecord) (i : ℕ) (f : Offence) → over o rs i (Err f) ≡ Err f
+over_faulty : (o : List ℕ) (rs : List UnitRecord) (i : ℕ) (f : Answer) → over o rs i (Err f) ≡ Err f
 unfolding over turn_of
 over_faulty o [] i f = refl
 over_faulty o (r ∷ rs) i f = over_faulty o rs (suc i) f
@@ -44,7 +44,7 @@ over_checked o (r ∷ rs) i d = go (fault (unit_read o r) d) (λ next. over_chec
     go : (s : Step) → ((next : Directions) → check_records o rs (suc i) next ≡ checked_of (over o rs (suc i) (Ok next)))
         → on_step s i (λ next. check_records o rs (suc i) next) ≡ checked_of (over o rs (suc i) (on_fault s i))
     go (Goes next) k = k next
-    go (Stops n) k = ap checked_of (sym (over_faulty o rs (suc i) (record { number = n; place = i })))
+    go (Stops n) k = ap checked_of (sym (over_faulty o rs (suc i) (refused_at n i)))
 
 over_reached : (o : List ℕ) (rs : List UnitRecord) (m i : ℕ) → i + m ≡ length rs → over o (drop i rs) i (reached o rs i) ≡ reached o rs (length rs)
 unfolding over reached

@@ -70,6 +70,7 @@ module _ (rs : List UnitRecord) (o before after out : List ℕ) where
           same false = refl
 
   fits : (h : length rs ≤ limit.units) → Stowed o rs (length rs) before after → (p : Progress) → reached o rs (length rs) ≡ p → Ends p
+  unfolding finish_answer finish_output
   fits h s (Err f) e = refused h f.number f.place (reached_checked o rs ∙ ap checked_of e)
   fits h s (Ok d) e =
       let c : check_records o rs 0 undirected ≡ fine = reached_checked o rs ∙ ap checked_of e in

@@ -15,4 +15,4 @@ returns-in-Ok-judge c = let args = c.args in
     (t.0, c.put.ensures ∙ t.1)
 
 pub returns-in-Err-judge : goal.returns-in-Err-judge
-returns-in-Err-judge c = rw c.number.ensures (turn_stops _ _ _ _ _ _ _ c.in-Ok.is (sym c.in-Err-judge.ensures))
+returns-in-Err-judge c = rw c.at.ensures (turn_stops _ _ _ _ _ _ _ c.in-Ok.is (sym c.in-Err-judge.ensures))
