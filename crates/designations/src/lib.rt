@@ -66,16 +66,22 @@ fn by_sequence(b: u8, c: u8, d: u8) -> Designation
     }
 }
 
-// The octets at a place. Not put into its callers, who ask whether a set is named: with that test in it, the compiler tells the sets apart by jumps.
+// The octets at a place. Not put into its callers, who ask whether a set is named: with that test in it, the compiler tells the sets apart by jumps. And one
+// test after the other: of one condition, with a value for each outcome, the compiler computes all parts and copies what is answered once more.
 #[inline(never)]
 fn standing(s: &[u8], at: usize) -> Designation
     ensures { result ≡ designation_at (from at s.now) }
 {
-    if at < s.len() && 4 <= s.len() - at && s[at] == 0x1B {
-        by_sequence(s[at + 1], s[at + 2], s[at + 3])
-    } else {
-        ABSENT
+    if s.len() <= at {
+        return ABSENT;
     }
+    if s.len() - at < 4 {
+        return ABSENT;
+    }
+    if s[at] != 0x1B {
+        return ABSENT;
+    }
+    by_sequence(s[at + 1], s[at + 2], s[at + 3])
 }
 
 // A designation whose set is one of the fifteen, or what is known of one that names none.
