@@ -3,7 +3,7 @@
 
 ghost use Rattle.std.specs.Prelude.{◌≡◌};
 ghost use Rattle.base.specs.Choice.{from, pick};
-ghost use Rattle.designations.specs.Designation.{if_named, named_or, by_final_of, multi_octet_at, sequence_of, designation_at, side_by, told_of, form_after};
+ghost use Rattle.designations.specs.Designation.{absent, if_named, named_or, by_final_of, multi_octet_at, sequence_of, designation_at, side_by, told_of, form_after};
 
 use charset::{FORM_94, FORM_94X94, FORM_96, NO_SET, Side};
 
@@ -23,21 +23,22 @@ pub struct Unnamed {
 }
 
 // Where there is no designation.
-const ABSENT: Designation = Designation {
-    octets: 0,
-    side: Side::GL,
-    set: NO_SET,
-};
+fn none() -> Designation
+    ensures { result ≡ absent }
+{
+    Designation {
+        octets: 0,
+        side: Side::GL,
+        set: NO_SET,
+    }
+}
 
 // The designation of a form and side, by its final octet; its set is none where no set has that octet. So in the next three.
 fn by_final(octets: usize, form: u8, side: Side, last: u8) -> Designation
     ensures { result ≡ by_final_of octets form side last }
 {
-    Designation {
-        octets,
-        side,
-        set: charset::set_of(form, side, last),
-    }
+    let set = charset::set_of(form, side, last);
+    Designation { octets, side, set }
 }
 
 // The octets after 1B 24.
@@ -48,7 +49,7 @@ fn multi_octet(b: u8, last: u8) -> Designation
     match b {
         0x28 => by_final(4, FORM_94X94, Side::GL, last),
         0x29 => by_final(4, FORM_94X94, Side::GR, last),
-        _ => ABSENT,
+        _ => none(),
     }
 }
 
@@ -62,7 +63,7 @@ fn by_sequence(b: u8, c: u8, d: u8) -> Designation
         0x28 => by_final(3, FORM_94, Side::GL, c),
         0x29 => by_final(3, FORM_94, Side::GR, c),
         0x2D => by_final(3, FORM_96, Side::GR, c),
-        _ => ABSENT,
+        _ => none(),
     }
 }
 
@@ -73,13 +74,13 @@ fn standing(s: &[u8], at: usize) -> Designation
     ensures { result ≡ designation_at (from at s.now) }
 {
     if s.len() <= at {
-        return ABSENT;
+        return none();
     }
     if s.len() - at < 4 {
-        return ABSENT;
+        return none();
     }
     if s[at] != 0x1B {
-        return ABSENT;
+        return none();
     }
     by_sequence(s[at + 1], s[at + 2], s[at + 3])
 }

@@ -2,4 +2,4 @@
 use Rattle.designations.proofs.by_final.Goals as goal
 
 pub returns : goal.returns
-returns c = rw c.set_of.ensures
+returns c = rw c.set_of-set.ensures
