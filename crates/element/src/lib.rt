@@ -3,7 +3,7 @@
 
 ghost use Rattle.std.specs.Prelude.{◌≡◌, ◌<◌, length};
 ghost use Rattle.base.specs.Choice.{from};
-ghost use Rattle.state.specs.Directions.{step_by, step_seen};
+ghost use Rattle.state.specs.Directions.{step_by};
 ghost use Rattle.state.specs.Elements.{shape_by, shape_seen, element_by, element_seen};
 ghost use Rattle.element.specs.Element.{shape_of, stepped_of, directed_of, element_of};
 
@@ -55,16 +55,6 @@ pub fn stepped<R: Reason>(
     }
 }
 
-// A step whose refusal is told as a reason. A `match`: the borrow checker does not cover `map_err(R::of)` yet.
-fn told<R: Reason>(step: Result<Directions, Refusal>) -> Result<Directions, R>
-    ensures { step_by R.number result ≡ step_seen step }
-{
-    match step {
-        Ok(directions) => Ok(directions),
-        Err(refusal) => Err(R::of(refusal)),
-    }
-}
-
 // A shape under a state: a designation changes the sets alone, and a unit, by the direction rule, the directions alone.
 #[tactic(auto, unfolding(crate::specs::Element::directed_of))]
 pub fn directed<R: Reason>(
@@ -81,7 +71,11 @@ pub fn directed<R: Reason>(
         )),
         Shape::Gives(part) => {
             let step = st.directions.step(part.text, part.kind);
-            stepped(part, st, told(step))
+            // no `map_err(R::of)`: the borrow checker does not cover it yet
+            match step {
+                Ok(directions) => stepped(part, st, Ok(directions)),
+                Err(refusal) => stepped(part, st, Err(R::of(refusal))),
+            }
         }
     }
 }
