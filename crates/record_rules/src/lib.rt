@@ -16,6 +16,7 @@ pub mod plain;
 pub fn judge(unit: Unit, segments: &[u8], directions: Directions) -> Result<Directions, Refusal>
     ensures { step_seen result ≡ fault (unit_read segments.now unit) directions }
 {
+    // returned arm by arm: as the value of the match, what an arm answers is copied octet by octet
     match unit.kind {
         kind::CHARACTER => return own::character(unit.set, unit.code, directions),
         kind::SPACE..kind::SEGMENT => {

@@ -79,6 +79,7 @@ pub fn keep(x: usize, cur: &[u8; size::NUMBERS], work: &mut [u8], row: usize)
     if x < class::DOUBLE {
         return;
     }
+    // two tests, of which the first does not change from row to row, and no saturating_sub of the row
     if work.len() < layout::TAG || work.len() - layout::TAG < row {
         return;
     }
