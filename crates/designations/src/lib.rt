@@ -3,7 +3,8 @@
 
 ghost use Rattle.std.specs.Prelude.{◌≡◌};
 ghost use Rattle.base.specs.Choice.{from, pick};
-ghost use Rattle.designations.specs.Designation.{absent, if_named, named_or, by_final_of, multi_octet_at, sequence_of, designation_at, side_by, told_of, form_after};
+ghost use Rattle.designations.specs.Designation.{absent, if_named, named_or, by_final_of, multi_octet_at, sequence_of, designation_at};
+ghost use Rattle.designations.specs.Designation.{side_by, told_of, form_after};
 
 use charset::{FORM_94, FORM_94X94, FORM_96, NO_SET, Side};
 

@@ -22,11 +22,11 @@ fn needed(s: &[u8]) -> usize
 }
 
 // Stores octets at a place, and answers the place after them.
-fn put<const N: usize>(octets: &[u8; N], at: usize, out: &mut [u8]) -> usize
-    requires { at + length octets.now ≤ length out.old }
-    ensures { (result ≡ at + length octets.now) × (out.new ≡ sets out.old at octets.now) }
+fn put<const N: usize>(octets: [u8; N], at: usize, out: &mut [u8]) -> usize
+    requires { at + length octets ≤ length out.old }
+    ensures { (result ≡ at + length octets.entry) × (out.new ≡ sets out.old at octets.entry) }
 {
-    out[at..at + N].copy_from_slice(octets);
+    out[at..at + N].copy_from_slice(&octets);
     at + N
 }
 
@@ -36,10 +36,10 @@ fn put_octet(octet: u8, at: usize, out: &mut [u8]) -> usize
     ensures { (result ≡ at + length (octet_form octet)) × (out.new ≡ sets out.old at (octet_form octet)) }
 {
     match octet {
-        BACKSLASH => put(&[BACKSLASH, BACKSLASH], at, out),
-        NEWLINE => put(&[BACKSLASH, LETTER_N], at, out),
-        NUL => put(&[BACKSLASH, DIGIT_0, DIGIT_0, DIGIT_0], at, out),
-        _ => put(&[octet], at, out),
+        BACKSLASH => put([BACKSLASH, BACKSLASH], at, out),
+        NEWLINE => put([BACKSLASH, LETTER_N], at, out),
+        NUL => put([BACKSLASH, DIGIT_0, DIGIT_0, DIGIT_0], at, out),
+        _ => put([octet], at, out),
     }
 }
 

@@ -5,7 +5,7 @@ ghost use Rattle.unit_octets.specs.Octets.{Stored};
 pub fn put<const N: usize>(octets: [u8; N], out: &mut [u8], at: usize) -> usize
     ensures { Stored out.old at octets.entry result out.new }
 {
-    if out.len() < at || out.len() - at < N {
+    if out.len() < N || out.len() - N < at {
         return at;
     }
     out[at..at + N].copy_from_slice(&octets);
