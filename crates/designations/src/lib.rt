@@ -122,7 +122,7 @@ fn side_of(f: u8) -> Side
     if f == 0x28 { Side::GL } else { Side::GR }
 }
 
-// The same as `sequence`, with no branch by the form, which a processor foresees badly where forms change.
+// What `sequence` tells of octets that name a set, and nothing of others; no branch by the form, which a processor foresees badly where forms change.
 pub fn told(b: u8, c: u8, d: u8) -> Option<Designation>
     ensures { result ≡ if_named (told_of b c d) }
 {
